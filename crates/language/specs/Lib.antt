@@ -1,0 +1,5 @@
+pub mod Grammar
+pub mod Derivation
+pub mod Listing
+pub mod Sentence
+pub mod First

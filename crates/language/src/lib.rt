@@ -1,0 +1,4 @@
+// Grammars, derivations and sentences: theory only, in specs/.
+
+// Where the grammar's theory stands; the crate has no code of its own.
+pub fn theory() {}
