@@ -1,9 +1,10 @@
 -- Sentences, and the nonterminals that a grammar must not have. Document 01, 'Walk' and 'Replies'.
-use Prim.Native.Nat.{ℕ}
+use Prim.Native.Nat.{ℕ, _≤_}
+use mathlib.Core.Logic.{_⊎_}
 use mathlib.Core.Path.{_≡_}
 use mathlib.Core.List.{List, [], _∷_, _++_}
 use mathlib.Core.Option.{some}
-use Rattle.language.specs.Grammar.{Grammar, Rule, ruleAt, right, IsNonterminal}
+use Rattle.language.specs.Grammar.{Grammar, Rule, ruleAt, right, IsTerminal, IsNonterminal}
 use Rattle.language.specs.Derivation.{Tree, yield, IsTree}
 
 -- x stands in a list
@@ -36,3 +37,10 @@ module _ (g : Grammar) where
   -- every declared nonterminal derives something
   abbrev pub AllProductive : Type 0
   AllProductive = (X : ℕ) → IsNonterminal g X → Productive X
+
+  -- what a grammar book that is read says of its symbols
+  pub record Declared : Type 0 where
+    pub few-terminals : g .terminals ≤ 63
+    pub goal-kind : IsNonterminal g (g .goal)
+    pub left-kind : (i : ℕ) (r : Rule) → ruleAt g i ≡ some r → IsNonterminal g (r .left)
+    pub right-kind : (i : ℕ) (r : Rule) (X : ℕ) → ruleAt g i ≡ some r → In X (right r) → IsTerminal g X ⊎ IsNonterminal g X

@@ -1,0 +1,5 @@
+pub mod Machine
+pub mod Table
+pub mod Construction
+pub mod Claim
+pub mod Adequate
