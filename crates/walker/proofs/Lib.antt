@@ -1,0 +1,3 @@
+pub mod StackLaws
+pub mod MemoryLaws
+pub mod TurnLaws

@@ -1,0 +1,54 @@
+use mathlib.Core.Path.{_≡_, refl, sym, ap, subst, _∙_}
+use mathlib.Core.Logic.{⊎-elim}
+use Prim.Native.Nat.{ℕ, zero, suc, _+_, _*_, _≤_, _<_, _-_}
+use native.Mathlib.Omega.{arith}
+use borrow.Author.Count.{below-more, below-none}
+use lib.ListN.{length, getD, set, length-set, replicate}
+use borrow.Author.Needs.{needs}
+use Rattle.walker.proofs.pop.Statement.{statement}
+use Rattle.walker.proofs.pop.Tie as tie
+use Rattle.walker.proofs.pop.Reads as reads
+use Rattle.walker.proofs.pop.Lts as lts
+use Rattle.walker.proofs.refused.Reads as refused-reads
+use Rattle.walker.proofs.wide.Reads as wide-reads
+
+wide-requires : tie.Need-wide-requires
+wide-requires c κs = search needs
+
+add-pops : tie.Need-add-pops
+add-pops c = search needs
+
+returns : tie.Need-returns
+returns c = search needs
+
+refused-requires : tie.Need-refused-requires
+refused-requires c κs = search needs
+
+returns-2 : tie.Need-returns-2
+returns-2 c = search needs
+
+sub-height : tie.Need-sub-height
+sub-height c = search needs
+
+sub-t7 : tie.Need-sub-t7
+sub-t7 c = search needs
+
+shared-slice-read-t14 : tie.Need-shared-slice-read-t14
+shared-slice-read-t14 c = search needs
+
+returns-3 : tie.Need-returns-3
+returns-3 c = search needs
+
+pub pop-spec : {M : Type 1} → statement M
+pop-spec =
+    tie.close
+    (tie.spec
+    wide-requires
+    add-pops
+    returns
+    refused-requires
+    returns-2
+    sub-height
+    sub-t7
+    shared-slice-read-t14
+    returns-3)

@@ -1,0 +1,55 @@
+use mathlib.Core.Path.{_≡_, refl, sym, ap, subst, _∙_}
+use mathlib.Core.Logic.{⊎-elim}
+use Prim.Native.Nat.{ℕ, zero, suc, _+_, _*_, _≤_, _<_, _-_}
+use native.Mathlib.Omega.{arith}
+use borrow.Author.Count.{below-more, below-none}
+use lib.ListN.{length, getD, set, length-set, replicate}
+use borrow.Author.Needs.{needs}
+use Rattle.walker.proofs.push_rule.Statement.{statement}
+use Rattle.walker.proofs.push_rule.Tie as tie
+use Rattle.walker.proofs.push_rule.Reads as reads
+use Rattle.walker.proofs.push_rule.Lts as lts
+use Rattle.walker.proofs.figure.Reads as figure-reads
+use Rattle.walker.proofs.goto_at.Reads as goto-at-reads
+use Rattle.walker.proofs.push_groups.Reads as push-groups-reads
+
+sub-below : tie.Need-sub-below
+sub-below c = search needs
+
+slice-read-below : tie.Need-slice-read-below
+slice-read-below c = search needs
+
+figure-requires : tie.Need-figure-requires
+figure-requires c κs = search needs
+
+goto-at-requires : tie.Need-goto-at-requires
+goto-at-requires c κs = search needs
+
+slice-write-stack : tie.Need-slice-write-stack
+slice-write-stack c = search needs
+
+add-push-groups : tie.Need-add-push-groups
+add-push-groups c = search needs
+
+push-groups-requires : tie.Need-push-groups-requires
+push-groups-requires c κs = search needs
+
+same-length : tie.Need-same-length
+same-length c = search needs
+
+returns : tie.Need-returns
+returns c = search needs
+
+pub push-rule-spec : {M : Type 1} → statement M
+push-rule-spec =
+    tie.close
+    (tie.spec
+    sub-below
+    slice-read-below
+    figure-requires
+    goto-at-requires
+    slice-write-stack
+    add-push-groups
+    push-groups-requires
+    same-length
+    returns)
