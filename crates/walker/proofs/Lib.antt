@@ -1,3 +1,5 @@
 pub mod StackLaws
 pub mod MemoryLaws
 pub mod TurnLaws
+pub mod MoveLaws
+pub mod StepLaws

@@ -28,9 +28,6 @@ unfolding memoryGrammar
 rule-is rules zero pos lt = absurd (omega arith)
 rule-is rules (suc r) pos lt = let e : 1 + r ≡ suc r = omega arith in rules-at rules 255 1 r (omega arith) ∙ ap (λ (i : ℕ). some (memoryRule rules i)) e
 
-pub rule-none : (rules : List ℕ) (r : ℕ) → r ≡ 0 → ruleAt (memoryGrammar rules) r ≡ none
-rule-none rules r e = rw e
-
 odd-unit : (x : ℕ) → unitOf (eqb (x % 2) 1) ≡ x % 2
 odd-unit x = go (x % 2) (omega arith)
   where
@@ -51,6 +48,10 @@ module _ (kinds values gotos rules : List ℕ) (start : ℕ) where
   goto-is : (q x : ℕ) → (memoryAutomaton kinds values gotos rules start) .goto q (64 + x) ≡ gotoOf gotos q x
   unfolding memoryAutomaton
   goto-is q x = let e : 64 + x - 64 ≡ x = omega arith in ap (gotoOf gotos q) e
+
+  pub told-none : (r : ℕ) (es S : List ℕ) → r ≡ 0
+      → tell (memoryGrammar rules) (memoryAutomaton kinds values gotos rules start) (ruleAt (memoryGrammar rules) r) r es S ≡ wrong
+  told-none r es S e = rw e
 
   module _ (r : ℕ) (pos : 0 < r) (small : r < 256) (S : List ℕ) where
     told : tell (memoryGrammar rules) (memoryAutomaton kinds values gotos rules start) (ruleAt (memoryGrammar rules) r) r

@@ -49,3 +49,11 @@ pub push-rule :
 unfolding ruleOver
 push-rule gotos rules s s′ r g h n v left pos lt el ev so =
     so ∙ ap (groupsOver rules r g) (tops-push s h v lt ∙ ap (λ (q : ℕ). q ∷ tops s h) (ev ∙ rw (el, tops-top s h pos)))
+
+groups-length : (rules : List ℕ) (r j : ℕ) (S : List ℕ) → length (groupsOver rules r j S) ≡ j + length S
+groups-length rules r zero S = omega arith
+groups-length rules r (suc j) S = let e : length (groupsOver rules r j S) ≡ j + length S = groups-length rules r j S in omega arith
+
+pub rule-length : (gotos rules : List ℕ) (r g : ℕ) (S : List ℕ) → length (ruleOver gotos rules r g S) ≡ g + (length S + 1)
+unfolding ruleOver
+rule-length gotos rules r g S = omega (arith, groups-length rules r g (gotoOf gotos (next S 0) (figureOf rules r 1) ∷ S))

@@ -3,6 +3,7 @@ use mathlib.Core.Path.{_≡_, refl, sym, ap, subst, _∙_}
 use mathlib.Core.Logic.{_⊎_, inl, inr}
 use mathlib.Core.Bool.{Bool, true, false, cond, _&&_}
 use mathlib.Core.List.{List, [], _∷_, _++_, append-nil}
+use mathlib.Core.Option.{Option, some, none}
 use Prim.Native.Nat.{ℕ, zero, suc, _+_, _*_, _-_, _≤_, _<_}
 use native.Mathlib.Numerals.{add-one}
 use native.Mathlib.Omega.{arith}
@@ -10,9 +11,9 @@ use lib.Dec.{leb}
 use lib.ListN.{length, getD, set, drop, take, length-set, length-append}
 use lib.Seq.{length-take-le, take-suc-set, drop-drop, getD-set-same}
 use borrow.Author.Tests.{le-leb, lt-leb}
-use Rattle.language.specs.Grammar.{Grammar, ruleAt}
+use Rattle.language.specs.Grammar.{Grammar, Rule, ruleAt}
 use Rattle.language.specs.First.{next}
-use Rattle.language.specs.Listing.{unitsIn, isUnit}
+use Rattle.language.specs.Listing.{unitsIn, isUnit, unitOf}
 use Rattle.leftcorner.specs.Machine.{Automaton, Event, Outcome, on, whole, wrong, rulesOf, toCome, taken, shiftTo, popTo, Verdict, wrong-at, short-at, whole-at, fits, proceed}
 use Rattle.leftcorner.specs.Machine as machine
 use Rattle.reply.specs.declared.Kind.the-variants.{BufferTooSmall, SyntaxError}
@@ -25,11 +26,18 @@ use Rattle.walker.specs.Walked.{Ended}
 use Rattle.walker.specs.Turn.{tops, stepsLeft, Stands, Moves, Finishes, Turned, proceeds}
 use Rattle.walker.proofs.StackLaws.{tops-push, tops-length, tops-drop}
 
+pub positive : (x : ℕ) → (x ≡ 0 → ⊥) → 0 < x
+positive zero ne = absurd (ne refl)
+positive (suc x) ne = omega arith
+
 -- ---- the theory's steps
 
 pub shift-on : (s : ℕ) (S : List ℕ) (c : ℕ) → (c ≡ 0 → ⊥) → shiftTo s S c ≡ on (machine.shifted c) (s ∷ S)
 shift-on s S zero ne = absurd (ne refl)
 shift-on s S (suc a) ne = refl
+
+pub shift-wrong : (s : ℕ) (S : List ℕ) (c : ℕ) → c ≡ 0 → shiftTo s S c ≡ wrong
+shift-wrong s S c e = rw e
 
 pub pop-on : (S : List ℕ) (c : ℕ) → 0 < length S → popTo S c ≡ on machine.closed S
 pop-on [] c pos = absurd (omega arith)
@@ -51,13 +59,22 @@ pub units-snoc : (g : Grammar) (l : List ℕ) (i : ℕ) → unitsIn g (l ++ i �
 units-snoc g [] i = omega arith
 units-snoc g (x ∷ l) i = let e : unitsIn g (l ++ i ∷ []) ≡ unitsIn g l + isUnit (ruleAt g i) = units-snoc g l i in omega arith
 
--- ---- the measure
+unit-few : (g : Grammar) (i : ℕ) → isUnit (ruleAt g i) ≤ 1
+unit-few g i = go (ruleAt g i)
+  where
+    of : (b : Bool) → unitOf b ≤ 1
+    of true = omega arith
+    of false = omega arith
+    go : (o : Option Rule) → isUnit o ≤ 1
+    go none = omega arith
+    go (some r) = of (r .unit)
 
-fewer : (a b n h h′ : ℕ) → suc a ≡ b → h′ ≤ n → a * suc n + h′ < b * suc n + h
-fewer a b n h h′ e le = rw (← e) (omega arith)
+pub units-few : (g : Grammar) (l : List ℕ) → unitsIn g l ≤ length l
+units-few g [] = omega arith
+units-few g (i ∷ l) = omega (arith, unit-few g i, units-few g l)
 
 module _ (g : Grammar) (m : Automaton) (n k : ℕ) where
-  fits-yes : (p : ℕ) (U l : List ℕ) (v : Verdict) → length U ≤ n → length l ≤ k → fits g m n k p U l v ≡ v
+  pub fits-yes : (p : ℕ) (U l : List ℕ) (v : Verdict) → length U ≤ n → length l ≤ k → fits g m n k p U l v ≡ v
   fits-yes p U l v a b = simp (le-leb (length U) n a, le-leb (length l) k b)
 
   fits-no : (p : ℕ) (U l : List ℕ) (v : Verdict) → (n < length U) ⊎ (k < length l) → fits g m n k p U l v ≡ short-at p
@@ -87,3 +104,13 @@ module _ (g : Grammar) (m : Automaton) (n k : ℕ) where
       ; ends = λ again. ap (λ (x : Outcome). proceeds g m n k tokens stack listing p x again) h ∙ fits-no (p .taken) U (take (p .listed) listing ++ rulesOf e) _ over
       ; ended = record { answered = refl; front = refl; within = omega arith }
       })
+
+    pub turns-whole : (stack′ : List ℕ) {o : Outcome} → o ≡ whole → Stands g n k tokens stack listing p
+        → Turned g m n k tokens stack listing p o stack′ listing (Ends (Accepted (record { tokens = p .taken; rules = p .listed; units = p .units })))
+    turns-whole stack′ {o} e s =
+        let len : length (take (p .listed) listing) ≡ p .listed = length-take-le (p .listed) listing (omega (arith, s .room, s .listing-long)) in
+        record
+          { verdict = whole-at (p .taken) (take (p .listed) listing)
+          ; ends = λ again. ap (λ (x : Outcome). proceeds g m n k tokens stack listing p x again) e
+          ; ended = record { answered = rw (len, ← s .counted); front = rw len; within = omega (arith, len, s .room, s .listing-long) }
+          }
