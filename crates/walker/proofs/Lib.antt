@@ -3,3 +3,5 @@ pub mod MemoryLaws
 pub mod TurnLaws
 pub mod MoveLaws
 pub mod StepLaws
+pub mod RunLaws
+pub mod EndLaws

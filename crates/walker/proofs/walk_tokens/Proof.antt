@@ -20,7 +20,7 @@ same-length : tie.Need-same-length
 same-length c = search needs
 
 returns : tie.Need-returns
-returns c = search needs
+returns c = ?
 
 run-requires : tie.Need-run-requires
 run-requires c κs = search needs
@@ -32,10 +32,10 @@ rule-count-requires : tie.Need-rule-count-requires
 rule-count-requires c κs = search needs
 
 sub-clear : tie.Need-sub-clear
-sub-clear c = search needs
+sub-clear c = ?
 
 part-clear-start : tie.Need-part-clear-start
-part-clear-start c = search needs
+part-clear-start c = ?
 
 part-clear-end : tie.Need-part-clear-end
 part-clear-end c = search needs
@@ -50,7 +50,7 @@ same-length-3 : tie.Need-same-length-3
 same-length-3 c = search needs
 
 returns-2 : tie.Need-returns-2
-returns-2 c = search needs
+returns-2 c = ?
 
 pub walk-tokens-spec : {M : Type 1} → statement M
 walk-tokens-spec =
