@@ -25,13 +25,13 @@ put-tail l ys a = ap (λ (m : List ℕ). take a l ++ (ys ++ m)) (none-after l a)
 
 -- ---- the end
 
-count-is : {g : Grammar} (v : Verdict) → countOf (answer g v) ≡ length (listed v)
-count-is (whole-at p l) = refl
-count-is (wrong-at p) = refl
-count-is (short-at p) = refl
+count-is : (g : Grammar) (v : Verdict) → countOf (answer g v) ≡ length (listed v)
+count-is g (whole-at p l) = refl
+count-is g (wrong-at p) = refl
+count-is g (short-at p) = refl
 
 pub count-within : {g : Grammar} {v : Verdict} {w : Walked} {slice : List ℕ} {n : ℕ} → Ended g v w slice → n ≡ countOf w → n ≡ length (listed v)
-count-within {g} {v} h e = e ∙ ap countOf (h .answered) ∙ count-is {g} v
+count-within {g} {v} h e = e ∙ ap countOf (h .answered) ∙ count-is g v
 
 pub no-element : (l : List ℕ) → length l ≡ 0 → l ≡ replicate (length l) 0
 no-element [] e = refl
@@ -54,4 +54,4 @@ end-listing {g} {v} {w} slice ys n k h e long z =
 
 pub zeros-all : (k : ℕ) (v : Verdict) → listed v ≡ [] → replicate k 0 ≡ padded k (listed v)
 unfolding padded
-zeros-all k v e = rw e (ap (λ (i : ℕ). replicate i 0) (omega arith))
+zeros-all k v e = let z : k ≡ k - 0 = omega arith in rw e (ap (λ (i : ℕ). replicate i 0) z)
