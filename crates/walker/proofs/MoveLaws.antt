@@ -11,8 +11,9 @@ use Rattle.language.specs.Listing.{unitsIn, isUnit}
 use Rattle.leftcorner.specs.Machine.{Automaton, Event, Outcome, on, rulesOf, toCome, taken, shiftTo, popTo, tell, Verdict}
 use Rattle.leftcorner.specs.Machine as machine
 use Rattle.walker.specs.declared.Position.{Position}
+use Rattle.walker.specs.declared.Turn.{Turn}
 use Rattle.walker.specs.Memory.{figureOf, groupEntries, memoryGrammar, memoryAutomaton}
-use Rattle.walker.specs.Turn.{tops, ruleOver, stepsLeft, Stands, Moves, proceeds}
+use Rattle.walker.specs.Turn.{tops, ruleOver, loweredTo, stepsLeft, Stands, Moves, Turned, proceeds}
 use Rattle.walker.proofs.StackLaws.{tops-push, tops-length, tops-drop}
 use Rattle.walker.proofs.MemoryLaws.{told-on, unit-is}
 use Rattle.walker.proofs.TurnLaws.{shift-on, pop-on, units-snoc, fits-yes}
@@ -71,13 +72,14 @@ module _ (g : Grammar) (m : Automaton) (n k : ℕ) (tokens stack listing : List 
         (fewer (k - p .listed + (length tokens - (p .taken + 1))) (k - p .listed + (length tokens - p .taken)) n (p .height) (p .height + 1) (omega arith) (omega (arith, h .stack-long)))
 
   pub move-pop : (symbols pops code : ℕ) → Stands g n k tokens stack listing p → code ≡ p .code → pops ≡ symbols + 1 → pops < p .height
-      → Moves g m n k tokens stack listing p (popTo (drop (suc symbols) (tops stack (p .height))) code) stack listing
-        (record { height = p .height - pops; taken = p .taken; listed = p .listed; units = p .units; top = getD stack (p .height - pops - 1) 0; code = code })
+      → {t : Turn} → t ≡ loweredTo stack (p .height - pops) code p
+      → Turned g m n k tokens stack listing p (popTo (drop (suc symbols) (tops stack (p .height))) code) stack listing t
   unfolding stepsLeft
-  move-pop symbols pops code h ec e lt =
+  move-pop symbols pops code h ec e lt et =
       let d : drop (suc symbols) (tops stack (p .height)) ≡ tops stack (p .height - pops) =
             let z : p .height - suc symbols ≡ p .height - pops = omega arith in tops-drop stack (suc symbols) (p .height) (omega arith) ∙ ap (tops stack) z in
-      moves (pop-on (drop (suc symbols) (tops stack (p .height))) code (omega (arith, length-drop (suc symbols) (tops stack (p .height)), tops-length stack (p .height)))) d refl refl
+      subst (Turned g m n k tokens stack listing p (popTo (drop (suc symbols) (tops stack (p .height))) code) stack listing) (sym et)
+        (moves (pop-on (drop (suc symbols) (tops stack (p .height))) code (omega (arith, length-drop (suc symbols) (tops stack (p .height)), tops-length stack (p .height)))) d refl refl
         (append-nil (take (p .listed) listing))
         (record
           { stack-long = h .stack-long
@@ -90,7 +92,7 @@ module _ (g : Grammar) (m : Automaton) (n k : ℕ) (tokens stack listing : List 
           ; top-is = refl
           ; code-is = ec ∙ h .code-is
           })
-        (omega arith)
+        (omega arith))
 
 module _ (kinds values gotos rules : List ℕ) (start n k : ℕ) (tokens stack listing : List ℕ) (p : Position) where
   pub move-announce : (r code pops groups unit height : ℕ) (stack′ : List ℕ) → Stands (memoryGrammar rules) n k tokens stack listing p → code ≡ p .code
