@@ -36,7 +36,7 @@ ruleOver gotos rules r groups S = groupsOver rules r groups (gotoOf gotos (next 
 -- position p with the stack lowered to a height
 abbrev pub loweredTo : List ℕ → ℕ → ℕ → Position → Turn
 loweredTo stack height code p = On (record
-  { height = height; taken = p .taken; listed = p .listed; units = p .units; top = getD stack (height - 1) 0; code = code })
+    { height = height; taken = p .taken; listed = p .listed; units = p .units; top = getD stack (height - 1) 0; code = code })
 
 -- a bound on the steps that are left: each takes a place of the listing or a token, or lowers the stack
 unfoldable pub stepsLeft : ℕ → ℕ → List ℕ → Position → ℕ

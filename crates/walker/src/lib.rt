@@ -124,7 +124,14 @@ fn code_at(tokens: &[u8], at: usize) -> u8
 }
 
 // Pushes the entry states of the groups from number `from` on, in the order of the row, above those of the groups before.
-fn push_more(rules: &[u8], rule: u8, from: usize, groups: usize, stack: &mut [u8], height: usize) -> usize
+fn push_more(
+    rules: &[u8],
+    rule: u8,
+    from: usize,
+    groups: usize,
+    stack: &mut [u8],
+    height: usize,
+) -> usize
     requires { ⌜ (length (now rules) ≡ 8448) × (from ≤ groups) × (groups < 256) × (height + groups ≤ length (now stack)) ⌝ }
     ensures { λ r. ⌜ r ≡ height + groups ⌝ }
     ensures { λ r. ⌜ PushesFrom (now (rules .entry)) rule from groups height (now (stack .entry)) (now (stack .exit)) ⌝ }
@@ -274,14 +281,14 @@ fn pop(stack: &[u8], symbols: u8, code: u8, p: Position) -> Turn
     if pops < height {
         return lowered(stack, height - pops, code, p);
     }
-    if code == 0 {
-        return Turn::Ends(Walked::Accepted(Tally {
-            tokens: p.taken,
-            rules: p.listed,
-            units: p.units,
-        }));
+    if code != 0 {
+        return refused(Kind::SyntaxError, p.taken);
     }
-    refused(Kind::SyntaxError, p.taken)
+    Turn::Ends(Walked::Accepted(Tally {
+        tokens: p.taken,
+        rules: p.listed,
+        units: p.units,
+    }))
 }
 
 // One step of the walk.

@@ -1,18 +1,13 @@
+-- `walker::push_groups` meets its contract, by the laws of one, two and three pushes. Assumes nothing.
+use mathlib.Core.Path.{_≡_, sym, ap, _∙_}
+use Prim.Native.Nat.{ℕ, _+_, _-_}
+use native.Mathlib.Omega.{arith}
+use lib.ListN.{length, set, length-set}
+use borrow.Author.Needs.{needs}
 use Rattle.walker.proofs.StackLaws.{push-one, push-two, push-three}
 use Rattle.walker.specs.Turn.{tops, groupsOver}
-use mathlib.Core.Path.{_≡_, refl, sym, ap, subst, _∙_}
-use mathlib.Core.Logic.{⊎-elim}
-use Prim.Native.Nat.{ℕ, zero, suc, _+_, _*_, _≤_, _<_, _-_}
-use native.Mathlib.Omega.{arith}
-use borrow.Author.Count.{below-more, below-none}
-use lib.ListN.{length, getD, set, length-set, replicate}
-use borrow.Author.Needs.{needs}
 use Rattle.walker.proofs.push_groups.Statement.{statement}
 use Rattle.walker.proofs.push_groups.Tie as tie
-use Rattle.walker.proofs.push_groups.Reads as reads
-use Rattle.walker.proofs.push_groups.Lts as lts
-use Rattle.walker.proofs.figure.Reads as figure-reads
-use Rattle.walker.proofs.push_more.Reads as push-more-reads
 
 returns : tie.Need-returns
 returns c = let f = c .before .before .before in
@@ -33,11 +28,10 @@ same-length c = search needs
 
 returns-2 : tie.Need-returns-2
 returns-2 c = let f = c .before .before .before .before .before in
-    let a = f .args in
-    (
+    let a = f .args in (
       omega (arith, c .if2 .taken),
       push-one (a .rules .now) (a .stack .now) (a .rule) (a .height) (c .before .figure .result) 0 0 (c .before .figure .ensures) (omega (arith, f .pre .2, c .if2 .taken))
-      ∙ sym (ap (λ (g : ℕ). groupsOver (a .rules .now) (a .rule) g (tops (a .stack .now) (a .height))) (c .if2 .taken))
+          ∙ sym (ap (λ (g : ℕ). groupsOver (a .rules .now) (a .rule) g (tops (a .stack .now) (a .height))) (c .if2 .taken)),
     )
 
 figure-requires-2 : tie.Need-figure-requires-2
@@ -60,12 +54,11 @@ same-length-2 c = search needs
 
 returns-3 : tie.Need-returns-3
 returns-3 c = let f = c .before .before .before .before .before .before .before in
-    let a = f .args in
-    (
+    let a = f .args in (
       omega (arith, c .if3 .taken),
       push-two (a .rules .now) (a .stack .now) (a .rule) (a .height) (c .before .before .before .figure .result) (c .before .figure2 .result) 0
-        (c .before .before .before .figure .ensures) (c .before .figure2 .ensures) (omega (arith, f .pre .2, c .if3 .taken))
-      ∙ sym (ap (λ (g : ℕ). groupsOver (a .rules .now) (a .rule) g (tops (a .stack .now) (a .height))) (c .if3 .taken))
+          (c .before .before .before .figure .ensures) (c .before .figure2 .ensures) (omega (arith, f .pre .2, c .if3 .taken))
+          ∙ sym (ap (λ (g : ℕ). groupsOver (a .rules .now) (a .rule) g (tops (a .stack .now) (a .height))) (c .if3 .taken)),
     )
 
 figure-requires-3 : tie.Need-figure-requires-3
@@ -92,14 +85,13 @@ same-length-3 c = c .before .before .push-more .kept .1 .1 .1 .1 .0 ∙ simp len
 returns-4 : tie.Need-returns-4
 returns-4 c = let f = c .before .before .before .before .before .before .before .before .before .before .before .before in
     let a = f .args in
-    let r = c .before .before .push-more in
-    (
+    let r = c .before .before .push-more in (
       r .ensures .0,
       ap (tops (r .last .1 .1 .1 .1 .0)) (r .ensures .0)
-      ∙ r .ensures .1 (tops (a .stack .now) (a .height))
-        (push-three (a .rules .now) (a .stack .now) (a .rule) (a .height) (c .before .before .before .before .before .before .before .before .figure .result) (c .before .before .before .before .before .before .figure2 .result) (c .before .before .before .before .figure3 .result)
+          ∙ r .ensures .1 (tops (a .stack .now) (a .height))
+          (push-three (a .rules .now) (a .stack .now) (a .rule) (a .height) (c .before .before .before .before .before .before .before .before .figure .result) (c .before .before .before .before .before .before .figure2 .result) (c .before .before .before .before .figure3 .result)
           (c .before .before .before .before .before .before .before .before .figure .ensures) (c .before .before .before .before .before .before .figure2 .ensures) (c .before .before .before .before .figure3 .ensures)
-          (omega (arith, f .pre .2, c .before .before .before .before .before .if3 .left, c .before .before .before .before .before .before .before .if2 .left, c .before .before .before .before .before .before .before .before .before .if1 .left)))
+          (omega (arith, f .pre .2, c .before .before .before .before .before .if3 .left, c .before .before .before .before .before .before .before .if2 .left, c .before .before .before .before .before .before .before .before .before .if1 .left))),
     )
 
 pub push-groups-spec : {M : Type 1} → statement M

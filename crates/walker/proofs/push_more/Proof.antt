@@ -1,21 +1,17 @@
+-- `walker::push_more` meets its contract. The invariant: the first j groups stand above whatever stack was below the first `from`. Assumes nothing.
 use mathlib.Core.List.{List}
+use mathlib.Core.Path.{_≡_}
+use Prim.Native.Nat.{ℕ, _+_, _≤_, _-_}
+use native.Mathlib.Omega.{arith}
+use lib.ListN.{length, length-set}
+use borrow.Author.Needs.{needs}
 use Rattle.walker.specs.Turn.{tops, groupsOver}
 use Rattle.walker.proofs.StackLaws.{push-step, push-end}
-use mathlib.Core.Path.{_≡_, refl, sym, ap, subst, _∙_}
-use mathlib.Core.Logic.{⊎-elim}
-use Prim.Native.Nat.{ℕ, zero, suc, _+_, _*_, _≤_, _<_, _-_}
-use native.Mathlib.Omega.{arith}
-use borrow.Author.Count.{below-more, below-none}
-use lib.ListN.{length, getD, set, length-set, replicate}
-use borrow.Author.Needs.{needs}
 use Rattle.walker.proofs.push_more.Statement.{statement}
 use Rattle.walker.proofs.push_more.Tie as tie
-use Rattle.walker.proofs.push_more.Reads as reads
-use Rattle.walker.proofs.push_more.Lts as lts
-use Rattle.walker.proofs.figure.Reads as figure-reads
 
 abbrev Inv-loop : tie.InvT-loop
-Inv-loop rules rule from groups stack₀ height j₀ stack j =     (j ≤ groups) × (length stack ≡ length stack₀)
+Inv-loop rules rule from groups stack₀ height j₀ stack j = (j ≤ groups) × (length stack ≡ length stack₀)
     × ((S : List ℕ) → tops stack₀ (height + from) ≡ groupsOver rules rule from S → tops stack (height + j) ≡ groupsOver rules rule j S)
 
 abbrev μ-loop : tie.MeasureT-loop
@@ -44,11 +40,10 @@ loop-less c = search needs
 
 loop-again : tie.Need-loop-again Inv-loop μ-loop
 loop-again c = let l = c .before .before .loop in
-    let a = c .before .before .before .before .before .args in
-    (
+    let a = c .before .before .before .before .before .args in (
       search needs,
       simp length-set (l .inv .1),
-      λ S e. push-step (a .rules .now) (l .stack) S (a .rule) (a .height) (l .j) (c .figure .result) (c .figure .ensures) (omega arith) (l .inv .2 S e)
+      λ S e. push-step (a .rules .now) (l .stack) S (a .rule) (a .height) (l .j) (c .figure .result) (c .figure .ensures) (omega arith) (l .inv .2 S e),
     )
 
 add-result : tie.Need-add-result Inv-loop μ-loop
