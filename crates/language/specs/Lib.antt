@@ -3,3 +3,5 @@ pub mod Derivation
 pub mod Listing
 pub mod Sentence
 pub mod First
+pub mod Member
+pub mod Strings
