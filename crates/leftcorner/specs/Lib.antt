@@ -3,3 +3,4 @@ pub mod Table
 pub mod Construction
 pub mod Claim
 pub mod Adequate
+pub mod ReadOff
