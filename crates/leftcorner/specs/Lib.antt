@@ -4,3 +4,4 @@ pub mod Construction
 pub mod Claim
 pub mod Adequate
 pub mod ReadOff
+pub mod Sources
