@@ -1,0 +1,4 @@
+pub mod Tests
+pub mod Reach
+pub mod Closure
+pub mod ItemsDecided
