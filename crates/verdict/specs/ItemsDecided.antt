@@ -14,7 +14,7 @@ use Rattle.leftcorner.specs.Construction.{entryItem, EntryAt, KernelAt, ActionA
 use Rattle.verdict.specs.Tests.{map-dec, both?, either?, implies?, any?, all?}
 use Rattle.verdict.specs.Closure.{Spot, spot, goes?, same-next, kernel?, closure-list, closure-only, closure-every}
 
-clash : {A : Type 0} → _≡_ {A = ℕ} 0 1 → A
+pub clash : {A : Type 0} → _≡_ {A = ℕ} 0 1 → A
 clash e = absurd (omega (arith, e))
 
 pub at-all? : {A : Type 0} (l : List A) (Φ : ℕ → A → Type 0) → ((j : ℕ) (x : A) → Dec (Φ j x)) → Dec ((j : ℕ) (x : A) → at l j ≡ some x → Φ j x)
