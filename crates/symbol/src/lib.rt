@@ -5,14 +5,14 @@ ghost use Rattle.symbol.specs.Symbol.{isTerminal, isNonterminal, isDecla
 
 // A symbol by its code.
 pub struct Symbol {
-    pub code: u32,
+    pub code: usize,
 }
 
 impl Symbol {
     // The end of the tokens.
-    pub const END: u32 = 0;
+    pub const END: usize = 0;
     // The code of the first nonterminal.
-    pub const FIRST_NONTERMINAL: u32 = 64;
+    pub const FIRST_NONTERMINAL: usize = 64;
 
     pub fn is_end(self) -> bool
         ensures { λ r. ⌜ r ≡ eqb (self .code) 0 ⌝ }
@@ -21,7 +21,7 @@ impl Symbol {
     }
 
     // One of the terminals 1 to t.
-    pub fn is_terminal(self, t: u32) -> bool
+    pub fn is_terminal(self, t: usize) -> bool
         ensures { λ r. ⌜ r ≡ isTerminal t (self .code) ⌝ }
     {
         let code = self.code;
@@ -32,7 +32,7 @@ impl Symbol {
     }
 
     // One of the n nonterminals from 64 on.
-    pub fn is_nonterminal(self, n: u32) -> bool
+    pub fn is_nonterminal(self, n: usize) -> bool
         ensures { λ r. ⌜ r ≡ isNonterminal n (self .code) ⌝ }
     {
         let code = self.code;
@@ -46,7 +46,7 @@ impl Symbol {
     }
 
     // A terminal or a nonterminal.
-    pub fn is_declared(self, t: u32, n: u32) -> bool
+    pub fn is_declared(self, t: usize, n: usize) -> bool
         ensures { λ r. ⌜ r ≡ isDeclared t n (self .code) ⌝ }
     {
         if self.is_terminal(t) {

@@ -1,5 +1,5 @@
 -- `symbol::Symbol::is_declared` meets its contract. Assumes nothing.
-use mathlib.Core.Path.{_≡_, sym, _∙_}
+use mathlib.Core.Path.{sym, _∙_}
 use borrow.Author.Needs.{needs}
 use Rattle.symbol.specs.Symbol.{isDeclared}
 use Rattle.symbol.proofs.Symbol.is_declared.Statement.{statement}
