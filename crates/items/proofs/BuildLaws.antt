@@ -5,9 +5,7 @@ use mathlib.Core.List.{List, [], _∷_, _++_, append-assoc, append-nil}
 use native.Mathlib.Omega.{arith}
 use lib.ListN.{length, getD, set, replicate, length-append, length-replicate}
 use lib.Seq.{sets, length-sets}
-use Rattle.language.specs.Grammar.{Grammar, Rule, right}
-use Rattle.language.specs.Listing.{unitOf}
-use Rattle.items.specs.Layout.{body, row, rowOf, entryRow, startsOf, ruleRows, entryRows, itemTable}
+use Rattle.items.specs.Layout.{body, row}
 use Rattle.items.proofs.StoreLaws.{sets-join, sets-snoc, set-below, set-above, set-inside, read-below, read-above, read-inside, read-zeros, set-zero, sets-zeros}
 
 pub body-length : (α φ : List ℕ) → length (body α φ) ≡ 64
@@ -36,7 +34,7 @@ body-inside α φ h =
           (read-above (sets (replicate 64 0) 16 α) φ 32 (32 + length φ) (omega arith)
             ∙ (read-above (replicate 64 0) α 16 (32 + length φ) (omega arith) ∙ read-zeros 64 (32 + length φ)))
 
--- ---- in memory: row `at / 64` of m while its symbols come
+-- ---- in memory: the row at `base` of m while its symbols come
 unfoldable pub building : List ℕ → ℕ → List ℕ → List ℕ → List ℕ
 building m base α φ = sets m base (body α φ)
 
@@ -89,63 +87,3 @@ build-end m base α φ left mark unit = go (body α φ) (body-length α φ)
         ∙ (ap (λ (l : List ℕ). set (set l (base + 2) mark) (base + 3) unit) (store (set b 0 left) 1 (length α) e1 (omega arith))
         ∙ (ap (λ (l : List ℕ). set l (base + 3) unit) (store (set (set b 0 left) 1 (length α)) 2 mark e2 (omega arith))
         ∙ store (set (set (set b 0 left) 1 (length α)) 2 mark) 3 unit e3 (omega arith)))
-
--- ---- the table, row after row
-pub rule-rows-length : (rs : List Rule) → length (ruleRows rs) ≡ length rs * 64
-unfolding ruleRows
-rule-rows-length [] = refl
-rule-rows-length (r ∷ rs) =
-    length-append (rowOf r) (ruleRows rs) ∙ omega (arith, row-length (r .left) (length (r .before)) (unitOf (r .unit)) (right r) (startsOf r), rule-rows-length rs)
-
-pub entry-rows-length : (γs : List (List ℕ)) → length (entryRows γs) ≡ length γs * 64
-unfolding entryRows
-entry-rows-length [] = refl
-entry-rows-length (γ ∷ γs) = length-append (entryRow γ) (entryRows γs) ∙ omega (arith, row-length 0 255 0 γ [], entry-rows-length γs)
-
-pub table-length : (rs : List Rule) (γs : List (List ℕ)) (size : ℕ) → length (itemTable rs γs size) ≡ size
-unfolding itemTable
-table-length rs γs size = length-sets (replicate size 0) 64 (ruleRows rs ++ entryRows γs) ∙ length-replicate {A = ℕ} size 0
-
--- nothing stands behind the last row
-pub table-behind : (rs : List Rule) (γs : List (List ℕ)) (size j : ℕ) → suc (length rs + length γs) * 64 ≤ j → getD (itemTable rs γs size) j 0 ≡ 0
-unfolding itemTable
-table-behind rs γs size j h =
-    read-above (replicate size 0) (ruleRows rs ++ entryRows γs) 64 j
-      (omega (arith, length-append (ruleRows rs) (entryRows γs), rule-rows-length rs, entry-rows-length γs)) ∙ read-zeros size j
-
-pub table-none : (size : ℕ) → itemTable [] [] size ≡ replicate size 0
-unfolding itemTable ruleRows entryRows
-table-none size = refl
-
-rows-snoc : (rs : List Rule) (r : Rule) → ruleRows (rs ++ r ∷ []) ≡ ruleRows rs ++ rowOf r
-unfolding ruleRows
-rows-snoc [] r = append-nil (rowOf r)
-rows-snoc (q ∷ rs) r = ap (λ (l : List ℕ). rowOf q ++ l) (rows-snoc rs r) ∙ sym (append-assoc (rowOf q) (ruleRows rs) (rowOf r))
-
-entry-rows-snoc : (γs : List (List ℕ)) (γ : List ℕ) → entryRows (γs ++ γ ∷ []) ≡ entryRows γs ++ entryRow γ
-unfolding entryRows
-entry-rows-snoc [] γ = append-nil (entryRow γ)
-entry-rows-snoc (δ ∷ γs) γ = ap (λ (l : List ℕ). entryRow δ ++ l) (entry-rows-snoc γs γ) ∙ sym (append-assoc (entryRow δ) (entryRows γs) (entryRow γ))
-
-pub table-rule : (rs : List Rule) (r : Rule) (size base : ℕ) → base ≡ suc (length rs) * 64
-    → sets (itemTable rs [] size) base (rowOf r) ≡ itemTable (rs ++ r ∷ []) [] size
-unfolding itemTable entryRows
-table-rule rs r size base e =
-    ap (λ (l : List ℕ). sets (sets (replicate size 0) 64 l) base (rowOf r)) (append-nil (ruleRows rs))
-      ∙ (ap (λ (n : ℕ). sets (sets (replicate size 0) 64 (ruleRows rs)) n (rowOf r)) at-end
-      ∙ (sym (sets-join (replicate size 0) (ruleRows rs) (rowOf r) 64)
-      ∙ ap (sets (replicate size 0) 64) (sym (rows-snoc rs r) ∙ sym (append-nil (ruleRows (rs ++ r ∷ []))))))
-  where
-    at-end : base ≡ 64 + length (ruleRows rs)
-    at-end = omega (arith, e, rule-rows-length rs)
-
-pub table-entry : (rs : List Rule) (γs : List (List ℕ)) (γ : List ℕ) (size base : ℕ) → base ≡ suc (length rs + length γs) * 64
-    → sets (itemTable rs γs size) base (entryRow γ) ≡ itemTable rs (γs ++ γ ∷ []) size
-unfolding itemTable
-table-entry rs γs γ size base e =
-    ap (λ (n : ℕ). sets (sets (replicate size 0) 64 (ruleRows rs ++ entryRows γs)) n (entryRow γ)) at-end
-      ∙ (sym (sets-join (replicate size 0) (ruleRows rs ++ entryRows γs) (entryRow γ) 64)
-      ∙ ap (sets (replicate size 0) 64) (append-assoc (ruleRows rs) (entryRows γs) (entryRow γ) ∙ ap (λ (l : List ℕ). ruleRows rs ++ l) (sym (entry-rows-snoc γs γ))))
-  where
-    at-end : base ≡ 64 + length (ruleRows rs ++ entryRows γs)
-    at-end = omega (arith, e, length-append (ruleRows rs) (entryRows γs), rule-rows-length rs, entry-rows-length γs)

@@ -1,2 +1,4 @@
 pub mod StoreLaws
 pub mod BuildLaws
+pub mod TableLaws
+pub mod LayoutLaws

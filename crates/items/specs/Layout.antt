@@ -6,7 +6,7 @@ use mathlib.Core.List.{List, [], _∷_, _++_}
 use mathlib.Core.Option.{some}
 use lib.ListN.{length, getD, replicate}
 use lib.Seq.{sets}
-use Rattle.language.specs.Grammar.{Grammar, Rule, right, ruleAt}
+use Rattle.language.specs.Grammar.{Grammar, Rule, right, concat, ruleAt}
 use Rattle.language.specs.Listing.{unitOf}
 
 -- a row's symbols and the marks of what begins a group, all else 0
@@ -37,17 +37,17 @@ rowOf r = row (r .left) (length (r .before)) (unitOf (r .unit)) (right r) (start
 abbrev pub entryRow : List ℕ → List ℕ
 entryRow γ = row 0 255 0 γ []
 
-unfoldable pub ruleRows : List Rule → List ℕ
-ruleRows [] = []
-ruleRows (r ∷ rs) = rowOf r ++ ruleRows rs
-
-unfoldable pub entryRows : List (List ℕ) → List ℕ
+abbrev pub entryRows : List (List ℕ) → List (List ℕ)
 entryRows [] = []
-entryRows (γ ∷ γs) = entryRow γ ++ entryRows γs
+entryRows (γ ∷ γs) = entryRow γ ∷ entryRows γs
+
+abbrev pub itemRows : List Rule → List (List ℕ) → List (List ℕ)
+itemRows [] γs = entryRows γs
+itemRows (r ∷ rs) γs = rowOf r ∷ itemRows rs γs
 
 -- a slice of `size` bytes that holds these rules, then these entry strings, and zeros everywhere else
 unfoldable pub itemTable : List Rule → List (List ℕ) → ℕ → List ℕ
-itemTable rs γs size = sets (replicate size 0) 64 (ruleRows rs ++ entryRows γs)
+itemTable rs γs size = sets (replicate size 0) 64 (concat (itemRows rs γs))
 
 abbrev pub layout : Grammar → ℕ → List ℕ
 layout g size = itemTable (g .rules) [] size
