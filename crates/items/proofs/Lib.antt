@@ -2,3 +2,4 @@ pub mod StoreLaws
 pub mod BuildLaws
 pub mod TableLaws
 pub mod LayoutLaws
+pub mod GrowLaws
