@@ -3,3 +3,6 @@ pub mod Derivation
 pub mod Listing
 pub mod Sentence
 pub mod First
+pub mod Member
+pub mod Strings
+pub mod WellFormed
