@@ -7,7 +7,7 @@ use native.Mathlib.Omega.{arith}
 use borrow.Author.Count.{below-more}
 use lib.ListN.{length, getD, set, replicate, length-set}
 use Rattle.fixpoint.specs.Flags.{On, Off, Decides}
-use Rattle.fixpoint.specs.Decision.{zeros, zeros-set, only-set, keep-set}
+use Rattle.fixpoint.proofs.CountLaws.{zeros, zeros-set, only-set, keep-set}
 
 -- A pass from fs₀ and added₀ on: fs now, and `added` counts the flags set. While it is 0, what was visited is met (Done).
 pub record Pass (n : ℕ) (P : ℕ → Type 0) (fs₀ fs : List ℕ) (added₀ added : ℕ) (Done : List ℕ → Type 0) : Type 0 where
