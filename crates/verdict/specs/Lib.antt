@@ -5,3 +5,4 @@ pub mod ItemsDecided
 pub mod EntriesDecided
 pub mod LookaheadsDecided
 pub mod CellsDecided
+pub mod Verdict
