@@ -106,3 +106,8 @@ module _ (g : Grammar) where
   join (X ∷ α) β nil G h k = absurd h
   join [] β (cons T F) G h k = absurd h
   join (X ∷ α) β (cons T F) G h k = (h .0, join α β F G (h .1) k)
+
+  -- a forest of no symbol is empty
+  pub no-tree : (F : Forest) → IsForest F [] → F ≡ nil
+  no-tree nil h = refl
+  no-tree (cons T F) h = absurd h

@@ -3,3 +3,7 @@ pub mod Derivation
 pub mod Listing
 pub mod Sentence
 pub mod First
+pub mod Lists
+pub mod Trace
+pub mod Replay
+pub mod Announced
