@@ -3,3 +3,6 @@ pub mod Table
 pub mod Construction
 pub mod Claim
 pub mod Adequate
+pub mod Run
+pub mod Path
+pub mod Completeness
