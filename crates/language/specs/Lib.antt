@@ -7,3 +7,4 @@ pub mod Lists
 pub mod Trace
 pub mod Replay
 pub mod Announced
+pub mod Prefix

@@ -6,3 +6,5 @@ pub mod Adequate
 pub mod Run
 pub mod Path
 pub mod Completeness
+pub mod Whole
+pub mod Stack
