@@ -8,3 +8,5 @@ pub mod Path
 pub mod Completeness
 pub mod Whole
 pub mod Stack
+pub mod Back
+pub mod Step

@@ -3,7 +3,7 @@
 use Prim.Native.Nat.{ℕ, zero, suc, _+_}
 use native.Mathlib.Omega.{arith}
 use mathlib.Core.Path.{_≡_, refl, sym, ap, ap₂, _∙_}
-use mathlib.Core.List.{List, [], _∷_, _++_, map, append-assoc, append-nil}
+use mathlib.Core.List.{List, [], _∷_, _++_, map, map-append, append-assoc, append-nil}
 use mathlib.Core.Option.{Option, some}
 use lib.ListN.{length, drop}
 use Rattle.language.specs.Grammar.{Grammar, Rule, ruleAt, concat, right}
@@ -69,14 +69,10 @@ module _ {g : Grammar} {string : ℕ → List ℕ} {Kernel : ℕ → Source → 
   pub used : {q : ℕ} (o : Opened q) (δs : List ℕ) (e : ℕ) (εs : List ℕ) → o .entries ≡ δs ++ e ∷ εs → Used g string Kernel m e
   used o δs e εs u = group-entry δs e εs (o .cell) u
 
-  map-++ : (δs εs : List ℕ) → map string (δs ++ εs) ≡ map string δs ++ map string εs
-  map-++ [] εs = refl
-  map-++ (δ ∷ δs) εs = ap (λ (l : List (List ℕ)). string δ ∷ l) (map-++ δs εs)
-
   -- the groups of an announced rule: those read, the one that is read now, those that wait
   pub groups-at : {q : ℕ} (o : Opened q) (δs εs : List ℕ) → o .entries ≡ δs ++ εs → concat (o .rule-of .groups) ≡ concat (map string δs) ++ concat (map string εs)
   groups-at o δs εs u =
-      ap concat (sym (groups-are C E (o .cell) (o .is)) ∙ ap (map string) u ∙ map-++ δs εs) ∙ concat-++ (map string δs) (map string εs)
+      ap concat (sym (groups-are C E (o .cell) (o .is)) ∙ ap (map string) u ∙ map-append string δs εs) ∙ concat-++ (map string δs) (map string εs)
 
   right-at : {q : ℕ} (o : Opened q) (δs : List ℕ) (e : ℕ) (εs : List ℕ) → o .entries ≡ δs ++ e ∷ εs
       → right (o .rule-of) ≡ o .rule-of .before ++ (concat (map string δs) ++ (string e ++ concat (map string εs)))
