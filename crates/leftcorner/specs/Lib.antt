@@ -10,3 +10,5 @@ pub mod Whole
 pub mod Stack
 pub mod Back
 pub mod Step
+pub mod Finish
+pub mod Growth
