@@ -12,3 +12,4 @@ pub mod Back
 pub mod Step
 pub mod Finish
 pub mod Growth
+pub mod Rest
