@@ -13,3 +13,5 @@ pub mod Step
 pub mod Finish
 pub mod Growth
 pub mod Rest
+pub mod Token
+pub mod Settle
