@@ -15,3 +15,5 @@ pub mod Growth
 pub mod Rest
 pub mod Token
 pub mod Settle
+pub mod Place
+pub mod Correct
