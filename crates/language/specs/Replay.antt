@@ -62,7 +62,6 @@ drop-seam (cons T F) G = drop-seam F G
 -- ---- the frames of rules whose groups are not all closed yet
 
 -- a rule announced: its subtrees so far, newest first; the groups to come after the one that is read now; the trees below
-
 pub record Frame : Type 0 where
   pub rule : ℕ
   pub children : Forest
@@ -79,10 +78,12 @@ abbrev pub built : ℕ → Forest → ℕ → Forest → List Frame → Shape
 built i kids zero under fs = record { now = cons (node i (onto kids nil)) under; frames = fs }
 built i kids (suc m) under fs = record { now = nil; frames = record { rule = i; children = kids; more = m; under = under } ∷ fs }
 
+-- a rule is announced over the newest trees
 abbrev pub opened : Option Rule → ℕ → Shape → Shape
 opened none i s = s
 opened (some r) i s = built i (takeF (length (r .before)) (s .now)) (length (r .groups)) (dropF (length (r .before)) (s .now)) (s .frames)
 
+-- a group is closed: its trees go to the rule that waits for it
 abbrev pub shut : List Frame → Forest → Shape
 shut [] F = record { now = F; frames = [] }
 shut (f ∷ fs) F = built (f .rule) (F ⧺ f .children) (f .more) (f .under) fs
