@@ -5,3 +5,17 @@ pub mod Claim
 pub mod Adequate
 pub mod ReadOff
 pub mod Sources
+pub mod Run
+pub mod Path
+pub mod Completeness
+pub mod Whole
+pub mod Stack
+pub mod Back
+pub mod Step
+pub mod Finish
+pub mod Growth
+pub mod Rest
+pub mod Token
+pub mod Settle
+pub mod Place
+pub mod Correct
