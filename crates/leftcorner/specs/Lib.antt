@@ -5,3 +5,6 @@ pub mod Claim
 pub mod Adequate
 pub mod ReadOff
 pub mod Sources
+pub mod ItemStrings
+pub mod Swap
+pub mod Closure
