@@ -8,3 +8,4 @@ pub mod Sources
 pub mod ItemStrings
 pub mod Swap
 pub mod Closure
+pub mod Bridge
