@@ -1,5 +1,5 @@
 -- A table that meets the construction gives the machine an automaton that is complete and exact.
-use Prim.Native.Nat.{ℕ, zero, suc, _≤_}
+use Prim.Native.Nat.{ℕ, zero, suc}
 use native.Mathlib.Omega.{arith}
 use mathlib.Core.Path.{_≡_, refl, sym, ap, _∙_, subst}
 use mathlib.Core.List.{List, [], _∷_, _++_, map}
@@ -11,10 +11,10 @@ use Rattle.language.specs.First.{First}
 use Rattle.language.specs.Member.{in-right}
 use Rattle.language.specs.Strings.{string-derives, goal-declared}
 use Rattle.leftcorner.specs.Machine.{shift, announce, pop, Automaton}
-use Rattle.leftcorner.specs.Table.{Action, S, N, A, P, Table, nextState, stringOf, stateOf, groupsOf, entryFrom, gotoState, groupEntries, cellOf, automaton}
-use Rattle.leftcorner.specs.Construction.{Wanted, of-group, forget, entryItem, EntryAt, KernelAt, ActionAt, Has, MovedBy, moved, Carries, in-kernel, in-closure, Asked, to-move, to-announce, to-pop, Meets}
+use Rattle.leftcorner.specs.Table.{Action, S, N, A, P, Table, nextState, stringOf, stateOf, groupsOf, gotoState, groupEntries, cellOf, automaton}
+use Rattle.leftcorner.specs.Construction.{of-group, forget, entryItem, EntryAt, KernelAt, ActionAt, MovedBy, moved, Carries, in-kernel, in-closure, Asked, to-move, to-announce, to-pop, Meets}
 use Rattle.leftcorner.specs.Adequate.{Source, rule, entry, track, behind, Holds, kernel, closure, Complete, Used, goal-entry, group-entry, Moved, Shifted, Announced, Popped, Exact}
-use Rattle.leftcorner.specs.ReadOff.{no-one, stringAt, shift-line, pop-line, announce-line, action-is, found-entry, found-strings}
+use Rattle.leftcorner.specs.ReadOff.{clash, stringAt, shift-line, pop-line, announce-line, action-is, found-entry, found-strings}
 use Rattle.leftcorner.specs.Sources.{IsItem, rule-item, entry-item, KernelCode, one-source, rule-number, entry-number, goes-of, moves-at}
 use Rattle.leftcorner.specs.Closure.{has-of, source-of, line-moves, not-past, carries-of}
 
@@ -32,8 +32,8 @@ forget-same (P m) x n e = e
 forget-next : (y : Action) → forget y ≡ S 0 → (s : ℕ) × (nextState y ≡ some s)
 forget-next (S s) e = (s, refl)
 forget-next (N s) e = (s, refl)
-forget-next (A i) e = no-one cc
-forget-next (P n) e = no-one cc
+forget-next (A i) e = clash cc
+forget-next (P n) e = clash cc
 
 goto-next : (y : Action) (s : ℕ) → nextState y ≡ some s → gotoState (some y) ≡ s
 goto-next (S u) s e = cc
@@ -45,23 +45,29 @@ module _ (g : Grammar) (t : Table) (D : Declared g) (M : Meets g t) where
   abbrev u : Automaton
   u = automaton g t
 
+  abbrev Held : ℕ → Source → ℕ → ℕ → Type 0
+  Held q ι k d = Holds g (stringAt t) (KernelCode g t) q ι k d
+
+  abbrev trackOf : Source → List ℕ
+  trackOf ι = track g (stringAt t) ι
+
   -- ---- the closure, by source and by number
 
-  held : {q i k d : ℕ} {ι : Source} → IsItem g t ι i → Carries g t (First g) q i k d → Holds g (stringAt t) (KernelCode g t) q ι k d
+  held : {q i k d : ℕ} {ι : Source} → IsItem g t ι i → Carries g t (First g) q i k d → Held q ι k d
   held {i = i} s (in-kernel {σ = σ} h m) = kernel (record { item = i; codes = σ; is = s; line = h; code = m })
   held {q = q} s (in-closure {i = i} {k = k} {d = d} {X = X} j {c = c} {β = β} {r = r} h go e l f) =
       let o = source-of g t (M .form) (has-of g t h) in
       let w = moves-at g t k X β (o .1) (not-past g t M k q i (has-of g t h)) go in
-      subst (λ (κ : Source). Holds g (stringAt t) (KernelCode g t) q κ zero c) (one-source g t (rule-item j r e) s refl)
+      subst (λ (κ : Source). Held q κ zero c) (one-source g t (rule-item j r e) s refl)
         (closure (held (o .1) h) (w .1) e l (subst (λ (b : List ℕ). First g b d c) (w .2) f))
 
-  carried : {q k d : ℕ} {ι : Source} → Holds g (stringAt t) (KernelCode g t) q ι k d → (i : ℕ) × IsItem g t ι i × Carries g t (First g) q i k d
+  carried : {q k d : ℕ} {ι : Source} → Held q ι k d → (i : ℕ) × IsItem g t ι i × Carries g t (First g) q i k d
   carried (kernel h) = (h .item, h .is, in-kernel (h .line) (h .code))
   carried (closure {k = k} {X = X} {β = β} {i = j} {r = r} h e re l f) =
       let o = carried h in
       (j, rule-item j r re, in-closure j (o .2) (goes-of g t k X β (o .1) e) re l f)
 
-  rule-carried : {q i k d : ℕ} → Holds g (stringAt t) (KernelCode g t) q (rule i) k d → Carries g t (First g) q i k d
+  rule-carried : {q i k d : ℕ} → Held q (rule i) k d → Carries g t (First g) q i k d
   rule-carried {q = q} {k = k} {d = d} h = let o = carried h in subst (λ (j : ℕ). Carries g t (First g) q j k d) (rule-number g t (o .1)) (o .2)
 
   -- ---- moves
@@ -87,13 +93,13 @@ module _ (g : Grammar) (t : Table) (D : Declared g) (M : Meets g t) where
     by : MovedBy g t q X item (suc k)
     move : Move q X
 
-  going : {q : ℕ} {ι : Source} {k d X : ℕ} {β : List ℕ} → Holds g (stringAt t) (KernelCode g t) q ι k d → drop k (track g (stringAt t) ι) ≡ X ∷ β → Going q ι k d X β
+  going : {q : ℕ} {ι : Source} {k d X : ℕ} {β : List ℕ} → Held q ι k d → drop k (trackOf ι) ≡ X ∷ β → Going q ι k d X β
   going {q = q} {k = k} {X = X} {β = β} h e =
       let o = carried h in
       let v = moved (has-of g t (o .2)) (goes-of g t k X β (o .1) e) in
       record { item = o .0; is = o .1; carries = o .2; by = v; move = the-move q X (o .0) (suc k) v }
 
-  moves : {q : ℕ} {ι : Source} {k d X : ℕ} {β : List ℕ} → Holds g (stringAt t) (KernelCode g t) q ι k d → drop k (track g (stringAt t) ι) ≡ X ∷ β
+  moves : {q : ℕ} {ι : Source} {k d X : ℕ} {β : List ℕ} → Held q ι k d → drop k (trackOf ι) ≡ X ∷ β
       → KernelCode g t (u .goto q X) ι (suc k) d
   moves {q = q} {ι = ι} {k = k} {d = d} {X = X} {β = β} h e =
       let o = going h e in
@@ -109,7 +115,7 @@ module _ (g : Grammar) (t : Table) (D : Declared g) (M : Meets g t) where
   shift-cell (A v) q a s w l e = cc
   shift-cell (P v) q a s w l e = cc
 
-  shifts : {q : ℕ} {ι : Source} {k d a : ℕ} {β : List ℕ} → Holds g (stringAt t) (KernelCode g t) q ι k d → drop k (track g (stringAt t) ι) ≡ a ∷ β → IsTerminal g a
+  shifts : {q : ℕ} {ι : Source} {k d a : ℕ} {β : List ℕ} → Held q ι k d → drop k (trackOf ι) ≡ a ∷ β → IsTerminal g a
       → u .cell q a ≡ shift (u .goto q a)
   shifts {q = q} {a = a} h e w =
       let m = going h e .move in
@@ -117,13 +123,13 @@ module _ (g : Grammar) (t : Table) (D : Declared g) (M : Meets g t) where
 
   -- ---- announces and pops
 
-  announces : {q i d c : ℕ} {r : Rule} → ruleAt g i ≡ some r → Holds g (stringAt t) (KernelCode g t) q (rule i) (length (r .before)) d → First g (concat (r .groups)) d c
+  announces : {q i d c : ℕ} {r : Rule} → ruleAt g i ≡ some r → Held q (rule i) (length (r .before)) d → First g (concat (r .groups)) d c
       → (es : List ℕ) × (u .cell q c ≡ announce i es)
   announces {q = q} {i = i} {c = c} e h f =
       let y = M .cells q .filled c (A i) (to-announce i e (rule-carried h) f) in
       (groupEntries g t i, ap (cellOf g t) (action-is g t (M .form) q c (y .0) (y .1) ∙ ap (λ (x : Action). some x) (forget-same (y .0) (A i) refl (y .2))))
 
-  pops : {q e d : ℕ} → Holds g (stringAt t) (KernelCode g t) q (entry e) (length (stringAt t e)) d → u .cell q d ≡ pop (suc (length (stringAt t e)))
+  pops : {q e d : ℕ} → Held q (entry e) (length (stringAt t e)) d → u .cell q d ≡ pop (suc (length (stringAt t e)))
   pops {q = q} {e = e} {d = d} h =
       let o = carried h in
       let n = entry-number g t (o .1) in
@@ -157,7 +163,7 @@ module _ (g : Grammar) (t : Table) (D : Declared g) (M : Meets g t) where
       entry-code 1 (e .0) 0 (g .goal ∷ []) (e .1) (λ σ l. M .lookaheads (e .0) .of-goal (g .goal ∷ []) σ (e .1) l)
 
   group : {q i d c : ℕ} {r : Rule} (b : ℕ) (es δs : List ℕ) (e : ℕ) (εs : List ℕ) → ruleAt g i ≡ some r
-      → Holds g (stringAt t) (KernelCode g t) q (rule i) (length (r .before)) d → u .cell q b ≡ announce i es → es ≡ δs ++ e ∷ εs
+      → Held q (rule i) (length (r .before)) d → u .cell q b ≡ announce i es → es ≡ δs ++ e ∷ εs
       → First g (concat (map (stringAt t) εs)) d c → KernelCode g t (u .enter e) (entry e) zero c
   group {q = q} {i = i} {d = d} {c = c} {r = r} b es δs e εs re h k p f =
       let x = announced-entry q b i es δs e εs k p in
@@ -188,7 +194,7 @@ module _ (g : Grammar) (t : Table) (D : Declared g) (M : Meets g t) where
   popped-by : {q c n : ℕ} → Asked g t (First g) q c (P n) → Popped g (stringAt t) (KernelCode g t) u q c n
   popped-by {q = q} {c = c} (to-pop e {s = s} {γ = γ} h k) =
       let f : γ ≡ stringAt t e = sym (ap stringOf h) in
-      record { number = e; is = ap (λ (l : List ℕ). suc (length l)) f; holds = subst (λ (l : List ℕ). Holds g (stringAt t) (KernelCode g t) q (entry e) (length l) c) f (held (entry-item e s γ h) k) }
+      record { number = e; is = ap (λ (l : List ℕ). suc (length l)) f; holds = subst (λ (l : List ℕ). Held q (entry e) (length l) c) f (held (entry-item e s γ h) k) }
 
   module _ (R : AllProductive g) where
     moved-by : {q X i n : ℕ} {ι : Source} → IsItem g t ι i → MovedBy g t q X i n → Moved g (stringAt t) (KernelCode g t) u q X ι n
@@ -197,7 +203,7 @@ module _ (g : Grammar) (t : Table) (D : Declared g) (M : Meets g t) where
         let w = moves-at g t k X β s (not-past g t M k q i h) go in
         record { dot = k; code = c .0; rest = w .0; is = refl; holds = held s (c .1); there = w .1 }
 
-    came : {q : ℕ} {ι : Source} {k d X : ℕ} {β : List ℕ} → Holds g (stringAt t) (KernelCode g t) q ι k d → drop k (track g (stringAt t) ι) ≡ X ∷ β
+    came : {q : ℕ} {ι : Source} {k d X : ℕ} {β : List ℕ} → Held q ι k d → drop k (trackOf ι) ≡ X ∷ β
         → (κ : Source) (n c : ℕ) → KernelCode g t (u .goto q X) κ n c → Moved g (stringAt t) (KernelCode g t) u q X κ n
     came {q = q} {k = k} {X = X} h e κ n c y =
         let o = going h e in

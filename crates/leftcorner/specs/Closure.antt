@@ -5,17 +5,17 @@ use native.Mathlib.Nat.{suc-ne-zero}
 use native.Mathlib.Omega.{arith}
 use mathlib.Core.Path.{_≡_, refl, sym, ap, _∙_, subst}
 use mathlib.Core.Logic.{_⊎_, inl, inr}
-use mathlib.Core.List.{List, [], _∷_}
-use mathlib.Core.Option.{Option, some, none}
+use mathlib.Core.List.{List}
+use mathlib.Core.Option.{some}
 use Rattle.language.specs.Grammar.{Grammar, Rule, ruleAt}
-use Rattle.language.specs.Derivation.{Forest, yields, IsForest}
-use Rattle.language.specs.Sentence.{In, Declared, AllProductive}
+use Rattle.language.specs.Derivation.{yields}
+use Rattle.language.specs.Sentence.{Declared, AllProductive}
 use Rattle.language.specs.First.{First, next}
 use Rattle.language.specs.Strings.{string-derives}
-use Rattle.leftcorner.specs.Table.{E, Action, S, N, A, P, Table, nextState, recognitionPoint, Goes}
+use Rattle.leftcorner.specs.Table.{Action, S, N, A, P, Table, nextState, recognitionPoint, Goes}
 use Rattle.leftcorner.specs.Construction.{forget, entryItem, EntryAt, KernelAt, ActionAt, Has, in-kernel, in-closure, MovedBy, moved, WellFormed, Carries, Asked, to-move, Meets}
 use Rattle.leftcorner.specs.Adequate.{Source, rule, entry}
-use Rattle.leftcorner.specs.ReadOff.{no-one}
+use Rattle.leftcorner.specs.ReadOff.{clash}
 use Rattle.leftcorner.specs.Sources.{IsItem, rule-item, entry-item}
 use Rattle.leftcorner.specs.ItemStrings.{rest-declared}
 
@@ -40,8 +40,8 @@ module _ (g : Grammar) (t : Table) where
     asked-next : {q X s : ℕ} (x : Action) → nextState x ≡ some s → Asked g t (First g) q X (forget x) → (i : ℕ) × (n : ℕ) × MovedBy g t q X i n
     asked-next (S v) e a = asked-moves a
     asked-next (N v) e a = asked-moves a
-    asked-next (A v) e a = no-one cc
-    asked-next (P v) e a = no-one cc
+    asked-next (A v) e a = clash cc
+    asked-next (P v) e a = clash cc
 
     -- something moves by each line with a next state
     pub line-moves : (q X s : ℕ) (x : Action) → ActionAt g t q X x → nextState x ≡ some s → (i : ℕ) × (n : ℕ) × MovedBy g t q X i n

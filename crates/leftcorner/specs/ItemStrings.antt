@@ -1,8 +1,8 @@
 -- The strings that items ask about consist of declared symbols.
-use Prim.Native.Nat.{ℕ, suc, _-_}
+use Prim.Native.Nat.{ℕ, _-_}
 use mathlib.Core.Path.{_≡_, refl, sym, subst}
 use mathlib.Core.Bool.{Bool, true, false, cond}
-use mathlib.Core.List.{List, [], _∷_}
+use mathlib.Core.List.{List}
 use mathlib.Core.Option.{Option, some, none}
 use lib.Dec.{leb}
 use Rattle.language.specs.Grammar.{Grammar, Rule, ruleAt}
@@ -10,7 +10,7 @@ use Rattle.language.specs.Sentence.{In, there, Declared}
 use Rattle.language.specs.Member.{in-drop}
 use Rattle.language.specs.Strings.{AllDeclared, goal-declared, group-declared}
 use Rattle.leftcorner.specs.Table.{EntryLine, E, Table, entryAt, stringOf, rightOf, ruleCount, symbolsOf, Goes}
-use Rattle.leftcorner.specs.Construction.{Wanted, of-goal, of-group, EntryAt, EntriesMeet}
+use Rattle.leftcorner.specs.Construction.{Wanted, of-goal, of-group, EntriesMeet}
 
 module _ (g : Grammar) (t : Table) (D : Declared g) where
   wanted-declared : (γ : List ℕ) → Wanted g γ → AllDeclared g γ
