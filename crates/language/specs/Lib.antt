@@ -5,3 +5,4 @@ pub mod Sentence
 pub mod First
 pub mod Member
 pub mod Strings
+pub mod WellFormed
