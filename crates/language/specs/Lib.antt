@@ -6,3 +6,8 @@ pub mod First
 pub mod Member
 pub mod Strings
 pub mod WellFormed
+pub mod Lists
+pub mod Trace
+pub mod Replay
+pub mod Announced
+pub mod Prefix

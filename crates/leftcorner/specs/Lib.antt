@@ -9,3 +9,17 @@ pub mod ItemStrings
 pub mod Swap
 pub mod Closure
 pub mod Bridge
+pub mod Run
+pub mod Path
+pub mod Completeness
+pub mod Whole
+pub mod Stack
+pub mod Back
+pub mod Step
+pub mod Finish
+pub mod Growth
+pub mod Rest
+pub mod Token
+pub mod Settle
+pub mod Place
+pub mod Correct
