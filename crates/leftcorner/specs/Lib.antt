@@ -3,3 +3,5 @@ pub mod Table
 pub mod Construction
 pub mod Claim
 pub mod Adequate
+pub mod Progress
+pub mod Bounded
