@@ -5,3 +5,4 @@ pub mod Claim
 pub mod Adequate
 pub mod Progress
 pub mod Bounded
+pub mod Starred
