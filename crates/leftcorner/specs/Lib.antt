@@ -6,3 +6,4 @@ pub mod Adequate
 pub mod Progress
 pub mod Bounded
 pub mod Starred
+pub mod Instance
