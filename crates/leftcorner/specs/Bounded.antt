@@ -7,13 +7,13 @@ use mathlib.Core.Path.{_≡_, refl, sym, ap, _∙_}
 use mathlib.Core.Logic.{_⊎_, inl, inr}
 use mathlib.Core.Bool.{Bool, true, false, cond, _&&_}
 use mathlib.Core.List.{List, [], _∷_, _++_, append-assoc, append-nil}
-use lib.ListN.{length, drop, length-append}
+use lib.ListN.{length, length-append}
 use borrow.Author.Tests.{le-leb, lt-leb}
 use lib.Dec.{leb}
 use Rattle.language.specs.Grammar.{Grammar}
 use Rattle.language.specs.Sentence.{In, here, there}
 use Rattle.language.specs.First.{next}
-use Rattle.leftcorner.specs.Machine.{Automaton, Event, shifted, announced, closed, Outcome, on, whole, wrong, rulesOf, toCome, taken, step, start, Ending, accepted, failed, Walk, ends-whole, ends-wrong, goes-on, Verdict, whole-at, wrong-at, short-at, fits, proceed, walkFor, enoughSteps, walk}
+use Rattle.leftcorner.specs.Machine.{Automaton, Event, shifted, announced, closed, Outcome, on, whole, wrong, rulesOf, toCome, taken, step, start, Ending, Walk, ends-whole, ends-wrong, goes-on, Verdict, whole-at, short-at, fits, proceed, walkFor, enoughSteps, walk}
 use Rattle.leftcorner.specs.Claim.{comesBack, Within, begins, steps, Outgrows, at-start, at-step}
 use Rattle.leftcorner.specs.Progress.{Progress, PopsSome, progress, whole-on-end}
 

@@ -6,4 +6,5 @@ pub mod Adequate
 pub mod Progress
 pub mod Bounded
 pub mod Starred
+pub mod Smallest
 pub mod Instance
