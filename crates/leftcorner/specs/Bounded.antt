@@ -103,7 +103,7 @@ module _ (g : Grammar) (m : Automaton) where
           let all : length ((l ++ rulesOf e) ++ r) ≤ k = rw join long in
           let hl : length (l ++ rulesOf e) ≤ k = omega (arith, all, length-append (l ++ rulesOf e) r) in
           let again = ends-alike x (l ++ rulesOf e) f (no-end-rest e w t) (enough-on c y hU hl) (omega arith) all in
-          one-step f S w p l (on e U) eq ∙ fits-yes p U (l ++ rulesOf e) _ hU hl ∙ again ∙ ap (λ (i : ℕ). comesBack o i ((l ++ rulesOf e) ++ r)) (y .count p)
+          one-step f S w p l (on e U) eq ∙ fits-yes _ U (l ++ rulesOf e) _ hU hl ∙ again ∙ ap (λ (i : ℕ). comesBack o i ((l ++ rulesOf e) ++ r)) (y .count p)
           ∙ ap (comesBack o (p + length w)) join
 
       -- ---- lent less
@@ -129,12 +129,12 @@ module _ (g : Grammar) (m : Automaton) where
           rest (inr a) = inr (rw (append-assoc l (rulesOf e) r) a)
 
           outgrown : (n < length U) ⊎ (k < length (l ++ rulesOf e)) → Short u (walkFor g m n k (suc f) S w p l)
-          outgrown a = (p, one-step f S w p l (on e U) eq ∙ fits-no p U (l ++ rulesOf e) _ a, at-step i eq a)
+          outgrown a = (p, one-step f S w p l (on e U) eq ∙ fits-no _ U (l ++ rulesOf e) _ a, at-step i eq a)
 
           go : Dec (length U ≤ n) → Dec (length (l ++ rulesOf e) ≤ k) → Short u (walkFor g m n k (suc f) S w p l)
           go (yes a) (yes b) =
               let s = again (steps i eq a b) (enough-on c (progress g m least S w e U eq) a b) (rest less) in
-              (s .0, one-step f S w p l (on e U) eq ∙ fits-yes p U (l ++ rulesOf e) _ a b ∙ s .1, s .2)
+              (s .0, one-step f S w p l (on e U) eq ∙ fits-yes _ U (l ++ rulesOf e) _ a b ∙ s .1, s .2)
           go (yes a) (no b) = outgrown (inr (omega (arith, b)))
           go (no a) b = outgrown (inl (omega (arith, a)))
 
