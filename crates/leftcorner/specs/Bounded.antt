@@ -83,7 +83,7 @@ module _ (g : Grammar) (m : Automaton) where
     within-fits (begins a) = (a, omega arith)
     within-fits (steps x e a b) = (a, b)
 
-    module _ (least : PopsSome g m) where
+    module _ (least : PopsSome m) where
       -- ---- lent the needs
 
       ends-alike : {S w r : List ℕ} {p h : ℕ} {o : Ending} → Walk g m S w p o h r → (l : List ℕ) (f : ℕ) → NoEnd w → Enough S w l f
@@ -148,7 +148,7 @@ module _ (g : Grammar) (m : Automaton) where
 
   -- ---- from the start
 
-  module _ (least : PopsSome g m) {w listed : List ℕ} {ending : Ending} {need : ℕ} (e : Walk g m (start g m) w zero ending need listed) where
+  module _ (least : PopsSome m) {w listed : List ℕ} {ending : Ending} {need : ℕ} (e : Walk g m (start g m) w zero ending need listed) where
     -- "lent enough listing and stack, the session comes back whole or wrong"
     pub enough : NoEnd w → (n k : ℕ) → need ≤ n → length listed ≤ k → walk g m n k w ≡ comesBack ending (length w) listed
     enough t n k a b =

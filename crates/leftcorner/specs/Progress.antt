@@ -9,6 +9,7 @@ use lib.ListN.{length, drop, length-drop}
 use Rattle.language.specs.Grammar.{Grammar, Rule, ruleAt}
 use Rattle.language.specs.First.{next}
 use Rattle.leftcorner.specs.Machine.{Cell, shift, announce, pop, empty, Automaton, Event, shifted, announced, closed, Outcome, on, whole, wrong, rulesOf, toCome, taken, shiftTo, popTo, land, tell, act, step, Ending, Walk, ends-whole, ends-wrong, goes-on}
+use Rattle.leftcorner.specs.Adequate.{Source, Exact}
 
 -- outcomes of two kinds are not equal
 abbrev kind : Outcome → ℕ
@@ -42,6 +43,13 @@ by-pop c n S w e U least = go (drop n S) (length-drop n S) c
         let u : q ∷ R ≡ U = cc in
         subst (λ (x : Event). Progress S w x U) k (record { count = λ p. omega arith; less = inr (omega arith, omega (arith, len, least, ap length u)) })
 
+-- every pop takes a state off, as in a table that meets the construction
+abbrev pub PopsSome : Automaton → Type 0
+PopsSome m = (q c n : ℕ) → m .cell q c ≡ pop n → 1 ≤ n
+
+pub pops-some : {g : Grammar} {string : ℕ → List ℕ} {Kernel : ℕ → Source → ℕ → ℕ → Type 0} {m : Automaton} → Exact g string Kernel m → PopsSome m
+pops-some E = λ q c n h. omega (arith, E .popped q c n h .is)
+
 module _ (g : Grammar) (m : Automaton) where
   by-announce : (o : Option Rule) (i : ℕ) (es S w : List ℕ) (e : Event) (U : List ℕ) → tell g m o i es S ≡ on e U → Progress S w e U
   by-announce none i es S w e U h = clash h (λ z. omega arith)
@@ -53,11 +61,7 @@ module _ (g : Grammar) (m : Automaton) where
           let k : announced i ≡ e = cc in
           subst (λ (x : Event). Progress S w x U) k (record { count = λ p. omega arith; less = inl (omega arith) })
 
-  -- every pop takes a state off
-  abbrev pub PopsSome : Type 0
-  PopsSome = (q c n : ℕ) → m .cell q c ≡ pop n → 1 ≤ n
-
-  pub progress : PopsSome → (S w : List ℕ) (e : Event) (U : List ℕ) → step g m S (next w 0) ≡ on e U → Progress S w e U
+  pub progress : PopsSome m → (S w : List ℕ) (e : Event) (U : List ℕ) → step g m S (next w 0) ≡ on e U → Progress S w e U
   progress least S w e U = go (m .cell (next S 0) (next w 0)) refl
     where
       go : (x : Cell) → m .cell (next S 0) (next w 0) ≡ x → act g m x S (next w 0) ≡ on e U → Progress S w e U
