@@ -9,7 +9,6 @@ use lib.ListN.{length, drop, length-drop}
 use Rattle.language.specs.Grammar.{Grammar, Rule, ruleAt}
 use Rattle.language.specs.First.{next}
 use Rattle.leftcorner.specs.Machine.{Cell, shift, announce, pop, empty, Automaton, Event, shifted, announced, closed, Outcome, on, whole, wrong, rulesOf, toCome, taken, shiftTo, popTo, land, tell, act, step, Ending, Walk, ends-whole, ends-wrong, goes-on}
-use Rattle.leftcorner.specs.Adequate.{Source, Exact}
 
 -- outcomes of two kinds are not equal
 abbrev kind : Outcome → ℕ
@@ -43,12 +42,9 @@ by-pop c n S w e U least = go (drop n S) (length-drop n S) c
         let u : q ∷ R ≡ U = cc in
         subst (λ (x : Event). Progress S w x U) k (record { count = λ p. omega arith; less = inr (omega arith, omega (arith, len, least, ap length u)) })
 
--- every pop takes a state off, as in a table that meets the construction
+-- every pop takes a state off
 abbrev pub PopsSome : Automaton → Type 0
 PopsSome m = (q c n : ℕ) → m .cell q c ≡ pop n → 1 ≤ n
-
-pub pops-some : {g : Grammar} {string : ℕ → List ℕ} {Kernel : ℕ → Source → ℕ → ℕ → Type 0} {m : Automaton} → Exact g string Kernel m → PopsSome m
-pops-some E = λ q c n h. omega (arith, E .popped q c n h .is)
 
 module _ (g : Grammar) (m : Automaton) where
   by-announce : (o : Option Rule) (i : ℕ) (es S w : List ℕ) (e : Event) (U : List ℕ) → tell g m o i es S ≡ on e U → Progress S w e U
