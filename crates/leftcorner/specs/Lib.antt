@@ -23,3 +23,8 @@ pub mod Token
 pub mod Settle
 pub mod Place
 pub mod Correct
+pub mod Progress
+pub mod Bounded
+pub mod Starred
+pub mod Smallest
+pub mod Instance
