@@ -28,3 +28,4 @@ pub mod Bounded
 pub mod Starred
 pub mod Smallest
 pub mod Instance
+pub mod Demand3
