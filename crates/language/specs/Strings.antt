@@ -5,7 +5,7 @@ use mathlib.Core.Logic.{_⊎_, inl, inr}
 use mathlib.Core.List.{List, [], _∷_, _++_}
 use mathlib.Core.Option.{some}
 use Rattle.language.specs.Grammar.{Grammar, Rule, ruleAt, concat, IsTerminal, IsNonterminal}
-use Rattle.language.specs.Derivation.{Tree, Forest, leaf, nil, cons, IsTree, IsForest}
+use Rattle.language.specs.Derivation.{Forest, leaf, nil, cons, IsForest}
 use Rattle.language.specs.Sentence.{In, here, there, Productive, AllProductive, Declared}
 use Rattle.language.specs.Member.{in-right, in-concat, in-concat-right}
 

@@ -5,6 +5,10 @@ pub mod Claim
 pub mod Adequate
 pub mod ReadOff
 pub mod Sources
+pub mod ItemStrings
+pub mod Swap
+pub mod Closure
+pub mod Bridge
 pub mod Run
 pub mod Path
 pub mod Completeness
@@ -19,3 +23,9 @@ pub mod Token
 pub mod Settle
 pub mod Place
 pub mod Correct
+pub mod Progress
+pub mod Bounded
+pub mod Starred
+pub mod Smallest
+pub mod Instance
+pub mod Demand3

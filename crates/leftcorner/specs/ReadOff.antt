@@ -11,12 +11,13 @@ use borrow.Author.Tests.{eqb-true, eq-eqb}
 use Rattle.language.specs.Grammar.{Grammar, at}
 use Rattle.language.specs.Sentence.{In, here, there}
 use Rattle.language.specs.Member.{in-cons, in-map}
-use Rattle.leftcorner.specs.Machine.{Cell, shift, announce, pop, empty}
+use Rattle.leftcorner.specs.Machine.{shift, announce, pop}
 use Rattle.leftcorner.specs.Table.{EntryLine, E, Action, S, N, A, P, ActionLine, L, Table, entryAt, stringOf, sameString, entryFrom, actionFor, groupEntries, cellOf, automaton}
 use Rattle.leftcorner.specs.Construction.{EntryAt, ActionAt, WellFormed}
 
-pub no-one : {A : Type 0} → _≡_ {A = ℕ} 0 1 → A
-no-one e = absurd (omega arith)
+-- two constructors are not the same
+pub clash : {A : Type 0} → _≡_ {A = ℕ} 0 1 → A
+clash e = absurd (omega arith)
 
 -- the string of an entry
 abbrev pub stringAt : Table → ℕ → List ℕ
@@ -55,11 +56,11 @@ action-found (L p Y z ∷ l) q X x m = go (eqb p q && eqb Y X) refl (λ n. actio
     go : (b : Bool) → eqb p q && eqb Y X ≡ b → (In (L q X x) l → (y : Action) × In (L q X y) l × (actionFor l q X ≡ some y)) → (L q X x ≡ L p Y z) ⊎ In (L q X x) l
         → (y : Action) × In (L q X y) (L p Y z ∷ l) × (cond b (some z) (actionFor l q X) ≡ some y)
     go true e rec n = let h = same-place p q Y X e in (z, subst (λ (a : ActionLine). In a (L p Y z ∷ l)) (ap₂ (λ (a b : ℕ). L a b z) (h .0) (h .1)) here, refl)
-    go false e rec (inl k) = let a : p ≡ q = cc in let b : Y ≡ X = cc in let f = place-same p q Y X a b in no-one cc
+    go false e rec (inl k) = let a : p ≡ q = cc in let b : Y ≡ X = cc in let f = place-same p q Y X a b in clash cc
     go false e rec (inr n) = let r = rec n in (r .0, there (r .1), r .2)
 
 action-back : (l : List ActionLine) (q X : ℕ) (y : Action) → actionFor l q X ≡ some y → In (L q X y) l
-action-back [] q X y e = no-one cc
+action-back [] q X y e = clash cc
 action-back (L p Y z ∷ l) q X y e = go (eqb p q && eqb Y X) refl (λ h. action-back l q X y h) e
   where
     go : (b : Bool) → eqb p q && eqb Y X ≡ b → (actionFor l q X ≡ some y → In (L q X y) l) → cond b (some z) (actionFor l q X) ≡ some y → In (L q X y) (L p Y z ∷ l)
@@ -72,14 +73,14 @@ action-back (L p Y z ∷ l) q X y e = go (eqb p q && eqb Y X) refl (λ h. action
 -- ---- entries
 
 entry-found : (l : List EntryLine) (γ : List ℕ) (k j s : ℕ) → at l j ≡ some (E s γ) → (i : ℕ) × (u : ℕ) × (at l i ≡ some (E u γ)) × (entryFrom (suc k) l γ ≡ suc (k + i))
-entry-found [] γ k j s e = no-one cc
+entry-found [] γ k j s e = clash cc
 entry-found (E p δ ∷ l) γ k j s e = go (sameString δ γ) refl j (λ i h. entry-found l γ (suc k) i s h) e
   where
     go : (b : Bool) → sameString δ γ ≡ b → (i : ℕ)
         → ((n : ℕ) → at l n ≡ some (E s γ) → (i : ℕ) × (u : ℕ) × (at l i ≡ some (E u γ)) × (entryFrom (suc (suc k)) l γ ≡ suc (suc k + i)))
         → at (E p δ ∷ l) i ≡ some (E s γ) → (i : ℕ) × (u : ℕ) × (at (E p δ ∷ l) i ≡ some (E u γ)) × (cond b (suc k) (entryFrom (suc (suc k)) l γ) ≡ suc (k + i))
     go true e i rec h = (0, p, ap (λ (m : List ℕ). some (E p m)) (same-string δ γ e), omega arith)
-    go false e zero rec h = let d : δ ≡ γ = cc in let f : sameString δ γ ≡ true = subst (λ (m : List ℕ). sameString m γ ≡ true) (sym d) (string-same γ) in no-one cc
+    go false e zero rec h = let d : δ ≡ γ = cc in let f : sameString δ γ ≡ true = subst (λ (m : List ℕ). sameString m γ ≡ true) (sym d) (string-same γ) in clash cc
     go false e (suc i) rec h = let r = rec i h in (suc (r .0), r .1, r .2, omega (arith, r .3))
 
 -- ---- cells
@@ -100,14 +101,14 @@ module _ (g : Grammar) (t : Table) where
   cell-pop (some (P u)) n e = let k : u ≡ n = cc in ap (λ (x : ℕ). some (P x)) k
 
   pub cell-announce : (o : Option Action) (i : ℕ) (es : List ℕ) → cellOf g t o ≡ announce i es → (o ≡ some (A i)) × (es ≡ groupEntries g t i)
-  cell-announce none i es e = no-one cc
-  cell-announce (some (S u)) i es e = no-one cc
-  cell-announce (some (N u)) i es e = no-one cc
+  cell-announce none i es e = clash cc
+  cell-announce (some (S u)) i es e = clash cc
+  cell-announce (some (N u)) i es e = clash cc
   cell-announce (some (A u)) i es e =
       let k : u ≡ i = cc in
       let f : groupEntries g t u ≡ es = cc in
       (ap (λ (x : ℕ). some (A x)) k, sym f ∙ ap (groupEntries g t) k)
-  cell-announce (some (P u)) i es e = no-one cc
+  cell-announce (some (P u)) i es e = clash cc
 
   -- a filled cell's line
   pub shift-line : (q a s : ℕ) → automaton g t .cell q a ≡ shift s → ActionAt g t q a (S s)
@@ -126,7 +127,7 @@ module _ (g : Grammar) (t : Table) where
 
     -- and the entry with a string is the one that is found for it
     pub entry-is : (e s : ℕ) (γ : List ℕ) → EntryAt g t e s γ → entryFrom 1 (t .entries) γ ≡ e
-    entry-is zero s γ h = no-one cc
+    entry-is zero s γ h = clash cc
     entry-is (suc j) s γ h =
         let r = entry-found (t .entries) γ 0 j s h in
         let k : suc (r .0) ≡ suc j = W .one-entry (suc (r .0)) (suc j) (r .1) s γ (r .2) h in

@@ -1,5 +1,5 @@
 -- Sources and item numbers: what an item's number says of its symbols, of its recognition point and of the moves of its dot.
-use Prim.Native.Nat.{ℕ, zero, suc, _+_, _-_, _≤_, _<_}
+use Prim.Native.Nat.{ℕ, zero, suc, _-_, _≤_, _<_}
 use native.Mathlib.Omega.{arith}
 use mathlib.Core.Path.{_≡_, refl, sym, ap, _∙_, subst}
 use mathlib.Core.Bool.{Bool, false, cond}
@@ -13,7 +13,7 @@ use Rattle.language.specs.Sentence.{In}
 use Rattle.leftcorner.specs.Table.{E, Table, entryAt, stringOf, rightOf, markOf, ruleCount, symbolsOf, recognitionPoint, Goes}
 use Rattle.leftcorner.specs.Construction.{entryItem, EntryAt, KernelAt}
 use Rattle.leftcorner.specs.Adequate.{Source, rule, entry, beforeOf, afterOf, track, behind}
-use Rattle.leftcorner.specs.ReadOff.{no-one, stringAt}
+use Rattle.leftcorner.specs.ReadOff.{clash, stringAt}
 
 -- ---- cutting a string at the dot
 
@@ -24,13 +24,13 @@ drop-cut (suc k) [] b X β l e = absurd (omega arith)
 drop-cut (suc k) (x ∷ a) b X β l e = drop-cut k a b X β (omega arith) e
 
 drop-join : (k : ℕ) (a b : List ℕ) (X : ℕ) (α : List ℕ) → drop k a ≡ X ∷ α → (k < length a) × (drop k (a ++ b) ≡ X ∷ (α ++ b))
-drop-join zero [] b X α e = no-one cc
+drop-join zero [] b X α e = clash cc
 drop-join zero (x ∷ a) b X α e = (omega arith, ap (λ (l : List ℕ). l ++ b) e)
-drop-join (suc k) [] b X α e = no-one cc
+drop-join (suc k) [] b X α e = clash cc
 drop-join (suc k) (x ∷ a) b X α e = let r = drop-join k a b X α e in (omega (arith, r .0), r .1)
 
 at-low : {A : Type 0} (l : List A) (i : ℕ) (x : A) → at l i ≡ some x → suc i ≤ length l
-at-low [] i x e = no-one cc
+at-low [] i x e = clash cc
 at-low (y ∷ l) zero x e = omega arith
 at-low (y ∷ l) (suc i) x e = omega (arith, at-low l i x e)
 
@@ -40,7 +40,7 @@ module _ (g : Grammar) (t : Table) where
   rule-low (suc i) r e = at-low (g .rules) i r e
 
   entry-high : (e s : ℕ) (γ : List ℕ) → EntryAt g t e s γ → 1 ≤ e
-  entry-high zero s γ h = no-one cc
+  entry-high zero s γ h = clash cc
   entry-high (suc e) s γ h = omega arith
 
   -- "Item i up to r is rule i; item r+k is the string of entry line k."
@@ -101,7 +101,7 @@ module _ (g : Grammar) (t : Table) where
         ; unmarked = λ m. let f : some (length (r .before)) ≡ some k = sym (point-rule i r e) ∙ m in let l : length (r .before) ≡ k = cc in omega (arith, j .0, l) }
   goes-of k X α (entry-item e s γ a) h = record
     { before = ap (drop k) (symbols-entry e s γ a) ∙ h ∙ ap (λ (l : List ℕ). X ∷ l) (sym (append-nil α))
-    ; unmarked = λ m. let f : none ≡ some k = sym (point-entry e s γ a) ∙ m in no-one cc }
+    ; unmarked = λ m. let f : none ≡ some k = sym (point-entry e s γ a) ∙ m in clash cc }
 
   -- where the dot is not past the recognition point
   pub moves-at : {ι : Source} {i : ℕ} (k X : ℕ) (β : List ℕ) → IsItem ι i → ((m : ℕ) → recognitionPoint g t i ≡ some m → k ≤ m) → Goes g t i k X β
