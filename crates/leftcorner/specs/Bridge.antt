@@ -2,7 +2,7 @@
 use Prim.Native.Nat.{ℕ, zero, suc}
 use native.Mathlib.Omega.{arith}
 use mathlib.Core.Path.{_≡_, refl, sym, ap, _∙_, subst}
-use mathlib.Core.List.{List, [], _∷_, _++_, map}
+use mathlib.Core.List.{List, [], _∷_, _++_, map, map-append}
 use mathlib.Core.Option.{Option, some, none}
 use lib.ListN.{length, drop}
 use Rattle.language.specs.Grammar.{Grammar, Rule, ruleAt, right, concat, IsTerminal}
@@ -17,10 +17,6 @@ use Rattle.leftcorner.specs.Adequate.{Source, rule, entry, track, behind
 use Rattle.leftcorner.specs.ReadOff.{clash, stringAt, shift-line, pop-line, announce-line, action-is, found-entry, found-strings}
 use Rattle.leftcorner.specs.Sources.{IsItem, rule-item, entry-item, KernelCode, one-source, rule-number, entry-number, goes-of, moves-at}
 use Rattle.leftcorner.specs.Closure.{has-of, source-of, line-moves, not-past, carries-of}
-
-map-append : {A B : Type 0} (f : A → B) (l m : List A) → map f (l ++ m) ≡ map f l ++ map f m
-map-append f [] m = refl
-map-append {B = B} f (x ∷ l) m = ap (λ (k : List B). f x ∷ k) (map-append f l m)
 
 -- an action without a next state is not forgotten
 forget-same : (y x : Action) → nextState x ≡ none → forget y ≡ x → y ≡ x
