@@ -1,16 +1,16 @@
 -- The rules that a derivation's trace announces are its listing, and the unit rules among them its unit count.
-use Prim.Native.Nat.{ℕ, zero, suc, _+_}
+use Prim.Native.Nat.{ℕ, suc, _+_}
 use native.Mathlib.Omega.{arith}
 use mathlib.Core.Path.{_≡_, refl, sym, ap, ap₂, _∙_}
 use mathlib.Core.List.{List, [], _∷_, _++_, append-assoc}
-use mathlib.Core.Option.{Option, some, none}
+use mathlib.Core.Option.{Option, some}
 use lib.ListN.{length, take, drop}
 use lib.Seq.{take-append-seam, drop-append-seam}
 use Rattle.language.specs.Grammar.{Grammar, Rule, ruleAt, concat}
-use Rattle.language.specs.Derivation.{Tree, Forest, leaf, node, nil, cons, _⧺_, All, all-left, all-right, tree-ind, IsTree, IsForest, Split, split}
-use Rattle.language.specs.Listing.{around, isUnit, listing, listings, units, unitsAll, unitsIn}
+use Rattle.language.specs.Derivation.{Tree, Forest, node, nil, cons, _⧺_, All, all-left, all-right, tree-ind, IsTree, IsForest, split}
+use Rattle.language.specs.Listing.{around, listing, listings, units, unitsAll, unitsIn}
 use Rattle.language.specs.Lists.{concat-++}
-use Rattle.language.specs.Trace.{Event, shifted, announced, closed, rulesOf, flat, closings, trace, traces, trace-node, closings-cons}
+use Rattle.language.specs.Trace.{Event, announced, closed, rulesOf, flat, closings, trace, traces, trace-node, closings-cons}
 
 -- the rules that events announce
 abbrev pub listed : List Event → List ℕ
@@ -59,7 +59,9 @@ module _ (g : Grammar) where
       rw (s .cut)
       (ap listed (closings-cons g (s .front) (s .back) γ γs (s .front-is))
       ∙ listed-++ (flat (traces g (s .front))) (closed ∷ closings γs (traces g (s .back)))
-      ∙ ap₂ (λ (l n : List ℕ). l ++ n) (forest-lists (s .front) (all-left Lists (s .front) (s .back) b) γ (s .front-is)) (groups-list γs (s .back) (all-right Lists (s .front) (s .back) b) (s .back-is))
+      ∙ ap₂ (λ (l n : List ℕ). l ++ n)
+          (forest-lists (s .front) (all-left Lists (s .front) (s .back) b) γ (s .front-is))
+          (groups-list γs (s .back) (all-right Lists (s .front) (s .back) b) (s .back-is))
       ∙ sym (ap concat (listings-⧺ (s .front) (s .back)) ∙ concat-++ (listings g (s .front)) (listings g (s .back))))
 
   node-lists : (i : ℕ) (F : Forest) → All Lists F → Lists (node i F)
@@ -71,7 +73,9 @@ module _ (g : Grammar) where
       rw (s .cut)
       (ap listed (trace-node g i r (s .front) (s .back) (h .1) (s .front-is))
       ∙ listed-++ (flat (traces g (s .front))) (announced i ∷ closings (r .groups) (traces g (s .back)))
-      ∙ ap₂ (λ (l n : List ℕ). l ++ i ∷ n) (forest-lists (s .front) (all-left Lists (s .front) (s .back) b) (r .before) (s .front-is)) (groups-list (r .groups) (s .back) (all-right Lists (s .front) (s .back) b) (s .back-is))
+      ∙ ap₂ (λ (l n : List ℕ). l ++ i ∷ n)
+          (forest-lists (s .front) (all-left Lists (s .front) (s .back) b) (r .before) (s .front-is))
+          (groups-list (r .groups) (s .back) (all-right Lists (s .front) (s .back) b) (s .back-is))
       ∙ sym (listing-node i r (s .front) (s .back) (h .1) (s .front-is)))
 
   pub listed-trace : (T : Tree) (X : ℕ) → IsTree g T X → listed (trace g T) ≡ listing g T

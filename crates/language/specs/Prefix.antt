@@ -1,7 +1,7 @@
 -- Sentences and their beginnings, moved along equations and cut shorter.
 use Prim.Native.Nat.{ℕ}
-use mathlib.Core.Path.{_≡_, sym, ap, _∙_}
-use mathlib.Core.List.{List, [], _∷_, _++_, append-assoc, append-nil}
+use mathlib.Core.Path.{_≡_, sym, _∙_}
+use mathlib.Core.List.{List, [], _++_, append-assoc, append-nil}
 use Rattle.language.specs.Grammar.{Grammar}
 use Rattle.language.specs.Sentence.{Sentence, BeginsSentence}
 

@@ -1,11 +1,11 @@
 -- A trace tells its tree: `replay` rebuilds trees from events alone, with no table at all. So two derivations with one trace are one.
 use Prim.Native.Nat.{ℕ, zero, suc}
-use mathlib.Core.Path.{_≡_, refl, sym, ap, ap₂, _∙_, subst}
+use mathlib.Core.Path.{_≡_, refl, sym, ap, ap₂, _∙_}
 use mathlib.Core.List.{List, [], _∷_, _++_, reverseAux}
 use mathlib.Core.Option.{Option, some, none}
 use lib.ListN.{length, length-reverse}
 use Rattle.language.specs.Grammar.{Grammar, Rule, ruleAt, concat}
-use Rattle.language.specs.Derivation.{Tree, Forest, leaf, node, nil, cons, _⧺_, All, all-left, all-right, tree-ind, IsTree, IsForest, Split, split, no-tree}
+use Rattle.language.specs.Derivation.{Tree, Forest, leaf, node, nil, cons, _⧺_, All, all-left, all-right, tree-ind, IsTree, IsForest, split, no-tree}
 use Rattle.language.specs.Trace.{Event, shifted, announced, closed, flat, closings, trace, traces, trace-node, closings-cons}
 
 -- ---- forests kept in reverse, the newest tree first
@@ -62,7 +62,6 @@ drop-seam (cons T F) G = drop-seam F G
 -- ---- the frames of rules whose groups are not all closed yet
 
 -- a rule announced: its subtrees so far, newest first; the groups to come after the one that is read now; the trees below
-
 pub record Frame : Type 0 where
   pub rule : ℕ
   pub children : Forest
@@ -79,10 +78,12 @@ abbrev pub built : ℕ → Forest → ℕ → Forest → List Frame → Shape
 built i kids zero under fs = record { now = cons (node i (onto kids nil)) under; frames = fs }
 built i kids (suc m) under fs = record { now = nil; frames = record { rule = i; children = kids; more = m; under = under } ∷ fs }
 
+-- a rule is announced over the newest trees
 abbrev pub opened : Option Rule → ℕ → Shape → Shape
 opened none i s = s
 opened (some r) i s = built i (takeF (length (r .before)) (s .now)) (length (r .groups)) (dropF (length (r .before)) (s .now)) (s .frames)
 
+-- a group is closed: its trees go to the rule that waits for it
 abbrev pub shut : List Frame → Forest → Shape
 shut [] F = record { now = F; frames = [] }
 shut (f ∷ fs) F = built (f .rule) (F ⧺ f .children) (f .more) (f .under) fs
@@ -169,10 +170,12 @@ module _ (g : Grammar) where
       rw (s .cut)
       (ap (λ (τ : List Event). replay τ (record { now = G; frames = fs })) (trace-node g i r (s .front) (s .back) (h .1) (s .front-is))
       ∙ replay-++ (flat (traces g (s .front))) (announced i ∷ closings (r .groups) (traces g (s .back))) (record { now = G; frames = fs })
-      ∙ ap (replay (announced i ∷ closings (r .groups) (traces g (s .back)))) (forest (s .front) (all-left Rebuilt (s .front) (s .back) a′) (r .before) G fs (s .front-is))
+      ∙ ap (replay (announced i ∷ closings (r .groups) (traces g (s .back))))
+          (forest (s .front) (all-left Rebuilt (s .front) (s .back) a′) (r .before) G fs (s .front-is))
       ∙ ap (replay (closings (r .groups) (traces g (s .back)))) (opened-at (ruleAt g i) r i (s .front) G fs (h .1) (s .front-is))
       ∙ groups (r .groups) (s .back) (all-right Rebuilt (s .front) (s .back) a′) (s .back-is) i (onto (s .front) nil) G fs
-      ∙ ap (λ (H : Forest). record { now = cons (node i H) G; frames = fs }) (ap (λ (H : Forest). onto H nil) (onto-split (s .front) (s .back) nil) ∙ onto-twice (s .front ⧺ s .back)))
+      ∙ ap (λ (H : Forest). record { now = cons (node i H) G; frames = fs })
+          (ap (λ (H : Forest). onto H nil) (onto-split (s .front) (s .back) nil) ∙ onto-twice (s .front ⧺ s .back)))
 
   rebuilt : (T : Tree) → Rebuilt T
   unfolding Rebuilt

@@ -1,6 +1,6 @@
 -- The events of a derivation, in the order in which a left-corner walk meets them. Closing a group is an event too: it makes a
 -- trace decodable, which a listing is not under left recursion.
-use Prim.Native.Nat.{ℕ, zero, suc}
+use Prim.Native.Nat.{ℕ, suc}
 use mathlib.Core.Path.{_≡_, refl, sym, ap, ap₂, _∙_}
 use mathlib.Core.List.{List, [], _∷_, _++_}
 use mathlib.Core.Option.{Option, some, none}

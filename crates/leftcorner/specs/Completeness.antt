@@ -2,14 +2,14 @@
 use Prim.Native.Nat.{ℕ, zero, suc}
 use mathlib.Core.Path.{_≡_, refl, sym, ap, _∙_, subst}
 use mathlib.Core.List.{List, [], _∷_, _++_, map, append-assoc, append-nil}
-use mathlib.Core.Option.{Option, some, none}
+use mathlib.Core.Option.{some}
 use lib.ListN.{length, drop}
 use lib.Seq.{append-snoc}
 use Rattle.language.specs.Grammar.{Grammar, Rule, ruleAt, concat}
-use Rattle.language.specs.Derivation.{Tree, Forest, leaf, node, nil, cons, _⧺_, yield, yields, yields-⧺, All, all-left, all-right, tree-ind, all-ind, IsTree, IsForest, Split, split, join, no-tree}
+use Rattle.language.specs.Derivation.{Tree, Forest, leaf, node, nil, cons, _⧺_, yield, yields, yields-⧺, All, all-left, all-right, tree-ind, all-ind, IsTree, IsForest, split, join, no-tree}
 use Rattle.language.specs.First.{next, First}
 use Rattle.language.specs.Lists.{drop-next, next-join}
-use Rattle.language.specs.Trace.{Event, shifted, announced, closed, flat, closings, trace, traces, trace-node, closings-cons}
+use Rattle.language.specs.Trace.{shifted, announced, closed, flat, closings, trace, traces, trace-node, closings-cons}
 use Rattle.leftcorner.specs.Machine.{Cell, announce, Automaton, on, act}
 use Rattle.leftcorner.specs.Adequate.{Source, rule, entry, track, behind, beforeOf, Holds, kernel, closure, Complete, Exact}
 use Rattle.leftcorner.specs.Run.{Run, stop, more, run-++}
@@ -30,10 +30,13 @@ first-++ g F α β w d h f =
     record
       { forest = F ⧺ f .forest
       ; derives = join g α β F (f .forest) h (f .derives)
-      ; begins = ap (λ (l : List ℕ). next l d) (yields-⧺ F (f .forest)) ∙ next-join (yields F) (yields (f .forest)) d ∙ ap (next (yields F)) (f .begins) ∙ sym (next-join (yields F) w 0)
+      ; begins =
+          ap (λ (l : List ℕ). next l d) (yields-⧺ F (f .forest)) ∙ next-join (yields F) (yields (f .forest)) d
+          ∙ ap (next (yields F)) (f .begins) ∙ sym (next-join (yields F) w 0)
       }
 
-module _ {g : Grammar} {string : ℕ → List ℕ} {Kernel : ℕ → Source → ℕ → ℕ → Type 0} {m : Automaton} (C : Complete g string Kernel m) (E : Exact g string Kernel m) where
+module _ {g : Grammar} {string : ℕ → List ℕ} {Kernel : ℕ → Source → ℕ → ℕ → Type 0} {m : Automaton}
+    (C : Complete g string Kernel m) (E : Exact g string Kernel m) where
   -- the entries of an announce are its rule's groups
   pub groups-are : {q c i : ℕ} {es : List ℕ} {r : Rule} → m .cell q c ≡ announce i es → ruleAt g i ≡ some r → map string es ≡ r .groups
   groups-are {q} {c} {i} {es} h e =
@@ -79,7 +82,10 @@ module _ {g : Grammar} {string : ℕ → List ℕ} {Kernel : ℕ → Source → 
   group-walks F a e εs s ρ w h K =
       run-++ g m
       (forest-walks F a (string e) [] (m .enter e) (map (m .enter) εs ++ s ∷ ρ) (entry e) zero (next w 0) w h (kernel K) (sym (append-nil (string e))) first-nil)
-      (more (close-step g m (m .enter e) (string e) (map (m .enter) εs ++ s ∷ ρ) (next w 0) (C .pops (rw (far-zero (string e)) at held)) ∙ pop-groups g m εs s ρ (next w 0)) stop)
+      (more
+        (close-step g m (m .enter e) (string e) (map (m .enter) εs ++ s ∷ ρ) (next w 0) (C .pops (rw (far-zero (string e)) at held))
+        ∙ pop-groups g m εs s ρ (next w 0))
+        stop)
     where
       held : Holds g string Kernel (last m (m .enter e) (string e)) (entry e) (far zero (string e)) (next w 0)
       held = walked (string e) [] (m .enter e) (entry e) zero (next w 0) (kernel K) (sym (append-nil (string e)))
@@ -96,12 +102,14 @@ module _ {g : Grammar} {string : ℕ → List ℕ} {Kernel : ℕ → Source → 
       let all : All Walks (G ⧺ H) = rw (← c .cut) a in
       let K : Kernel (m .enter e) (entry e) zero (next (yields H ++ w) 0)
             = C .group δs e εs er hold x u (record { forest = H; derives = c .back-is; begins = next-end (yields H) w d n }) in
-      rw (c .cut, closings-cons g G H (string e) (map string εs) (c .front-is), yields-⧺ G H, append-assoc (yields G) (yields H) w, ← append-snoc (flat (traces g G)) closed (closings (map string εs) (traces g H)))
+      rw ( c .cut, closings-cons g G H (string e) (map string εs) (c .front-is), yields-⧺ G H, append-assoc (yields G) (yields H) w
+         , ← append-snoc (flat (traces g G)) closed (closings (map string εs) (traces g H)))
       (run-++ g m (group-walks G (all-left Walks G H all) e εs s ρ (yields H ++ w) (c .front-is) K)
         (groups-walk εs (δs ++ e ∷ []) H (all-right Walks G H all) p b i d r es s ρ w (c .back-is) er hold x (u ∙ sym (append-snoc δs e εs)) n))
 
   -- a rule at its recognition point, d before w: it is announced, and its groups are walked
-  pub rule-walks : (H : Forest) → All Walks H → (i : ℕ) (r : Rule) (q : ℕ) (ρ : List ℕ) (d : ℕ) (w : List ℕ) → IsForest g H (concat (r .groups)) → ruleAt g i ≡ some r
+  pub rule-walks : (H : Forest) → All Walks H → (i : ℕ) (r : Rule) (q : ℕ) (ρ : List ℕ) (d : ℕ) (w : List ℕ)
+      → IsForest g H (concat (r .groups)) → ruleAt g i ≡ some r
       → Holds g string Kernel (last m q (r .before)) (rule i) (length (r .before)) d → d ≡ next w 0
       → Run g m (gotos m q (r .before) ρ) (yields H ++ w) (announced i ∷ closings (r .groups) (traces g H)) (m .goto q (r .left) ∷ q ∷ ρ) w
   rule-walks H a i r q ρ d w h er hold n =
@@ -109,7 +117,9 @@ module _ {g : Grammar} {string : ℕ → List ℕ} {Kernel : ℕ → Source → 
       let gs : map string (a₀ .0) ≡ r .groups = groups-are (a₀ .1) er in
       let h′ : IsForest g H (concat (map string (a₀ .0))) = rw gs h in
       more (announce-step g m i r (a₀ .0) q ρ (next (yields H ++ w) 0) er (a₀ .1))
-        (subst (λ (l : List (List ℕ)). Run g m (map (m .enter) (a₀ .0) ++ m .goto q (r .left) ∷ q ∷ ρ) (yields H ++ w) (closings l (traces g H)) (m .goto q (r .left) ∷ q ∷ ρ) w) gs
+        (subst
+          (λ (l : List (List ℕ)). Run g m (map (m .enter) (a₀ .0) ++ m .goto q (r .left) ∷ q ∷ ρ) (yields H ++ w) (closings l (traces g H)) (m .goto q (r .left) ∷ q ∷ ρ) w)
+          gs
           (groups-walk (a₀ .0) [] H a (last m q (r .before)) (next (yields H ++ w) 0) i d r (a₀ .0) (m .goto q (r .left)) (q ∷ ρ) w h′ er hold (a₀ .1) refl n))
 
   node-walks : (i : ℕ) (F : Forest) → All Walks F → Walks (node i F)

@@ -1,11 +1,11 @@
 -- Demand 3 for one list of tokens, but for lent lengths: how the walk ends, what it lists, and that it is safe.
-use Prim.Native.Nat.{ℕ, zero, suc, _+_, _≤_, _<_, max}
+use Prim.Native.Nat.{ℕ, zero, suc, _+_, _≤_, max}
 use native.Mathlib.Omega.{arith}
 use native.Mathlib.Nat.{not-suc-le-zero}
 use mathlib.Core.Path.{_≡_, refl, sym, ap, _∙_, subst}
 use mathlib.Core.List.{List, [], _∷_, _++_, append-assoc, append-nil}
-use lib.ListN.{length, take, drop, length-append}
-use lib.Seq.{take-append-seam, take-length}
+use lib.ListN.{length, take, length-append}
+use lib.Seq.{take-append-seam}
 use Rattle.language.specs.Grammar.{Grammar, IsTerminal}
 use Rattle.language.specs.Derivation.{Tree, yield, IsTree}
 use Rattle.language.specs.Listing.{listing, units, unitsIn}
@@ -13,7 +13,7 @@ use Rattle.language.specs.Announced.{listed, listed-trace, units-listed}
 use Rattle.language.specs.Trace.{trace}
 use Rattle.language.specs.Sentence.{In, Sentence, BeginsSentence}
 use Rattle.language.specs.First.{next}
-use Rattle.leftcorner.specs.Machine.{pop, Automaton, Event, rulesOf, Outcome, on, whole, wrong, toCome, taken, step, start, Ending, accepted, failed, Walk, ends-whole, ends-wrong, goes-on}
+use Rattle.leftcorner.specs.Machine.{pop, Automaton, Event, on, whole, toCome, taken, step, start, Ending, accepted, failed, Walk, ends-whole, ends-wrong, goes-on}
 use Rattle.leftcorner.specs.Claim.{_↔_, WrongAt, at-token, at-end, Within, begins, steps, Safe}
 use Rattle.leftcorner.specs.Adequate.{Source, Complete, Exact}
 use Rattle.leftcorner.specs.Run.{Run, stop, more, run-unique}
@@ -73,7 +73,8 @@ wrong-place g u (a ∷ x) w e b n =
         long : suc (length u) ≡ length (u ++ a ∷ [])
         long = omega (arith, length-append u (a ∷ []))
 
-module _ {g : Grammar} {string : ℕ → List ℕ} {Kernel : ℕ → Source → ℕ → ℕ → Type 0} {m : Automaton} (C : Complete g string Kernel m) (E : Exact g string Kernel m) where
+module _ {g : Grammar} {string : ℕ → List ℕ} {Kernel : ℕ → Source → ℕ → ℕ → Type 0} {m : Automaton}
+    (C : Complete g string Kernel m) (E : Exact g string Kernel m) where
   -- a step takes as many tokens as it leaves fewer to come
   counts : {S u U : List ℕ} {c : ℕ} {e : Event} → Does C E S u c (on e U) → (w : List ℕ) → next w 0 ≡ c → (p : ℕ) → taken e p + length (toCome e w) ≡ p + length w
   counts (takes s le st b) [] n p = absurd (not-suc-le-zero (subst (λ (k : ℕ). 1 ≤ k) (sym n) le))

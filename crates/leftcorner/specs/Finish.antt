@@ -1,20 +1,20 @@
 -- The walk on one code comes to rest, if it does so where an item of the top state is finished without a token: completeness
 -- walks the item to its end.
-use Prim.Native.Nat.{ℕ, zero, suc, _≤_}
+use Prim.Native.Nat.{ℕ}
 use native.Mathlib.Nat.{suc-ne-zero, suc-inj}
-use mathlib.Core.Path.{_≡_, refl, sym, ap, ap₂, _∙_, subst}
+use mathlib.Core.Path.{_≡_, refl, sym, ap, _∙_, subst}
 use mathlib.Core.List.{List, [], _∷_, _++_, append-assoc, append-nil}
-use mathlib.Core.Option.{Option, some}
+use mathlib.Core.Option.{some}
 use lib.ListN.{length, drop, take, take-append-drop}
 use Rattle.language.specs.Grammar.{Grammar, Rule, ruleAt, concat}
 use Rattle.language.specs.Derivation.{Forest, yields, yields-⧺, IsForest, Split, split}
 use Rattle.language.specs.First.{next, First}
 use Rattle.language.specs.Trace.{flat, closings, traces}
-use Rattle.leftcorner.specs.Machine.{Automaton, Event, shifted, announced, closed, Outcome, on, whole, wrong, toCome, step}
-use Rattle.leftcorner.specs.Adequate.{Source, rule, entry, track, behind, beforeOf, Holds, Complete, Exact}
+use Rattle.leftcorner.specs.Machine.{Automaton, Event, shifted, announced, closed, on, whole, wrong, toCome, step}
+use Rattle.leftcorner.specs.Adequate.{Source, rule, track, behind, beforeOf, Holds, Complete, Exact}
 use Rattle.leftcorner.specs.Run.{Run, stop, more, run-++}
-use Rattle.leftcorner.specs.Path.{far, far-drop, gotos, last, gotos-++, last-++}
-use Rattle.leftcorner.specs.Completeness.{next-end, first-nil, walked, forest-walks, rule-walks, walks-all}
+use Rattle.leftcorner.specs.Path.{far-drop, gotos, last, gotos-++, last-++}
+use Rattle.leftcorner.specs.Completeness.{next-end, walked, forest-walks, rule-walks, walks-all}
 
 -- an event that takes no token
 abbrev pub Quiet : Event → Type 0
@@ -46,7 +46,8 @@ nothing-read [] d e = refl
 nothing-read (x ∷ []) d e = absurd (suc-ne-zero 0 (suc-inj (sym (ap length e))))
 nothing-read (x ∷ y ∷ l) d e = absurd (suc-ne-zero (length (l ++ d ∷ [])) (suc-inj (sym (ap length e))))
 
-module _ {g : Grammar} {string : ℕ → List ℕ} {Kernel : ℕ → Source → ℕ → ℕ → Type 0} {m : Automaton} (C : Complete g string Kernel m) (E : Exact g string Kernel m) where
+module _ {g : Grammar} {string : ℕ → List ℕ} {Kernel : ℕ → Source → ℕ → ℕ → Type 0} {m : Automaton}
+    (C : Complete g string Kernel m) (E : Exact g string Kernel m) where
   -- an item within its track γ, above its beginning, can be moved to the end
   pub held-end : (ι : Source) (γ : List ℕ) → track g string ι ≡ γ → (n d p : ℕ) (S : List ℕ) (b : ℕ) (U : List ℕ) → Holds g string Kernel p ι n d
       → length (take n γ) ≡ n → p ∷ S ≡ gotos m b (take n γ) U → Holds g string Kernel (last m b γ) ι (length γ) d

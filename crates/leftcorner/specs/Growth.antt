@@ -1,12 +1,12 @@
 -- A chain of rules that add no token cannot come back to a left side: a tree that grew without a token would give one sentence
 -- two derivations of different size.
-use Prim.Native.Nat.{ℕ, zero, suc, _+_, _≤_, _<_}
+use Prim.Native.Nat.{ℕ, zero, suc, _≤_, _<_}
 use native.Mathlib.Omega.{arith}
 use mathlib.Core.Logic.{_⊎_, inl, inr}
 use mathlib.Core.Path.{_≡_, refl, sym, ap, _∙_, subst}
 use mathlib.Core.List.{List, [], _∷_, _++_, map, append-nil}
-use mathlib.Core.Option.{Option, some, none}
-use lib.ListN.{length, drop}
+use mathlib.Core.Option.{some, none}
+use lib.ListN.{length}
 use Rattle.language.specs.Grammar.{Grammar, Rule, at, ruleAt, right}
 use Rattle.language.specs.Derivation.{Tree, Forest, node, cons, yield, yields, size, IsTree, IsForest, but-first}
 use Rattle.language.specs.Sentence.{In, here, there}
@@ -99,7 +99,8 @@ module _ (g : Grammar) where
       pick (inl x) = now (in-without k x)
       pick (inr x) = inr (λ N hN. let o = grown i r Z a Y x N hN in (o .0, o .1, o .2, omega (arith, o .3)))
 
-module _ {g : Grammar} {string : ℕ → List ℕ} {Kernel : ℕ → Source → ℕ → ℕ → Type 0} {m : Automaton} (C : Complete g string Kernel m) (E : Exact g string Kernel m) where
+module _ {g : Grammar} {string : ℕ → List ℕ} {Kernel : ℕ → Source → ℕ → ℕ → Type 0} {m : Automaton}
+    (C : Complete g string Kernel m) (E : Exact g string Kernel m) where
   -- a tree of X cannot grow where X is expected on a stack
   no-growth : (b : ℕ) (U v : List ℕ) (X : ℕ) → Stack C E (b ∷ U) v → Expects C E b X
       → (M W : Tree) → IsTree g M X → IsTree g W X → yield W ≡ yield M → size M < size W → ⊥

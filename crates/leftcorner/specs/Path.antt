@@ -9,7 +9,7 @@ use lib.ListN.{length, drop, take}
 use Rattle.language.specs.Grammar.{Grammar, Rule, ruleAt}
 use Rattle.language.specs.Lists.{drop-next}
 use Rattle.language.specs.First.{next}
-use Rattle.leftcorner.specs.Machine.{Cell, shift, announce, pop, Automaton, Outcome, on, shifted, announced, closed, shiftTo, popTo, land, tell, act, step}
+use Rattle.leftcorner.specs.Machine.{Cell, announce, pop, Automaton, on, shifted, announced, closed, shiftTo, popTo, land, tell, act, step}
 
 -- how far a dot has come
 abbrev pub far : ℕ → List ℕ → ℕ

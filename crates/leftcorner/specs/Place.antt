@@ -1,10 +1,10 @@
 -- The place where tokens go wrong is one at most, and there is none in a sentence.
-use Prim.Native.Nat.{ℕ, zero, suc, _≤_, _<_}
+use Prim.Native.Nat.{ℕ, suc, _≤_, _<_}
 use native.Mathlib.Omega.{arith}
 use native.Mathlib.Decide.{decLt}
-use mathlib.Core.Path.{_≡_, refl, sym, ap, _∙_, subst}
-use mathlib.Core.List.{List, [], _∷_, _++_}
-use lib.ListN.{length, take, drop, take-append-drop}
+use mathlib.Core.Path.{_≡_, sym, subst}
+use mathlib.Core.List.{List}
+use lib.ListN.{take, drop, take-append-drop}
 use lib.Seq.{take-take}
 use Rattle.language.specs.Grammar.{Grammar}
 use Rattle.language.specs.Sentence.{Sentence, BeginsSentence}

@@ -1,27 +1,27 @@
 -- The walk comes to rest: on any code it shifts or ends after finitely many steps. A step that is no shift is asked by an item
 -- that can be finished; finishing it lowers the stack, except for a rule whose one symbol so far is the top's: that replaces
 -- the top, and a chain of such rules meets each left side once.
-use Prim.Native.Nat.{ℕ, zero, suc, _+_, _≤_, _<_}
+use Prim.Native.Nat.{ℕ, zero, suc, _≤_}
 use native.Mathlib.Omega.{arith}
 use native.Mathlib.Nat.{suc-ne-zero, not-suc-le-zero}
-use mathlib.Core.Logic.{_⊎_, inl, inr}
+use mathlib.Core.Logic.{inl, inr}
 use mathlib.Core.Path.{_≡_, refl, sym, ap, ap₂, _∙_, subst}
 use mathlib.Core.List.{List, [], _∷_, _++_, map, append-nil}
 use mathlib.Core.Option.{Option, some, none}
 use lib.ListN.{length, drop, take, take-append-drop}
 use lib.Seq.{drop-length}
-use Rattle.language.specs.Grammar.{Grammar, Rule, ruleAt, concat, right}
+use Rattle.language.specs.Grammar.{Grammar, Rule, ruleAt, concat}
 use Rattle.language.specs.Derivation.{Tree, Forest, node, nil, cons, _⧺_, yield, yields, IsTree, IsForest, join}
 use Rattle.language.specs.First.{next}
 use Rattle.language.specs.Lists.{next-join}
 use Rattle.language.specs.Sentence.{In}
-use Rattle.leftcorner.specs.Machine.{Cell, shift, announce, pop, empty, Automaton, Event, closed, on, whole, wrong, popTo, act, step}
-use Rattle.leftcorner.specs.Adequate.{Source, rule, entry, track, beforeOf, afterOf, Holds, kernel, closure, Complete, Used, goal-entry, Moved, Shifted, Announced, Popped, Exact}
+use Rattle.leftcorner.specs.Machine.{Cell, shift, announce, pop, empty, Automaton, Event, popTo, act, step}
+use Rattle.leftcorner.specs.Adequate.{Source, rule, entry, track, beforeOf, afterOf, Holds, kernel, closure, Complete, Used, goal-entry, Moved, Announced, Popped, Exact}
 use Rattle.leftcorner.specs.Run.{Run, stop, more}
 use Rattle.leftcorner.specs.Path.{gotos, last, gotos-length, close-step, shift-on}
 use Rattle.leftcorner.specs.Completeness.{next-end, first-nil}
 use Rattle.leftcorner.specs.Stack.{ahead, ahead-at, ahead-rule, Expects, Stack, base, push, pend, used, no-empty}
-use Rattle.leftcorner.specs.Back.{not-entry, held-entry, Base, back, parent, closing}
+use Rattle.leftcorner.specs.Back.{not-entry, held-entry, Base, back, parent, Leaves, closing}
 use Rattle.leftcorner.specs.Step.{reads, step-keeps}
 use Rattle.leftcorner.specs.Finish.{Rests, at-whole, at-wrong, at-shift, quietly, run-rests, nothing-read, held-end, track-run, rule-run}
 use Rattle.leftcorner.specs.Growth.{without, without-length, lefts, Alone, Chain, chain-start, onward}
@@ -34,7 +34,8 @@ no-drop : (n X : ℕ) (β : List ℕ) → drop n [] ≡ X ∷ β → ⊥
 no-drop zero X β e = suc-ne-zero (length β) (sym (ap length e))
 no-drop (suc n) X β e = suc-ne-zero (length β) (sym (ap length e))
 
-module _ {g : Grammar} {string : ℕ → List ℕ} {Kernel : ℕ → Source → ℕ → ℕ → Type 0} {m : Automaton} (C : Complete g string Kernel m) (E : Exact g string Kernel m) where
+module _ {g : Grammar} {string : ℕ → List ℕ} {Kernel : ℕ → Source → ℕ → ℕ → Type 0} {m : Automaton}
+    (C : Complete g string Kernel m) (E : Exact g string Kernel m) where
   -- an item whose dot has something before it is of a rule that there is
   is-rule : (i k X : ℕ) (β : List ℕ) → drop k (track g string (rule i)) ≡ X ∷ β → (r : Rule) × (ruleAt g i ≡ some r)
   is-rule i k X β e = go (ruleAt g i) refl
@@ -70,7 +71,8 @@ module _ {g : Grammar} {string : ℕ → List ℕ} {Kernel : ℕ → Source → 
         by-announce i es a =
             let r = a .rule-of in
             let f : ahead C E (rule i) (length (r .before)) ≡ concat (r .groups)
-                  = ap (λ (o : Option Rule). drop (length (r .before)) (beforeOf o) ++ afterOf o) (a .is) ∙ ap (λ (l : List ℕ). l ++ concat (r .groups)) (drop-length (r .before)) in
+                  = ap (λ (o : Option Rule). drop (length (r .before)) (beforeOf o) ++ afterOf o) (a .is)
+                  ∙ ap (λ (l : List ℕ). l ++ concat (r .groups)) (drop-length (r .before)) in
             rises p S K (rule i) (length (r .before)) (a .code) (a .holds) (a .first .forest) (rw f (a .first .derives)) (a .first .begins)
         by-pop : (n : ℕ) → Popped g string Kernel m p c n → Rests g m c (p ∷ S)
         by-pop n x = rises p S K (entry (x .number)) (length (string (x .number))) c (x .holds) nil (rw (drop-length (string (x .number))) tt) refl
@@ -120,7 +122,7 @@ module _ {g : Grammar} {string : ℕ → List ℕ} {Kernel : ℕ → Source → 
         short : length U ≤ h
         short = omega (arith, le, ap length (o .stack-is), gotos-length m b (take n γ) U)
         pick : step g m (gotos m b γ U) c ≡ popTo U c
-            → ((U ≡ []) × (o .read ≡ []) × (e ≡ 1)) ⊎ (((a : ℕ) → popTo U a ≡ on closed U) × Stack C E U (o .read ++ yields (o .trees ⧺ F))) → Rests g m c (gotos m b γ U)
+            → Leaves C E U ((o .read ≡ []) × (e ≡ 1)) (o .read ++ yields (o .trees ⧺ F)) → Rests g m c (gotos m b γ U)
         pick z (inl y) = bottom-rests (gotos m b γ U) (z ∙ ap (λ (l : List ℕ). popTo l c) (y .0))
         pick z (inr y) = quietly tt (z ∙ y .0 c) (ih U (o .read ++ yields (o .trees ⧺ F)) (y .1) short)
 
@@ -161,11 +163,13 @@ module _ {g : Grammar} {string : ℕ → List ℕ} {Kernel : ℕ → Source → 
         is-ahead k z = subst (λ (l : List ℕ). IsForest g F l) (ap₂ (λ (o : Option Rule) (a : ℕ). drop a (beforeOf o) ++ afterOf o) er z) hF
         at-dot : (k : ℕ) → n ≡ k → Kernel (m .goto b Z) (rule i) k d
         at-dot k z = subst (λ (a : ℕ). Kernel (m .goto b Z) (rule i) a d) z K
-        by-dot : (k : ℕ) → n ≡ suc k → Holds g string Kernel b (rule i) k (y .code) → drop k (track g string (rule i)) ≡ Z ∷ y .rest → Rests g m c (m .goto b Z ∷ b ∷ U)
+        by-dot : (k : ℕ) → n ≡ suc k → Holds g string Kernel b (rule i) k (y .code)
+            → drop k (track g string (rule i)) ≡ Z ∷ y .rest → Rests g m c (m .goto b Z ∷ b ∷ U)
         by-dot zero is hold th =
             let f : r .before ≡ Z ∷ y .rest = ap beforeOf (sym er) ∙ th in
             let a = one-taken (r .before) Z (y .rest) f in
-            rule-rests (m .goto b Z) (b ∷ U) (v ++ yield M) st 1 i d r b U F er (at-dot 1 is) (ap length (a .0)) (ap (λ (l : List ℕ). gotos m b l U) (sym (a .0))) (is-ahead 1 is) x
+            rule-rests (m .goto b Z) (b ∷ U) (v ++ yield M) st 1 i d r b U F er (at-dot 1 is) (ap length (a .0))
+              (ap (λ (l : List ℕ). gotos m b l U) (sym (a .0))) (is-ahead 1 is) x
               (λ nul v′ s′. up i r
                 (record
                   { is = er; rest = y .rest ++ concat (r .groups); right-is = ap (λ (l : List ℕ). l ++ concat (r .groups)) f; forest = F
@@ -177,7 +181,8 @@ module _ {g : Grammar} {string : ℕ → List ℕ} {Kernel : ℕ → Source → 
             let long : length (take (suc (suc k)) (r .before)) ≡ suc (suc k) = rw f at (o .long) in
             let stk : m .goto b Z ∷ b ∷ U ≡ gotos m (o .bottom) (take (suc (suc k)) (r .before)) (o .under)
                   = subst (λ (l : List ℕ). m .goto b Z ∷ b ∷ U ≡ gotos m (o .bottom) (take (suc (suc k)) l) (o .under)) f (o .stack-is) in
-            rule-rests (m .goto b Z) (b ∷ U) (v ++ yield M) st (suc (suc k)) i d r (o .bottom) (o .under) F er (at-dot (suc (suc k)) is) long stk (is-ahead (suc (suc k)) is) x
+            rule-rests (m .goto b Z) (b ∷ U) (v ++ yield M) st (suc (suc k)) i d r (o .bottom) (o .under) F er (at-dot (suc (suc k)) is) long stk
+              (is-ahead (suc (suc k)) is) x
               (λ nul v′ s′. ih (m .goto (o .bottom) (r .left) ∷ o .bottom ∷ o .under) v′ s′
                 (omega (arith, le, long, ap length stk, gotos-length m (o .bottom) (take (suc (suc k)) (r .before)) (o .under))))
 
@@ -203,7 +208,8 @@ module _ {g : Grammar} {string : ℕ → List ℕ} {Kernel : ℕ → Source → 
 
     -- ---- by the height of the stack
 
-    entered-rests : (h : ℕ) → Shorter h → (e : ℕ) (S u : List ℕ) → Used g string Kernel m e → Stack C E (m .enter e ∷ S) u → length (m .enter e ∷ S) ≤ suc h → Rests g m c (m .enter e ∷ S)
+    entered-rests : (h : ℕ) → Shorter h → (e : ℕ) (S u : List ℕ) → Used g string Kernel m e → Stack C E (m .enter e ∷ S) u
+        → length (m .enter e ∷ S) ≤ suc h → Rests g m c (m .enter e ∷ S)
     entered-rests h ih e S u us s le = state-rests (m .enter e) S items
       where
         items : Kernels (m .enter e) S
@@ -215,7 +221,8 @@ module _ {g : Grammar} {string : ℕ → List ℕ} {Kernel : ℕ → Source → 
     taller h ih S u (push {q = b} {X = Z} {S = U} {u = v} s ex M hM) le =
         chain (length (lefts (g .rules))) h ih b U v Z s ex M hM (omega (arith, le)) (lefts (g .rules)) (omega arith) (chain-start g Z)
     taller h ih S u (pend {q = b} {S = U} {u = v} s o δs e εs en D hD) le =
-        entered-rests h ih e (map (m .enter) εs ++ m .goto b (o .rule-of .left) ∷ b ∷ U) (v ++ (yields (o .trees) ++ yields D)) (used C E o δs e εs en) (pend s o δs e εs en D hD) le
+        entered-rests h ih e (map (m .enter) εs ++ m .goto b (o .rule-of .left) ∷ b ∷ U) (v ++ (yields (o .trees) ++ yields D))
+          (used C E o δs e εs en) (pend s o δs e εs en D hD) le
 
     shorter : (h : ℕ) → Shorter h
     unfolding Shorter

@@ -1,12 +1,12 @@
 -- Runs of the machine: by these events it comes from one stack to another. A step is a function, so a run that ends is the only
 -- one.
-use Prim.Native.Nat.{ℕ, zero, suc, _≤_}
+use Prim.Native.Nat.{ℕ}
 use native.Mathlib.Omega.{arith}
-use mathlib.Core.Path.{_≡_, refl, sym, ap, ap₂, _∙_, subst}
+use mathlib.Core.Path.{_≡_, refl, sym, ap₂, _∙_, subst}
 use mathlib.Core.List.{List, [], _∷_, _++_}
 use Rattle.language.specs.Grammar.{Grammar}
 use Rattle.language.specs.First.{next}
-use Rattle.leftcorner.specs.Machine.{Automaton, Event, Outcome, on, whole, wrong, step, toCome}
+use Rattle.leftcorner.specs.Machine.{Automaton, Event, on, whole, wrong, step, toCome}
 
 -- ---- outcomes differ
 

@@ -1,15 +1,14 @@
 -- The walk settles every list of tokens: it is a sentence and the walk ends whole, or its front begins a sentence, with the next
 -- token or the end it does not, and the walk is wrong there.
-use Prim.Native.Nat.{ℕ, zero, suc, _≤_}
+use Prim.Native.Nat.{ℕ, _≤_}
 use mathlib.Core.Logic.{_⊎_, inl, inr}
-use mathlib.Core.Path.{_≡_, refl, sym, ap, _∙_, subst}
+use mathlib.Core.Path.{_≡_, refl, sym, subst}
 use mathlib.Core.List.{List, [], _∷_, _++_, append-assoc, append-nil}
 use Rattle.language.specs.Grammar.{Grammar}
-use Rattle.language.specs.Derivation.{yield}
+use Rattle.language.specs.Derivation.{yield, one-tree}
 use Rattle.language.specs.First.{next}
 use Rattle.language.specs.Sentence.{In, here, there, Sentence, BeginsSentence}
 use Rattle.language.specs.Prefix.{sentence-at}
-use Rattle.language.specs.Derivation.{one-tree}
 use Rattle.leftcorner.specs.Machine.{Automaton, Event, whole, wrong, step, start}
 use Rattle.leftcorner.specs.Adequate.{Source, Complete, Exact}
 use Rattle.leftcorner.specs.Run.{Run, stop, run-++, one-end}
@@ -22,7 +21,8 @@ abbrev pub NoneWith : Grammar → List ℕ → List ℕ → Type 0
 NoneWith g u [] = Sentence g u → ⊥
 NoneWith g u (a ∷ y) = BeginsSentence g (u ++ a ∷ []) → ⊥
 
-module _ {g : Grammar} {string : ℕ → List ℕ} {Kernel : ℕ → Source → ℕ → ℕ → Type 0} {m : Automaton} (C : Complete g string Kernel m) (E : Exact g string Kernel m) where
+module _ {g : Grammar} {string : ℕ → List ℕ} {Kernel : ℕ → Source → ℕ → ℕ → Type 0} {m : Automaton}
+    (C : Complete g string Kernel m) (E : Exact g string Kernel m) where
   pub data Settled (w : List ℕ) : Type 0 where
     is-whole : (τ : List Event) (U : List ℕ) → Run g m (start g m) w τ U [] → step g m U 0 ≡ whole → Sentence g w → Settled w
     is-wrong : (u x : List ℕ) (τ : List Event) (U : List ℕ) → u ++ x ≡ w → Run g m (start g m) w τ U x → step g m U (next x 0) ≡ wrong
@@ -50,13 +50,15 @@ module _ {g : Grammar} {string : ℕ → List ℕ} {Kernel : ℕ → Source → 
       go (token C E a (t a here) S u s) (λ S′ s′ b′ R′. from x (u ++ a ∷ []) S′ (λ c i. t c (there i)) s′ b′ R′)
     where
       go : Taken C E a S (u ++ a ∷ []) ⊎ Refused C E a S
-          → ((S′ : List ℕ) → Stack C E S′ (u ++ a ∷ []) → BeginsSentence g (u ++ a ∷ []) → Reach (u ++ a ∷ []) S′ → Settled ((u ++ a ∷ []) ++ x)) → Settled (u ++ a ∷ x)
+          → ((S′ : List ℕ) → Stack C E S′ (u ++ a ∷ []) → BeginsSentence g (u ++ a ∷ []) → Reach (u ++ a ∷ []) S′ → Settled ((u ++ a ∷ []) ++ x))
+          → Settled (u ++ a ∷ x)
       go (inl z) rec =
           subst Settled (append-assoc u (a ∷ []) x)
             (rec (z .after) (z .stack) (z .begins)
               (record
                 { events = R .events ++ z .events
-                ; runs = λ y. subst (λ (l : List ℕ). Run g m (start g m) l (R .events ++ z .events) (z .after) y) (sym (append-assoc u (a ∷ []) y)) (run-++ g m (R .runs (a ∷ y)) (z .runs y)) }))
+                ; runs = λ y. subst (λ (l : List ℕ). Run g m (start g m) l (R .events ++ z .events) (z .after) y) (sym (append-assoc u (a ∷ []) y))
+                    (run-++ g m (R .runs (a ∷ y)) (z .runs y)) }))
       go (inr z) rec =
           is-wrong u (a ∷ x) (R .events ++ z .events) (z .last) refl (run-++ g m (R .runs (a ∷ x)) (z .runs x)) (z .is-wrong) b
             (λ v. not-both (u ++ a ∷ v .remainder) (run-++ g m (R .runs (a ∷ v .remainder)) (z .runs (v .remainder))) (z .is-wrong)

@@ -4,10 +4,10 @@ use Prim.Native.Nat.{ℕ, zero, suc, _+_}
 use native.Mathlib.Omega.{arith}
 use mathlib.Core.Path.{_≡_, refl, sym, ap, ap₂, _∙_}
 use mathlib.Core.List.{List, [], _∷_, _++_, map, map-append, append-assoc, append-nil}
-use mathlib.Core.Option.{Option, some}
-use lib.ListN.{length, drop}
+use mathlib.Core.Option.{some}
+use lib.ListN.{drop}
 use Rattle.language.specs.Grammar.{Grammar, Rule, ruleAt, concat, right}
-use Rattle.language.specs.Derivation.{Tree, Forest, node, nil, cons, _⧺_, yield, yields, yields-⧺, size, sizes, sizes-⧺, IsTree, IsForest, Split, split, join, one-tree, but-first}
+use Rattle.language.specs.Derivation.{Tree, Forest, node, cons, _⧺_, yield, yields, yields-⧺, size, sizes, sizes-⧺, IsTree, IsForest, split, join, one-tree, but-first}
 use Rattle.language.specs.Sentence.{Sentence}
 use Rattle.language.specs.Prefix.{sentence-at}
 use Rattle.language.specs.Lists.{concat-++, drop-next}
@@ -15,7 +15,8 @@ use Rattle.leftcorner.specs.Machine.{announce, Automaton}
 use Rattle.leftcorner.specs.Adequate.{Source, rule, entry, track, behind, beforeOf, afterOf, Holds, kernel, closure, Complete, Used, goal-entry, group-entry, Moved, Exact}
 use Rattle.leftcorner.specs.Completeness.{groups-are}
 
-module _ {g : Grammar} {string : ℕ → List ℕ} {Kernel : ℕ → Source → ℕ → ℕ → Type 0} {m : Automaton} (C : Complete g string Kernel m) (E : Exact g string Kernel m) where
+module _ {g : Grammar} {string : ℕ → List ℕ} {Kernel : ℕ → Source → ℕ → ℕ → Type 0} {m : Automaton}
+    (C : Complete g string Kernel m) (E : Exact g string Kernel m) where
   -- what an item has still to derive
   abbrev pub ahead : Source → ℕ → List ℕ
   ahead ι k = drop k (track g string ι) ++ behind g string ι
@@ -116,7 +117,9 @@ module _ {g : Grammar} {string : ℕ → List ℕ} {Kernel : ℕ → Source → 
         { tail = []
         ; rest = E .rich-goal .0
         ; rest-is = rw (C .goal-string) (E .rich-goal .1)
-        ; fits = λ G hG. let o = one-tree g G (g .goal) (rw (C .goal-string) at hG) in record { tree = o .tree; derives = o .is; yields-it = sym (append-nil (yields G) ∙ o .yield-is) }
+        ; fits = λ G hG.
+            let o = one-tree g G (g .goal) (rw (C .goal-string) at hG) in
+            record { tree = o .tree; derives = o .is; yields-it = sym (append-nil (yields G) ∙ o .yield-is) }
         ; weight = 0
         ; weighs = λ G hG. omega (arith, one-tree g G (g .goal) (rw (C .goal-string) at hG) .size-is)
         })
@@ -156,7 +159,8 @@ module _ {g : Grammar} {string : ℕ → List ℕ} {Kernel : ℕ → Source → 
             = λ G hG. rw here
               ((r, o .is, refl, rw (right-at o δs e εs en)
                 (join g (r .before) (concat (map string δs) ++ (string e ++ concat (map string εs))) B (D ⧺ G ⧺ H) (o .trees-are)
-                  (join g (concat (map string δs)) (string e ++ concat (map string εs)) D (G ⧺ H) hD (join g (string e) (concat (map string εs)) G H (rw (append-nil (string e)) at hG) (s₃ .back-is))))), R .1) in
+                  (join g (concat (map string δs)) (string e ++ concat (map string εs)) D (G ⧺ H) hD
+                    (join g (string e) (concat (map string εs)) G H (rw (append-nil (string e)) at hG) (s₃ .back-is))))), R .1) in
       record
         { tail = yields H ++ (yields (R .0) ++ F .tail)
         ; rest = s₃ .front

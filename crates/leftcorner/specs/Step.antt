@@ -1,23 +1,20 @@
 -- One step above a stack that the machine comes to: it leads to another such stack, or ends. What is shifted begins a sentence
 -- with what was read, whatever foreign lookaheads hold.
 use Prim.Native.Nat.{ℕ, zero, suc, _≤_}
-use mathlib.Core.Logic.{_⊎_, inl, inr}
-use mathlib.Core.Path.{_≡_, refl, sym, ap, ap₂, _∙_, subst}
+use mathlib.Core.Logic.{inl, inr}
+use mathlib.Core.Path.{_≡_, refl, sym, ap, _∙_, subst}
 use mathlib.Core.List.{List, [], _∷_, _++_, map, append-assoc, append-nil}
 use mathlib.Core.Option.{Option, some}
-use lib.ListN.{length, drop}
 use Rattle.language.specs.Grammar.{Grammar, Rule, ruleAt}
-use Rattle.language.specs.Derivation.{Forest, leaf, nil, cons, yields}
-use Rattle.language.specs.First.{next}
+use Rattle.language.specs.Derivation.{leaf, nil, cons, yields, but-first}
 use Rattle.language.specs.Sentence.{Sentence, BeginsSentence}
 use Rattle.language.specs.Prefix.{sentence-at}
-use Rattle.language.specs.Derivation.{but-first}
 use Rattle.leftcorner.specs.Machine.{Cell, shift, announce, pop, empty, Automaton, Event, shifted, announced, closed, Outcome, on, whole, wrong, popTo, land, tell, act, step}
 use Rattle.leftcorner.specs.Claim.{Safe}
 use Rattle.leftcorner.specs.Adequate.{Source, behind, Complete, Shifted, Exact}
 use Rattle.leftcorner.specs.Path.{shift-on}
-use Rattle.leftcorner.specs.Stack.{ahead-at, Expects, Stack, push, no-empty, live}
-use Rattle.leftcorner.specs.Back.{stack-at, Announcing, announcing, waiting, Popping, popping}
+use Rattle.leftcorner.specs.Stack.{ahead-at, Stack, push, no-empty, live}
+use Rattle.leftcorner.specs.Back.{stack-at, Announcing, announcing, waiting, Leaves, Popping, popping}
 
 -- the tokens read after an event
 abbrev pub reads : Event → List ℕ → List ℕ
@@ -25,7 +22,8 @@ reads (shifted a) u = u ++ a ∷ []
 reads (announced i) u = u
 reads closed u = u
 
-module _ {g : Grammar} {string : ℕ → List ℕ} {Kernel : ℕ → Source → ℕ → ℕ → Type 0} {m : Automaton} (C : Complete g string Kernel m) (E : Exact g string Kernel m) where
+module _ {g : Grammar} {string : ℕ → List ℕ} {Kernel : ℕ → Source → ℕ → ℕ → Type 0} {m : Automaton}
+    (C : Complete g string Kernel m) (E : Exact g string Kernel m) where
   -- what a step on code c does above stack S, for which u was read
   pub data Does (S u : List ℕ) (c : ℕ) : Outcome → Type 0 where
     takes : (s : ℕ) → 1 ≤ c → Stack C E (s ∷ S) (u ++ c ∷ []) → BeginsSentence g (u ++ c ∷ []) → Does S u c (on (shifted c) (s ∷ S))
@@ -67,7 +65,7 @@ module _ {g : Grammar} {string : ℕ → List ℕ} {Kernel : ℕ → Source → 
       bottom zero x = finishes refl x
       bottom (suc a) x = refuses
       by-pop : (n : ℕ) → (x : Popping C E n (q ∷ S) u)
-          → ((x .under ≡ []) × Sentence g u) ⊎ (((d : ℕ) → popTo (x .under) d ≡ on closed (x .under)) × Stack C E (x .under) u) → Does (q ∷ S) u c (act g m (pop n) (q ∷ S) c)
+          → Leaves C E (x .under) (Sentence g u) u → Does (q ∷ S) u c (act g m (pop n) (q ∷ S) c)
       by-pop n x (inl y) = subst (λ (l : List ℕ). Does (q ∷ S) u c (popTo l c)) (sym (x .dropped ∙ y .0)) (bottom c (y .1))
       by-pop n x (inr y) = subst (λ (o : Outcome). Does (q ∷ S) u c o) (sym (ap (λ (l : List ℕ). popTo l c) (x .dropped) ∙ y .0 c)) (closes (x .under) (y .1))
       by : (x : Cell) → m .cell q c ≡ x → Does (q ∷ S) u c (act g m x (q ∷ S) c)

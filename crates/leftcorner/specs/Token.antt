@@ -1,17 +1,17 @@
 -- One token above a stack is taken, or refused, whatever follows; and where the tokens end, the walk ends.
-use Prim.Native.Nat.{ℕ, zero, suc, _≤_}
+use Prim.Native.Nat.{ℕ, _≤_}
 use native.Mathlib.Nat.{not-suc-le-zero}
 use mathlib.Core.Logic.{_⊎_, inl, inr}
-use mathlib.Core.Path.{_≡_, refl, sym, ap, _∙_, subst}
+use mathlib.Core.Path.{_≡_, refl, ap, _∙_, subst}
 use mathlib.Core.List.{List, [], _∷_, _++_}
 use Rattle.language.specs.Grammar.{Grammar}
 use Rattle.language.specs.First.{next}
 use Rattle.language.specs.Sentence.{Sentence, BeginsSentence}
-use Rattle.leftcorner.specs.Machine.{Automaton, Event, shifted, announced, closed, Outcome, on, whole, wrong, step}
+use Rattle.leftcorner.specs.Machine.{Automaton, Event, shifted, announced, closed, on, whole, wrong, step}
 use Rattle.leftcorner.specs.Adequate.{Source, Complete, Exact}
 use Rattle.leftcorner.specs.Run.{Run, stop, more}
 use Rattle.leftcorner.specs.Stack.{Stack}
-use Rattle.leftcorner.specs.Step.{reads, Does, takes, tells, closes, finishes, refuses, done, step-keeps}
+use Rattle.leftcorner.specs.Step.{reads, Does, takes, finishes, done, step-keeps}
 use Rattle.leftcorner.specs.Finish.{Quiet, Rests, at-whole, at-wrong, at-shift, quietly}
 use Rattle.leftcorner.specs.Rest.{rests}
 
@@ -27,7 +27,8 @@ quiet-run g m (shifted a) c w q h n r = absurd q
 quiet-run g m {S = S} (announced i) c w q h n r = more (ap (step g m S) n ∙ h) r
 quiet-run g m {S = S} closed c w q h n r = more (ap (step g m S) n ∙ h) r
 
-module _ {g : Grammar} {string : ℕ → List ℕ} {Kernel : ℕ → Source → ℕ → ℕ → Type 0} {m : Automaton} (C : Complete g string Kernel m) (E : Exact g string Kernel m) where
+module _ {g : Grammar} {string : ℕ → List ℕ} {Kernel : ℕ → Source → ℕ → ℕ → Type 0} {m : Automaton}
+    (C : Complete g string Kernel m) (E : Exact g string Kernel m) where
   -- token a above stack S is taken, and x is then read
   pub record Taken (a : ℕ) (S x : List ℕ) : Type 0 where
     pub after : List ℕ
@@ -71,7 +72,10 @@ module _ {g : Grammar} {string : ℕ → List ℕ} {Kernel : ℕ → Source → 
   go-token a le S (quietly {U = U} {e = e} q h r) u s = onto (go-token a le U r u (still S U u a e q s h))
     where
       onto : Taken a U (u ++ a ∷ []) ⊎ Refused a U → Taken a S (u ++ a ∷ []) ⊎ Refused a S
-      onto (inl x) = inl (record { after = x .after; stack = x .stack; begins = x .begins; events = e ∷ x .events; runs = λ y. quiet-run g m e a (a ∷ y) q h refl (x .runs y) })
+      onto (inl x) =
+          inl (record
+            { after = x .after; stack = x .stack; begins = x .begins; events = e ∷ x .events
+            ; runs = λ y. quiet-run g m e a (a ∷ y) q h refl (x .runs y) })
       onto (inr x) = inr (record { last = x .last; events = e ∷ x .events; runs = λ y. quiet-run g m e a (a ∷ y) q h refl (x .runs y); is-wrong = x .is-wrong })
 
   -- this token above this stack is taken, or refused, whatever follows

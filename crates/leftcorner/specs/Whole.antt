@@ -1,6 +1,6 @@
 -- Every sentence is walked whole, by its derivation's trace; so it has one derivation only.
-use Prim.Native.Nat.{ℕ, zero, suc}
-use mathlib.Core.Path.{_≡_, refl, sym, ap, _∙_, subst}
+use Prim.Native.Nat.{ℕ, zero}
+use mathlib.Core.Path.{_≡_, sym, subst}
 use mathlib.Core.List.{List, [], _∷_, append-nil}
 use Rattle.language.specs.Grammar.{Grammar}
 use Rattle.language.specs.Derivation.{Tree, yield, IsTree}
@@ -12,7 +12,8 @@ use Rattle.leftcorner.specs.Run.{Run, run-unique}
 use Rattle.leftcorner.specs.Path.{far-zero, gotos, close-step}
 use Rattle.leftcorner.specs.Completeness.{first-nil, walked, Walks, walks}
 
-module _ {g : Grammar} {string : ℕ → List ℕ} {Kernel : ℕ → Source → ℕ → ℕ → Type 0} {m : Automaton} (C : Complete g string Kernel m) (E : Exact g string Kernel m) where
+module _ {g : Grammar} {string : ℕ → List ℕ} {Kernel : ℕ → Source → ℕ → ℕ → Type 0} {m : Automaton}
+    (C : Complete g string Kernel m) (E : Exact g string Kernel m) where
   -- the stack when the goal is derived
   abbrev pub final : List ℕ
   final = m .goto (m .enter 1) (g .goal) ∷ start g m
