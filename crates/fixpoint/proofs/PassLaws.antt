@@ -76,6 +76,10 @@ on-at {fs = fs} e on = subst (On fs) e on
 pub off-at : (fs : List ℕ) {x y : ℕ} → x ≡ y → Off fs x → Off fs y
 off-at fs e z = subst (λ (k : ℕ). getD fs k 0 ≡ 0) e z
 
+-- a flag is not both set and unset
+pub not-off : {Q : Type 0} {fs : List ℕ} {x y : ℕ} → On fs y → x ≡ y → Off fs x → Q
+not-off {fs = fs} on e z = absurd (on .nonzero (off-at fs e z))
+
 -- ---- ranges
 pub no-gap : {d k : ℕ} → d ≤ k → k < d → ⊥
 no-gap l m = omega arith

@@ -9,37 +9,15 @@ use native.Mathlib.Omega.{arith}
 use lib.ListN.{length}
 use Rattle.language.specs.Grammar.{Grammar, Rule, right, at, ruleAt, IsTerminal, IsNonterminal}
 use Rattle.language.specs.Sentence.{In, here, there, Productive, Reachable, AllProductive}
-use Rattle.language.specs.GrammarLaws.{rule-range}
+use Rattle.language.specs.GrammarLaws.{not-there, rule-range}
 use Rattle.fixpoint.specs.declared.Found.{Found}
 use Rattle.fixpoint.specs.Tests.{map?, both?, not?, not-not}
 use Rattle.fixpoint.specs.Least.{Clauses, Least}
 use Rattle.fixpoint.specs.Lowest.{Lowest, lowest, lowest-is}
 use Rattle.fixpoint.specs.Decision.{Each, decide}
+use Rattle.reduction.specs.Strings.{each?, in?, numbers, numbers-all, occurrences, occurrences-all}
 use Rattle.reduction.specs.Derives.{leftOf, productions, ProductiveByRules, rules-productive, productive-rules}
 use Rattle.reduction.specs.Reaches.{Occurrence, occurs, ruleOf, symbolOf, reaching, ReachableByRules, rules-reachable, reachable-rules}
-
--- every symbol of a string
-pub on-each : {D : ℕ → Type 0} {X : ℕ} {β : List ℕ} → D X → ((a : ℕ) → In a β → D a) → (a : ℕ) → In a (X ∷ β) → D a
-on-each p f a here = p
-on-each p f a (there m) = f a m
-
-unfoldable pub each? : (D : ℕ → Type 0) → ((x : ℕ) → Dec (D x)) → (β : List ℕ) → Dec ((a : ℕ) → In a β → D a)
-each? D test [] = yes (λ a m. elim m [ ])
-each? D test (X ∷ β) = map? (λ h. on-each (h .0) (h .1)) (λ f. (f X here, λ a m. f a (there m))) (both? (test X) (each? D test β))
-
--- numbers n to 1
-unfoldable pub numbers : ℕ → List ℕ
-numbers zero = []
-numbers (suc n) = suc n ∷ numbers n
-
-pub numbers-all : (n : ℕ) (Q : ℕ → Type 0) → Each Q (numbers n) → (i : ℕ) → 1 ≤ i → i ≤ n → Q i
-unfolding numbers
-numbers-all zero Q h i l m = absurd (omega arith)
-numbers-all (suc n) Q h i l m = go (ℕ-discrete i (suc n)) (λ k. numbers-all n Q (h .1) i l k)
-  where
-    go : Dec (i ≡ suc n) → (i ≤ n → Q i) → Q i
-    go (yes e) f = subst Q (sym e) (h .0)
-    go (no d) f = f (omega arith)
 
 module _ (g : Grammar) where
   -- whether all symbols of a rule's right side are in a set
@@ -72,3 +50,67 @@ module _ (g : Grammar) where
   pub lowest-unproductive : Lowest (λ X. Productive g X → ⊥) 64 (64 + g .nonterminals) lowestUnproductive
   unfolding lowestUnproductive
   lowest-unproductive = lowest-is (λ X. not? (productive? X)) 64 (g .nonterminals)
+
+  -- whether a rule's left side is in a set, and X on its right side
+  unfoldable pub reaches? : (D : ℕ → Type 0) → ((x : ℕ) → Dec (D x)) → (i X : ℕ) (o : Option Rule) → ruleAt g i ≡ o
+      → Dec (((r : Rule) × (ruleAt g i ≡ some r) × In X (right r)) × ((a : ℕ) → a ≡ leftOf (ruleAt g i) → D a))
+  reaches? D test i X none e = no (λ h. clash (h .0 .0) (h .0 .1))
+    where
+      clash : (r : Rule) → ruleAt g i ≡ some r → ⊥
+      clash r h = let z : _≡_ {A = ℕ} 0 1 = cc in omega arith
+  reaches? D test i X (some r) e =
+      map? (λ h. ((r, e, h .0), λ a n. subst D (sym n) (h .1)))
+        (λ h. (subst (λ (q : Rule). In X (right q)) (same (h .0 .0) (h .0 .1)) (h .0 .2), h .1 (leftOf (ruleAt g i)) refl))
+        (both? (in? X (right r)) (test (leftOf (ruleAt g i))))
+    where
+      same : (q : Rule) → ruleAt g i ≡ some q → q ≡ r
+      same q h = cc
+
+  pub occurs-all : (Q : Occurrence → Type 0) → Each Q (occurrences occurs 1 (g .rules)) → (c : Occurrence) → reaching g .ok c → Q c
+  occurs-all Q h (occurs zero X) ok = not-there (ok .1)
+  occurs-all Q h (occurs (suc k) X) ok =
+      subst (λ (n : ℕ). Q (occurs n X)) (one-more k) (occurrences-all occurs Q 1 (g .rules) h k (ok .1) X (ok .2))
+    where
+      one-more : (n : ℕ) → 1 + n ≡ suc n
+      one-more n = omega arith
+
+  unfoldable pub occurs? : (D : ℕ → Type 0) → ((x : ℕ) → Dec (D x)) → (c : Occurrence) → Dec (reaching g .ok c × ((a : ℕ) → reaching g .needs c a → D a))
+  occurs? D test (occurs i X) = reaches? D test i X (ruleAt g i) refl
+
+  unfoldable pub reachable? : (X : ℕ) → Dec (Reachable g X)
+  reachable? X =
+      map? (rules-reachable g) (reachable-rules g)
+        (decide (reaching g) (λ (x : ℕ). x ≡ g .goal) ℕ-discrete (λ x. ℕ-discrete x (g .goal)) (occurrences occurs 1 (g .rules)) occurs-all occurs? X)
+
+  -- reply 6's place: the lowest nonterminal that is not reached from the goal
+  unfoldable pub lowestUnreachable : Found
+  lowestUnreachable = lowest (λ X. not? (reachable? X)) 64 (g .nonterminals)
+
+  pub lowest-unreachable : Lowest (λ X. Reachable g X → ⊥) 64 (64 + g .nonterminals) lowestUnreachable
+  unfolding lowestUnreachable
+  lowest-unreachable = lowest-is (λ X. not? (reachable? X)) 64 (g .nonterminals)
+
+  abbrev pub AllReachable : Type 0
+  AllReachable = (X : ℕ) → IsNonterminal g X → Reachable g X
+
+  none-lacks : (P : ℕ → Type 0) (test : (X : ℕ) → Dec (P X)) (r : Found) → r ≡ Found.Nothing → Lowest (λ X. P X → ⊥) 64 (64 + g .nonterminals) r
+      → (X : ℕ) → IsNonterminal g X → P X
+  none-lacks P test Found.Nothing e h X n = not-not (test X) (h X (n .0) (omega (arith, n .1)))
+  none-lacks P test (Found.At x) e h X n = let z : _≡_ {A = ℕ} 0 1 = cc in absurd (omega arith)
+
+  lacks-none : (P : ℕ → Type 0) (r : Found) → ((X : ℕ) → IsNonterminal g X → P X) → Lowest (λ X. P X → ⊥) 64 (64 + g .nonterminals) r → r ≡ Found.Nothing
+  lacks-none P Found.Nothing f h = refl
+  lacks-none P (Found.At x) f h = absurd (h .2 (f x (h .0, omega (arith, h .1))))
+
+  -- nothing is found exactly when there is no such nonterminal
+  pub none-unproductive : lowestUnproductive ≡ Found.Nothing → AllProductive g
+  none-unproductive e = none-lacks (Productive g) productive? lowestUnproductive e lowest-unproductive
+
+  pub all-productive : AllProductive g → lowestUnproductive ≡ Found.Nothing
+  all-productive h = lacks-none (Productive g) lowestUnproductive h lowest-unproductive
+
+  pub none-unreachable : lowestUnreachable ≡ Found.Nothing → AllReachable
+  none-unreachable e = none-lacks (Reachable g) reachable? lowestUnreachable e lowest-unreachable
+
+  pub all-reachable : AllReachable → lowestUnreachable ≡ Found.Nothing
+  all-reachable h = lacks-none (Reachable g) lowestUnreachable h lowest-unreachable
