@@ -1,16 +1,8 @@
-use mathlib.Core.Path.{_≡_, refl, sym, ap, subst, _∙_}
-use mathlib.Core.Logic.{⊎-elim}
-use Prim.Native.Nat.{ℕ, zero, suc, _+_, _*_, _≤_, _<_, _-_}
-use native.Mathlib.Omega.{arith}
-use borrow.Author.Count.{below-more, below-none}
-use lib.ListN.{length, getD, set, length-set, replicate}
+-- The flags after the closure mark the reachable symbols, whatever grammar memory holds.
 use borrow.Author.Needs.{needs}
+use Rattle.reduction.proofs.TransferLaws.{marks-one, found-unreachable}
 use Rattle.reduction.proofs.lowest_unreachable.Statement.{statement}
 use Rattle.reduction.proofs.lowest_unreachable.Tie as tie
-use Rattle.reduction.proofs.lowest_unreachable.Reads as reads
-use Rattle.reduction.proofs.lowest_unreachable.Lts as lts
-use Rattle.fixpoint.proofs.lowest_unset.Reads as lowest-unset-reads
-use Rattle.reduction.proofs.close_reaching.Reads as close-reaching-reads
 
 array-write-flags : tie.Need-array-write-flags
 array-write-flags c = search needs
@@ -31,7 +23,8 @@ lowest-unset-requires : tie.Need-lowest-unset-requires
 lowest-unset-requires c κs = search needs
 
 returns : tie.Need-returns
-returns c = search needs
+returns c g h e k =
+    found-unreachable g (c .before .before .before .before .before .before .pre .0) h e k (marks-one 128 (c .before .before .before .before .before .before .args .goal) (c .before .before .before .before .before .before .pre .1 .0)) (c .before .before .before .close-reaching .ensures) (c .lowest-unset .result) (c .lowest-unset .ensures)
 
 pub lowest-unreachable-spec : {M : Type 1} → statement M
 lowest-unreachable-spec =
