@@ -44,4 +44,3 @@ keep-set fs x l y on = go (ℕ-discrete y x)
     go : Dec (y ≡ x) → On (set fs x 1) y
     go (yes e) = subst (On (set fs x 1)) (sym e) (on-set fs x l)
     go (no n) = record { nonzero = λ z. on .nonzero (sym (getD-set-other fs x y 1 0 n) ∙ z) }
-

@@ -86,8 +86,8 @@ module _ {C A : Type 0} (k : Clauses C A) (S : A → Type 0) (same? : (x y : A) 
   grow (suc m) xs cs l only past (found c rest e put f) =
       let y = k .head c in
       grow m (y ∷ xs) rest (omega arith) (only-cons xs y only (by c (f .0) (λ a n. only a (f .1 a n))))
-        (λ Q h r. past Q (λ b p. h b (wider xs y (k .head b) p)) (put Q r (h c (inr (inl refl)))))
-        (next (y ∷ xs) rest)
+      (λ Q h r. past Q (λ b p. h b (wider xs y (k .head b) p)) (put Q r (h c (inr (inl refl)))))
+      (next (y ∷ xs) rest)
 
   unfoldable pub listed : Listed
   listed = grow (length all) [] all (omega arith) none-in (λ Q h e. e) (next [] all)

@@ -45,4 +45,4 @@ pub least-map : {C D A : Type 0} {k : Clauses C A} {l : Clauses D A} → Among k
     → {x : A} → Least k S x → Least l S′ x
 least-map {k = k} {l = l} m {S′ = S′} f p =
     least-every k (Least l S′) (λ y s. seed (f y s))
-      (λ c ok ns. subst (Least l S′) (m .send-head c ok) (by (m .send c ok) (m .send-ok c ok) (λ a n. ns a (m .send-needs c ok a n)))) p
+    (λ c ok ns. subst (Least l S′) (m .send-head c ok) (by (m .send c ok) (m .send-ok c ok) (λ a n. ns a (m .send-needs c ok a n)))) p

@@ -43,37 +43,41 @@ module _ {m : List ℕ} {rules : ℕ} (g : Grammar) (s : Shaped m rules) (h : Ho
       record { place = k .0; within = k .1; is-it = k .2 }
 
   pub productions-to : Among (productions g) (productionsIn m rules)
-  productions-to = record
-      { send = λ i ok. i
-      ; send-ok = λ i ok. in-range i (ok .1)
-      ; send-needs = λ i ok a x. (ok .0, ok .1, symbol-of-rule i (ok .1) a x)
-      ; send-head = λ i ok. left-same i (ok .1) }
+  productions-to = record {
+    send = λ i ok. i;
+    send-ok = λ i ok. in-range i (ok .1);
+    send-needs = λ i ok a x. (ok .0, ok .1, symbol-of-rule i (ok .1) a x);
+    send-head = λ i ok. left-same i (ok .1);
+  }
 
   pub productions-from : Among (productionsIn m rules) (productions g)
-  productions-from = record
-      { send = λ i ok. i
-      ; send-ok = λ i ok. rule-of i (ok .0) (ok .1)
-      ; send-needs = λ i ok a x. rule-symbol i (x .1) a (x .2)
-      ; send-head = λ i ok. sym (left-same i (rule-of i (ok .0) (ok .1) .1)) }
+  productions-from = record {
+    send = λ i ok. i;
+    send-ok = λ i ok. rule-of i (ok .0) (ok .1);
+    send-needs = λ i ok a x. rule-symbol i (x .1) a (x .2);
+    send-head = λ i ok. sym (left-same i (rule-of i (ok .0) (ok .1) .1));
+  }
 
   pub reaching-to : Among (reaching g) (reachingIn m rules)
-  reaching-to = record
-      { send = λ c ok. occurs (ruleOf c) (spot c ok .place)
-      ; send-ok = λ c ok. (in-range (ruleOf c) (ok .1), spot c ok .within)
-      ; send-needs = λ c ok a x. x ∙ left-same (ruleOf c) (ok .1)
-      ; send-head = λ c ok. spot c ok .is-it }
+  reaching-to = record {
+    send = λ c ok. occurs (ruleOf c) (spot c ok .place);
+    send-ok = λ c ok. (in-range (ruleOf c) (ok .1), spot c ok .within);
+    send-needs = λ c ok a x. x ∙ left-same (ruleOf c) (ok .1);
+    send-head = λ c ok. spot c ok .is-it;
+  }
     where
       spot : (c : Occurrence) → reaching g .ok c → SymbolIn m (ruleOf c) (symbolOf c)
       spot c ok = rule-symbol (ruleOf c) (ok .1) (symbolOf c) (ok .2)
 
   pub reaching-from : Among (reachingIn m rules) (reaching g)
-  reaching-from = record
-      { send = λ c ok. occurs (ruleOf c) (symbolAt m (ruleOf c) (symbolOf c))
-      ; send-ok = λ c ok.
-          let r = rule-of (ruleOf c) (ok .0 .0) (ok .0 .1) in
-          (r .0, r .1, symbol-of-rule (ruleOf c) (r .1) (symbolAt m (ruleOf c) (symbolOf c)) (record { place = symbolOf c; within = ok .1; is-it = refl }))
-      ; send-needs = λ c ok a x. x ∙ sym (left-same (ruleOf c) (rule-of (ruleOf c) (ok .0 .0) (ok .0 .1) .1))
-      ; send-head = λ c ok. refl }
+  reaching-from = record {
+    send = λ c ok. occurs (ruleOf c) (symbolAt m (ruleOf c) (symbolOf c));
+    send-ok = λ c ok.
+        let r = rule-of (ruleOf c) (ok .0 .0) (ok .0 .1) in
+        (r .0, r .1, symbol-of-rule (ruleOf c) (r .1) (symbolAt m (ruleOf c) (symbolOf c)) (record { place = symbolOf c; within = ok .1; is-it = refl }));
+    send-needs = λ c ok a x. x ∙ sym (left-same (ruleOf c) (rule-of (ruleOf c) (ok .0 .0) (ok .0 .1) .1));
+    send-head = λ c ok. refl;
+  }
 
 -- flags that mark P are unset where P fails
 off-lacks : {P : ℕ → Type 0} (fs : List ℕ) → Marks P fs → (x : ℕ) → Off fs x → P x → ⊥
@@ -96,37 +100,38 @@ marks-map f g h = record { only = λ x on. f x (h .only x on); every = λ x q. h
 
 -- one flag set among cleared ones
 pub marks-one : (n x : ℕ) → x < n → Marks (λ y. y ≡ x) (set (replicate n 0) x 1)
-marks-one n x l = record
-    { only = only-set (λ y. y ≡ x) (replicate n 0) x (λ y on. all-off n refl on) refl
-    ; every = λ y e. subst (On (set (replicate n 0) x 1)) (sym e) (on-set (replicate n 0) x (subst (λ (b : ℕ). x < b) (sym (length-replicate {A = ℕ} n 0)) l)) }
+marks-one n x l = record {
+  only = only-set (λ y. y ≡ x) (replicate n 0) x (λ y on. all-off n refl on) refl;
+  every = λ y e. subst (On (set (replicate n 0) x 1)) (sym e) (on-set (replicate n 0) x (subst (λ (b : ℕ). x < b) (sym (length-replicate {A = ℕ} n 0)) l));
+}
 
 module _ {m : List ℕ} {rules : ℕ} (g : Grammar) (s : Shaped m rules) (h : Holds m rules g) {fs₀ fs : List ℕ} where
   -- closing the terminals' flags marks the productive symbols
   pub marks-productive : {t : ℕ} → g .terminals ≡ t → Marks (Upto t) fs₀ → Marks (Least (productionsIn m rules) (On fs₀)) fs → Marks (Productive g) fs
   marks-productive {t} e seeds marks =
       marks-map
-        (λ x p. rules-productive g (least-map (productions-from g s h) (λ y on. let u = seeds .only y on in (u .0, subst (λ (n : ℕ). y ≤ n) (sym e) (u .1))) p))
-        (λ x p. least-map (productions-to g s h) (λ y u. seeds .every y (u .0, subst (λ (n : ℕ). y ≤ n) e (u .1))) (productive-rules g p))
-        marks
+      (λ x p. rules-productive g (least-map (productions-from g s h) (λ y on. let u = seeds .only y on in (u .0, subst (λ (n : ℕ). y ≤ n) (sym e) (u .1))) p))
+      (λ x p. least-map (productions-to g s h) (λ y u. seeds .every y (u .0, subst (λ (n : ℕ). y ≤ n) e (u .1))) (productive-rules g p))
+      marks
 
   pub found-unproductive : {t n : ℕ} → g .terminals ≡ t → g .nonterminals ≡ n → Marks (Upto t) fs₀ → Marks (Least (productionsIn m rules) (On fs₀)) fs
       → (r : Found) → Lowest (Off fs) 64 (64 + n) r → r ≡ lowestUnproductive g
   found-unproductive {n = n} e k seeds marks r l =
       lowest-one (λ X. Productive g X → ⊥) 64 (64 + n) r (lowestUnproductive g)
-        (lowest-lack (Productive g) fs (marks-productive e seeds marks) 64 (64 + n) r l)
-        (subst (λ (j : ℕ). Lowest (λ X. Productive g X → ⊥) 64 (64 + j) (lowestUnproductive g)) k (lowest-unproductive g))
+      (lowest-lack (Productive g) fs (marks-productive e seeds marks) 64 (64 + n) r l)
+      (subst (λ (j : ℕ). Lowest (λ X. Productive g X → ⊥) 64 (64 + j) (lowestUnproductive g)) k (lowest-unproductive g))
 
   -- closing the goal's flag marks the reachable ones
   pub marks-reachable : Marks (λ x. x ≡ g .goal) fs₀ → Marks (Least (reachingIn m rules) (On fs₀)) fs → Marks (Reachable g) fs
   marks-reachable seeds marks =
       marks-map
-        (λ x p. rules-reachable g (least-map (reaching-from g s h) (seeds .only) p))
-        (λ x p. least-map (reaching-to g s h) (seeds .every) (reachable-rules g p))
-        marks
+      (λ x p. rules-reachable g (least-map (reaching-from g s h) (seeds .only) p))
+      (λ x p. least-map (reaching-to g s h) (seeds .every) (reachable-rules g p))
+      marks
 
   pub found-unreachable : {goal n : ℕ} → g .goal ≡ goal → g .nonterminals ≡ n → Marks (λ x. x ≡ goal) fs₀ → Marks (Least (reachingIn m rules) (On fs₀)) fs
       → (r : Found) → Lowest (Off fs) 64 (64 + n) r → r ≡ lowestUnreachable g
   found-unreachable {n = n} e k seeds marks r l =
       lowest-one (λ X. Reachable g X → ⊥) 64 (64 + n) r (lowestUnreachable g)
-        (lowest-lack (Reachable g) fs (marks-reachable (marks-map (λ x q. q ∙ sym e) (λ x q. q ∙ e) seeds) marks) 64 (64 + n) r l)
-        (subst (λ (j : ℕ). Lowest (λ X. Reachable g X → ⊥) 64 (64 + j) (lowestUnreachable g)) k (lowest-unreachable g))
+      (lowest-lack (Reachable g) fs (marks-reachable (marks-map (λ x q. q ∙ sym e) (λ x q. q ∙ e) seeds) marks) 64 (64 + n) r l)
+      (subst (λ (j : ℕ). Lowest (λ X. Reachable g X → ⊥) 64 (64 + j) (lowestUnreachable g)) k (lowest-unreachable g))

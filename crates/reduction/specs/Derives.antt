@@ -15,10 +15,11 @@ leftOf (some r) = r .left
 
 -- a rule by its number: it needs the symbols of its right side and gives its left side
 abbrev pub productions : Grammar → Clauses ℕ ℕ
-productions g = record
-    { ok = λ i. (r : Rule) × (ruleAt g i ≡ some r)
-    ; needs = λ i a. (r : Rule) × (ruleAt g i ≡ some r) × In a (right r)
-    ; head = λ i. leftOf (ruleAt g i) }
+productions g = record {
+  ok = λ i. (r : Rule) × (ruleAt g i ≡ some r);
+  needs = λ i a. (r : Rule) × (ruleAt g i ≡ some r) × In a (right r);
+  head = λ i. leftOf (ruleAt g i);
+}
 
 module _ (g : Grammar) where
   -- the left side of a rule whose right side is in a set closed under the rules
@@ -49,7 +50,7 @@ module _ (g : Grammar) where
   pub rules-productive : {X : ℕ} → ProductiveByRules X → Productive g X
   rules-productive p =
       derive-every (Productive g) (λ y t. record { tree = leaf y; derives = (refl, t) })
-        (λ i r e f. let F = forest-of (right r) f in record { tree = node i (F .0); derives = (r, e, refl, F .1) }) p
+      (λ i r e f. let F = forest-of (right r) f in record { tree = node i (F .0); derives = (r, e, refl, F .1) }) p
 
   ByRules : Tree → Type 0
   ByRules T = (X : ℕ) → IsTree g T X → ProductiveByRules X

@@ -21,10 +21,11 @@ productionsIn m rules = record { ok = IsRule rules; needs = SymbolIn m; head = l
 
 -- an occurrence is a rule and a place in it
 abbrev pub reachingIn : List ℕ → ℕ → Clauses Occurrence ℕ
-reachingIn m rules = record
-    { ok = λ c. IsRule rules (ruleOf c) × (symbolOf c < lengthAt m (ruleOf c))
-    ; needs = λ c a. a ≡ leftAt m (ruleOf c)
-    ; head = λ c. symbolAt m (ruleOf c) (symbolOf c) }
+reachingIn m rules = record {
+  ok = λ c. IsRule rules (ruleOf c) × (symbolOf c < lengthAt m (ruleOf c));
+  needs = λ c a. a ≡ leftAt m (ruleOf c);
+  head = λ c. symbolAt m (ruleOf c) (symbolOf c);
+}
 
 -- every symbol of item i has its flag set
 abbrev pub AllOn : List ℕ → ℕ → List ℕ → Type 0

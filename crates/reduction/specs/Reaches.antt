@@ -20,10 +20,11 @@ abbrev pub symbolOf : Occurrence → ℕ
 symbolOf (occurs i X) = X
 
 abbrev pub reaching : Grammar → Clauses Occurrence ℕ
-reaching g = record
-    { ok = λ c. (r : Rule) × (ruleAt g (ruleOf c) ≡ some r) × In (symbolOf c) (right r)
-    ; needs = λ c a. a ≡ leftOf (ruleAt g (ruleOf c))
-    ; head = symbolOf }
+reaching g = record {
+  ok = λ c. (r : Rule) × (ruleAt g (ruleOf c) ≡ some r) × In (symbolOf c) (right r);
+  needs = λ c a. a ≡ leftOf (ruleAt g (ruleOf c));
+  head = symbolOf;
+}
 
 module _ (g : Grammar) where
   abbrev pub ReachableByRules : ℕ → Type 0
@@ -32,7 +33,7 @@ module _ (g : Grammar) where
   pub rules-reachable : {X : ℕ} → ReachableByRules X → Reachable g X
   rules-reachable p =
       least-every (reaching g) (Reachable g) (λ y e. subst (Reachable g) (sym e) from-goal)
-        (λ c ok ns. from-rule (ruleOf c) (ok .1) (subst (Reachable g) (ap leftOf (ok .1)) (ns _ refl)) (ok .2)) p
+      (λ c ok ns. from-rule (ruleOf c) (ok .1) (subst (Reachable g) (ap leftOf (ok .1)) (ns _ refl)) (ok .2)) p
 
   pub reachable-rules : {X : ℕ} → Reachable g X → ReachableByRules X
   reachable-rules from-goal = seed refl

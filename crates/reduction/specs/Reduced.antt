@@ -39,9 +39,9 @@ module _ (g : Grammar) where
   unfoldable pub productive? : (X : ℕ) → Dec (Productive g X)
   productive? X =
       map? (rules-productive g) (productive-rules g)
-        (decide (productions g) (IsTerminal g) ℕ-discrete terminal? (numbers (length (g .rules)))
-          (λ Q h i ok. let l = rule-range g i (ok .1) in numbers-all (length (g .rules)) Q h i (l .0) (l .1))
-          (λ D test i. whole? D test i (ruleAt g i) refl) X)
+      (decide (productions g) (IsTerminal g) ℕ-discrete terminal? (numbers (length (g .rules)))
+      (λ Q h i ok. let l = rule-range g i (ok .1) in numbers-all (length (g .rules)) Q h i (l .0) (l .1))
+      (λ D test i. whole? D test i (ruleAt g i) refl) X)
 
   -- reply 5's place: the lowest nonterminal that derives no string of terminals
   unfoldable pub lowestUnproductive : Found
@@ -60,8 +60,8 @@ module _ (g : Grammar) where
       clash r h = let z : _≡_ {A = ℕ} 0 1 = cc in omega arith
   reaches? D test i X (some r) e =
       map? (λ h. ((r, e, h .0), λ a n. subst D (sym n) (h .1)))
-        (λ h. (subst (λ (q : Rule). In X (right q)) (same (h .0 .0) (h .0 .1)) (h .0 .2), h .1 (leftOf (ruleAt g i)) refl))
-        (both? (in? X (right r)) (test (leftOf (ruleAt g i))))
+      (λ h. (subst (λ (q : Rule). In X (right q)) (same (h .0 .0) (h .0 .1)) (h .0 .2), h .1 (leftOf (ruleAt g i)) refl))
+      (both? (in? X (right r)) (test (leftOf (ruleAt g i))))
     where
       same : (q : Rule) → ruleAt g i ≡ some q → q ≡ r
       same q h = cc
@@ -80,7 +80,7 @@ module _ (g : Grammar) where
   unfoldable pub reachable? : (X : ℕ) → Dec (Reachable g X)
   reachable? X =
       map? (rules-reachable g) (reachable-rules g)
-        (decide (reaching g) (λ (x : ℕ). x ≡ g .goal) ℕ-discrete (λ x. ℕ-discrete x (g .goal)) (occurrences occurs 1 (g .rules)) occurs-all occurs? X)
+      (decide (reaching g) (λ (x : ℕ). x ≡ g .goal) ℕ-discrete (λ x. ℕ-discrete x (g .goal)) (occurrences occurs 1 (g .rules)) occurs-all occurs? X)
 
   -- reply 6's place: the lowest nonterminal that is not reached from the goal
   unfoldable pub lowestUnreachable : Found

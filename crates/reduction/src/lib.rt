@@ -8,7 +8,6 @@ ghost use Rattle.fixpoint.specs.Flags.{On, Marks, Decides};
 ghost use Rattle.fixpoint.specs.Least.{Least};
 ghost use Rattle.reduction.specs.InMemory.{productionsIn, reachingIn, AllOn, Upto};
 ghost use Rattle.reduction.specs.Reduced.{lowestUnproductive, lowestUnreachable};
-
 use fixpoint::Found;
 
 // Whether every symbol of item i is flagged.
@@ -87,7 +86,7 @@ fn close_reaching(m: &[u8], rules: usize, flags: &mut [u8])
     ensures { λ _. ⌜ Marks (Least (reachingIn (now (m .entry)) rules) (On (now (flags .entry)))) (now (flags .exit)) ⌝ }
 {
     'passes: loop {
-        let mut added: usize = 0;
+        let mut reached: usize = 0;
         let mut i = 1;
         'rules: while i <= rules {
             let left = items::left_of(m, rules, i);
@@ -101,13 +100,13 @@ fn close_reaching(m: &[u8], rules: usize, flags: &mut [u8])
                 let x = items::symbol_of(m, rules, i, k);
                 if flags[x] == 0 {
                     flags[x] = 1;
-                    added += 1;
+                    reached += 1;
                 }
                 k += 1;
             }
             i += 1;
         }
-        if added == 0 {
+        if reached == 0 {
             break 'passes;
         }
     }

@@ -18,7 +18,7 @@ use Rattle.reduction.proofs.close_productions.Tie as tie
 abbrev Inv-rules : tie.InvT-rules
 Inv-rules m rules flags₀ added₀ i₀ flags added i =
     (1 ≤ i) × (i ≤ rules + 1) × Pass 128 (Least (productionsIn m rules) (On flags₀)) flags₀ flags added₀ added
-      (λ fs. (j : ℕ) → 1 ≤ j → j < i → AllOn m j fs → On fs (leftAt m j))
+    (λ fs. (j : ℕ) → 1 ≤ j → j < i → AllOn m j fs → On fs (leftAt m j))
 
 abbrev μ-rules : tie.MeasureT-rules
 μ-rules m rules flags₀ added₀ i₀ flags added i = rules + 1 - i
@@ -35,7 +35,7 @@ fired : (m : List ℕ) (rules i : ℕ) (fs : List ℕ) {S : ℕ → Type 0} → 
     → AllOn m i fs → {x : ℕ} → x ≡ leftAt m i → Least (productionsIn m rules) S x
 fired m rules i fs {S} l h only all e =
     subst (Least (productionsIn m rules) S) (sym e)
-      (by i (l, h) (λ a s. subst (Least (productionsIn m rules) S) (s .is-it) (only (symbolAt m i (s .place)) (all (s .place) (s .within)))))
+    (by i (l, h) (λ a s. subst (Least (productionsIn m rules) S) (s .is-it) (only (symbolAt m i (s .place)) (all (s .place) (s .within)))))
 
 passes-holds : tie.Need-passes-holds Inv-rules μ-rules Inv-passes μ-passes
 passes-holds c = (c .before .before .pre .1, λ y on. seed on, λ y on. on)
@@ -68,16 +68,17 @@ rules-again : tie.Need-rules-again Inv-rules μ-rules Inv-passes μ-passes
 rules-again c = let p = c .before .before .before .before .rules .inv .2 in
     let le = c .before .before .left-of .ensures in
     let fs = c .before .before .before .before .rules .flags in
-    let i = c .before .before .before .before .rules .i in
-    ( omega arith
-    , omega arith
-    , ⊎-elim
-        (λ w. pass-add _ _ (c .before .before .left-of .result) (w .4) (w .5) p (le .1) (w .0 .taken)
+    let i = c .before .before .before .before .rules .i in (
+      omega arith,
+      omega arith,
+      ⊎-elim
+          (λ w. pass-add _ _ (c .before .before .left-of .result) (w .4) (w .5) p (le .1) (w .0 .taken)
           (fired (c .before .before .before .before .before .before .before .before .args .m .now) (c .before .before .before .before .before .before .before .before .args .rules) i fs (c .before .before .before .before .rules .inv .0) (omega arith) (p .only) (w .2 .ensures .yes (w .3 .taken)) (le .0)))
-        (⊎-elim
+          (⊎-elim
           (λ w. pass-more _ _ (w .4) (w .5) p (λ d. from-more _ 1 i d (λ all. absurd (w .2 .ensures .no (w .3 .left) all))))
           (λ w. pass-more _ _ (w .1) (w .2) p (λ d. from-more _ 1 i d (λ _. on-at (le .0) (set-on (w .0 .left))))))
-        (c .if1 .came) )
+          (c .if1 .came),
+    )
 
 passes-less : tie.Need-passes-less Inv-rules μ-rules Inv-passes μ-passes
 passes-less c = omega (arith, c .before .before .rules .inv .2 .count, c .if3 .left)
@@ -94,7 +95,7 @@ returns : tie.Need-returns Inv-rules μ-rules Inv-passes μ-passes
 returns c = let p = c .before .before .rules .inv .2 in
     let o = c .before .before .before .passes .inv in
     least-marks _ (λ y on. least-join _ (o .1) (p .only y on)) (λ y on. p .kept y (o .2 y on))
-      (λ i ok ns. p .closed (c .if3 .taken) i (ok .0) (omega (arith, ok .1)) (λ k l. ns _ (record { place = k; within = l; is-it = refl })))
+    (λ i ok ns. p .closed (c .if3 .taken) i (ok .0) (omega (arith, ok .1)) (λ k l. ns _ (record { place = k; within = l; is-it = refl })))
 
 pub close-productions-spec : {M : Type 1} → statement M
 close-productions-spec =

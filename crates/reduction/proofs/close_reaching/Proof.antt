@@ -22,20 +22,20 @@ abbrev Through : List ℕ → ℕ → List ℕ → Type 0
 Through m j fs = On fs (leftAt m j) → (k : ℕ) → k < lengthAt m j → On fs (symbolAt m j k)
 
 abbrev Inv-symbols : tie.InvT-symbols
-Inv-symbols m rules flags₀ added₀ i left n k₀ flags added k =
-    (k ≤ n) × (n ≡ lengthAt m i) × Pass 128 (Least (reachingIn m rules) (On flags₀)) flags₀ flags added₀ added
-      (λ fs. ((j : ℕ) → 1 ≤ j → j < i → Through m j fs) × ((j : ℕ) → j < k → On fs (symbolAt m i j)))
+Inv-symbols m rules flags₀ reached₀ i left n k₀ flags reached k =
+    (k ≤ n) × (n ≡ lengthAt m i) × Pass 128 (Least (reachingIn m rules) (On flags₀)) flags₀ flags reached₀ reached
+    (λ fs. ((j : ℕ) → 1 ≤ j → j < i → Through m j fs) × ((j : ℕ) → j < k → On fs (symbolAt m i j)))
 
 abbrev μ-symbols : tie.MeasureT-symbols
-μ-symbols m rules flags₀ added₀ i left n k₀ flags added k = n - k
+μ-symbols m rules flags₀ reached₀ i left n k₀ flags reached k = n - k
 
 abbrev Inv-rules : tie.InvT-rules
-Inv-rules m rules flags₀ added₀ i₀ flags added i =
-    (1 ≤ i) × (i ≤ rules + 1) × Pass 128 (Least (reachingIn m rules) (On flags₀)) flags₀ flags added₀ added
-      (λ fs. (j : ℕ) → 1 ≤ j → j < i → Through m j fs)
+Inv-rules m rules flags₀ reached₀ i₀ flags reached i =
+    (1 ≤ i) × (i ≤ rules + 1) × Pass 128 (Least (reachingIn m rules) (On flags₀)) flags₀ flags reached₀ reached
+    (λ fs. (j : ℕ) → 1 ≤ j → j < i → Through m j fs)
 
 abbrev μ-rules : tie.MeasureT-rules
-μ-rules m rules flags₀ added₀ i₀ flags added i = rules + 1 - i
+μ-rules m rules flags₀ reached₀ i₀ flags reached i = rules + 1 - i
 
 abbrev Inv-passes : tie.InvT-passes
 Inv-passes m rules flags₀ flags =
@@ -72,9 +72,12 @@ rules-less : tie.Need-rules-less Inv-symbols μ-symbols Inv-rules μ-rules Inv-p
 rules-less c = search needs
 
 rules-again : tie.Need-rules-again Inv-symbols μ-symbols Inv-rules μ-rules Inv-passes μ-passes
-rules-again c =
-    (omega arith, omega arith, pass-more _ _ refl refl (c .before .before .before .before .rules .inv .2)
-      (λ d. from-more _ 1 (c .before .before .before .before .rules .i) d (λ on. not-off on (c .before .before .left-of .ensures .0) (c .if1 .taken))))
+rules-again c = (
+  omega arith,
+  omega arith,
+  pass-more _ _ refl refl (c .before .before .before .before .rules .inv .2)
+      (λ d. from-more _ 1 (c .before .before .before .before .rules .i) d (λ on. not-off on (c .before .before .left-of .ensures .0) (c .if1 .taken))),
+)
 
 length-of-requires : tie.Need-length-of-requires Inv-symbols μ-symbols Inv-rules μ-rules Inv-passes μ-passes
 length-of-requires c κs = search needs
@@ -92,8 +95,8 @@ slice-read-if2 c = omega (arith, c .before .before .before .symbols .inv .2 .lon
 slice-write-flags : tie.Need-slice-write-flags Inv-symbols μ-symbols Inv-rules μ-rules Inv-passes μ-passes
 slice-write-flags c = omega (arith, c .before .before .before .before .symbols .inv .2 .long, c .before .before .symbol-of .ensures .1)
 
-add-added : tie.Need-add-added Inv-symbols μ-symbols Inv-rules μ-rules Inv-passes μ-passes
-add-added c = omega (arith, c .before .before .before .before .symbols .inv .2 .count, c .before .before .before .before .before .before .before .before .before .before .rules .inv .2 .count, zeros-le (c .before .before .before .before .before .before .before .before .before .before .before .passes .flags), c .before .before .before .before .before .before .before .before .before .before .before .passes .inv .0)
+add-reached : tie.Need-add-reached Inv-symbols μ-symbols Inv-rules μ-rules Inv-passes μ-passes
+add-reached c = omega (arith, c .before .before .before .before .symbols .inv .2 .count, c .before .before .before .before .before .before .before .before .before .before .rules .inv .2 .count, zeros-le (c .before .before .before .before .before .before .before .before .before .before .before .passes .flags), c .before .before .before .before .before .before .before .before .before .before .before .passes .inv .0)
 
 add-k : tie.Need-add-k Inv-symbols μ-symbols Inv-rules μ-rules Inv-passes μ-passes
 add-k c = search needs
@@ -104,15 +107,16 @@ symbols-less c = search needs
 symbols-again : tie.Need-symbols-again Inv-symbols μ-symbols Inv-rules μ-rules Inv-passes μ-passes
 symbols-again c = let p = c .before .before .before .before .symbols .inv .2 in
     let k = c .before .before .before .before .symbols .k in
-    let se = c .before .before .symbol-of .ensures in
-    ( omega arith
-    , c .before .before .before .before .symbols .inv .1
-    , ⊎-elim
-        (λ w. pass-add _ _ (c .before .before .symbol-of .result) (w .1) (w .2) p (se .1) (w .0 .taken)
+    let se = c .before .before .symbol-of .ensures in (
+      omega arith,
+      c .before .before .before .before .symbols .inv .1,
+      ⊎-elim
+          (λ w. pass-add _ _ (c .before .before .symbol-of .result) (w .1) (w .2) p (se .1) (w .0 .taken)
           (fired (c .before .before .before .before .before .before .before .before .before .before .before .before .before .before .args .m .now) (c .before .before .before .before .before .before .before .before .before .before .before .before .before .before .args .rules) (c .before .before .before .before .before .before .before .before .before .before .rules .i) k (c .before .before .before .before .before .before .before .before .before .before .rules .inv .0) (omega arith) (omega arith)
-            (c .before .before .before .before .before .before .before .before .left-of .ensures .0) (set-on (c .before .before .before .before .before .before .if1 .left)) (se .0)))
-        (λ w. pass-more _ _ (w .1) (w .2) p (λ d. (d .0, below-more _ k (d .1) (on-at (se .0) (set-on (w .0 .left))))))
-        (c .if2 .came) )
+          (c .before .before .before .before .before .before .before .before .left-of .ensures .0) (set-on (c .before .before .before .before .before .before .if1 .left)) (se .0)))
+          (λ w. pass-more _ _ (w .1) (w .2) p (λ d. (d .0, below-more _ k (d .1) (on-at (se .0) (set-on (w .0 .left))))))
+          (c .if2 .came),
+    )
 
 add-i-2 : tie.Need-add-i-2 Inv-symbols μ-symbols Inv-rules μ-rules Inv-passes μ-passes
 add-i-2 c = search needs
@@ -121,9 +125,12 @@ rules-less-2 : tie.Need-rules-less-2 Inv-symbols μ-symbols Inv-rules μ-rules I
 rules-less-2 c = search needs
 
 rules-again-2 : tie.Need-rules-again-2 Inv-symbols μ-symbols Inv-rules μ-rules Inv-passes μ-passes
-rules-again-2 c = let p = c .before .before .before .before .before .before .before .rules .inv .2 in
-    (omega arith, omega arith, pass-join _ _ _ refl refl p (c .before .symbols .inv .2) (λ y q. least-join _ (p .only) q)
-      (λ d. from-more _ 1 (c .before .before .before .before .before .before .before .rules .i) (d .0) (λ _ k l. d .1 k (omega arith))))
+rules-again-2 c = let p = c .before .before .before .before .before .before .before .rules .inv .2 in (
+  omega arith,
+  omega arith,
+  pass-join _ _ _ refl refl p (c .before .symbols .inv .2) (λ y q. least-join _ (p .only) q)
+      (λ d. from-more _ 1 (c .before .before .before .before .before .before .before .rules .i) (d .0) (λ _ k l. d .1 k (omega arith))),
+)
 
 passes-less : tie.Need-passes-less Inv-symbols μ-symbols Inv-rules μ-rules Inv-passes μ-passes
 passes-less c = omega (arith, c .before .before .rules .inv .2 .count, c .if3 .left)
@@ -140,7 +147,7 @@ returns : tie.Need-returns Inv-symbols μ-symbols Inv-rules μ-rules Inv-passes 
 returns c = let p = c .before .before .rules .inv .2 in
     let o = c .before .before .before .passes .inv in
     least-marks _ (λ y on. least-join _ (o .1) (p .only y on)) (λ y on. p .kept y (o .2 y on))
-      (met (c .before .before .before .before .before .before .args .m .now) (c .before .before .before .before .before .before .args .rules) (c .before .before .rules .flags) (λ j l h. p .closed (c .if3 .taken) j l (omega arith)))
+    (met (c .before .before .before .before .before .before .args .m .now) (c .before .before .before .before .before .before .args .rules) (c .before .before .rules .flags) (λ j l h. p .closed (c .if3 .taken) j l (omega arith)))
 
 pub close-reaching-spec : {M : Type 1} → statement M
 close-reaching-spec =
@@ -164,7 +171,7 @@ close-reaching-spec =
     symbol-of-requires
     slice-read-if2
     slice-write-flags
-    add-added
+    add-reached
     add-k
     symbols-less
     symbols-again

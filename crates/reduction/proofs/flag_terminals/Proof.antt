@@ -33,10 +33,13 @@ loop-again : tie.Need-loop-again Inv-loop μ-loop
 loop-again c = let fs = c .before .loop .flags in
     let x = c .before .loop .x in
     let i = c .before .loop .inv in
-    let l : x < length fs = omega arith in
-    (omega arith, omega arith, simp length-set (i .2),
+    let l : x < length fs = omega arith in (
+      omega arith,
+      omega arith,
+      simp length-set (i .2),
       only-set (Upto _) fs x (i .3) (omega arith, omega arith),
-      from-more _ 1 x (λ k a b. keep-set fs x l k (i .4 k a b)) (on-set fs x l))
+      from-more _ 1 x (λ k a b. keep-set fs x l k (i .4 k a b)) (on-set fs x l),
+    )
 
 same-length : tie.Need-same-length Inv-loop μ-loop
 same-length c = omega (arith, c .before .loop .inv .2, ap length (c .before .before .pre .1), length-replicate {A = ℕ} 128 0)
