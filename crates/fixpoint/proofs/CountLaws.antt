@@ -8,12 +8,7 @@ use native.Mathlib.Omega.{arith}
 use lib.ListN.{length, getD, set}
 use lib.Seq.{getD-set-same, getD-set-other}
 use Rattle.fixpoint.specs.Flags.{On, Off}
-
--- how many flags are not set
-abbrev pub zeros : List ℕ → ℕ
-zeros [] = 0
-zeros (zero ∷ fs) = suc (zeros fs)
-zeros (suc n ∷ fs) = zeros fs
+use Rattle.fixpoint.specs.Pass.{zeros}
 
 pub zeros-set : (fs : List ℕ) (x : ℕ) → x < length fs → Off fs x → zeros (set fs x 1) + 1 ≡ zeros fs
 zeros-set [] x l e = absurd (not-suc-le-zero l)

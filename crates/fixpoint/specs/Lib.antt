@@ -3,3 +3,5 @@ pub mod Tests
 pub mod Least
 pub mod Lowest
 pub mod Decision
+pub mod Pass
+pub mod Rows

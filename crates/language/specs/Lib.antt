@@ -5,3 +5,5 @@ pub mod Sentence
 pub mod First
 pub mod WellFormed
 pub mod GrammarLaws
+pub mod Nullable
+pub mod FirstLaws

@@ -7,6 +7,7 @@ use native.Mathlib.Omega.{arith}
 use Rattle.language.specs.Grammar.{Grammar, Rule, right, ruleAt, IsTerminal}
 use Rattle.language.specs.Derivation.{Tree, Forest, leaf, node, nil, cons, All, tree-ind, IsTree, IsForest}
 use Rattle.language.specs.Sentence.{In, here, there, Productive}
+use Rattle.language.specs.FirstLaws.{some-forest}
 use Rattle.fixpoint.specs.Least.{Clauses, Least, seed, by, least-every}
 
 abbrev pub leftOf : Option Rule → ℕ
@@ -39,18 +40,10 @@ module _ (g : Grammar) where
   abbrev pub ProductiveByRules : ℕ → Type 0
   ProductiveByRules = Least (productions g) (IsTerminal g)
 
-  -- a tree of each symbol makes a forest of a string
-  pub forest-of : (β : List ℕ) → ((a : ℕ) → In a β → Productive g a) → (F : Forest) × IsForest g F β
-  forest-of [] f = (nil, tt)
-  forest-of (X ∷ β) f =
-      let t = f X here in
-      let F = forest-of β (λ a h. f a (there h)) in
-      (cons (t .tree) (F .0), (t .derives, F .1))
-
   pub rules-productive : {X : ℕ} → ProductiveByRules X → Productive g X
   rules-productive p =
       derive-every (Productive g) (λ y t. record { tree = leaf y; derives = (refl, t) })
-      (λ i r e f. let F = forest-of (right r) f in record { tree = node i (F .0); derives = (r, e, refl, F .1) }) p
+      (λ i r e f. let F = some-forest g (right r) f in record { tree = node i (F .0); derives = (r, e, refl, F .1) }) p
 
   ByRules : Tree → Type 0
   ByRules T = (X : ℕ) → IsTree g T X → ProductiveByRules X

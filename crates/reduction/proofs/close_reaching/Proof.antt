@@ -10,8 +10,9 @@ use lib.ListN.{length}
 use Rattle.items.specs.Layout.{leftAt, lengthAt, symbolAt}
 use Rattle.fixpoint.specs.Flags.{On, Marks}
 use Rattle.fixpoint.specs.Least.{Least, seed, by, Met, least-join, least-marks}
-use Rattle.fixpoint.proofs.CountLaws.{zeros, zeros-le}
-use Rattle.fixpoint.proofs.PassLaws.{Pass, pass-start, pass-more, pass-add, pass-join, set-on, on-at, not-off, no-gap, from-more}
+use Rattle.fixpoint.specs.Pass.{zeros, Pass}
+use Rattle.fixpoint.proofs.CountLaws.{zeros-le}
+use Rattle.fixpoint.proofs.PassLaws.{pass-start, pass-more, pass-add, pass-join, set-on, on-at, not-off, no-gap, from-more}
 use Rattle.reduction.specs.Reaches.{Occurrence, occurs}
 use Rattle.reduction.specs.InMemory.{reachingIn}
 use Rattle.reduction.proofs.close_reaching.Statement.{statement}
