@@ -38,18 +38,18 @@ starts-place {N = N} (X ∷ α) (inr h) =
     run p zero l = h .0
     run p (suc j) l = p .run j (le-of-suc-le-suc l)
 
-pub place-starts : {N F : ℕ → Type 0} (α : List ℕ) (k : ℕ) → k < length α → Below N α k → F (getD α k 0) → Starts N F α
-place-starts [] k l run f = absurd (not-suc-le-zero l)
-place-starts (X ∷ α) zero l run f = inl f
-place-starts (X ∷ α) (suc k) l run f = inr (run 0 (suc-le-suc zero-le), place-starts α k (le-of-suc-le-suc l) (λ j m. run (suc j) (suc-le-suc m)) f)
+pub place-starts : (N F : ℕ → Type 0) (α : List ℕ) (k : ℕ) → k < length α → Below N α k → F (getD α k 0) → Starts N F α
+place-starts N F [] k l run f = absurd (not-suc-le-zero l)
+place-starts N F (X ∷ α) zero l run f = inl f
+place-starts N F (X ∷ α) (suc k) l run f = inr (run 0 (suc-le-suc zero-le), place-starts N F α k (le-of-suc-le-suc l) (λ j m. run (suc j) (suc-le-suc m)) f)
 
 pub all-in : {N : ℕ → Type 0} (β : List ℕ) → ((a : ℕ) → In a β → N a) → AllIn N β
 all-in [] f = tt
 all-in (X ∷ β) f = (f X here, all-in β (λ a m. f a (there m)))
 
-pub in-all : {N : ℕ → Type 0} {β : List ℕ} → AllIn N β → (a : ℕ) → In a β → N a
-in-all h a here = h .0
-in-all h a (there m) = in-all (h .1) a m
+pub in-all : (N : ℕ → Type 0) (β : List ℕ) → AllIn N β → (a : ℕ) → In a β → N a
+in-all N (X ∷ β) h a here = h .0
+in-all N (X ∷ β) h a (there m) = in-all N β (h .1) a m
 
 pub starts-map : {N N′ F F′ : ℕ → Type 0} → ((x : ℕ) → N x → N′ x) → ((x : ℕ) → F x → F′ x) → (β : List ℕ) → Starts N F β → Starts N′ F′ β
 starts-map f g [] h = h
@@ -66,10 +66,11 @@ NoSeed x = ⊥
 
 -- place k of rule i, behind symbols of N: what begins its symbol begins the left side
 abbrev pub starting : Grammar → (ℕ → Type 0) → Clauses Occurrence ℕ
-starting g N = record
-    { ok = λ c. (symbolOf c < length (rightOf (ruleAt g (ruleOf c)))) × Below N (rightOf (ruleAt g (ruleOf c))) (symbolOf c)
-    ; needs = λ c a. a ≡ getD (rightOf (ruleAt g (ruleOf c))) (symbolOf c) 0
-    ; head = λ c. leftOf (ruleAt g (ruleOf c)) }
+starting g N = record {
+  ok = λ c. (symbolOf c < length (rightOf (ruleAt g (ruleOf c)))) × Below N (rightOf (ruleAt g (ruleOf c))) (symbolOf c);
+  needs = λ c a. a ≡ getD (rightOf (ruleAt g (ruleOf c))) (symbolOf c) 0;
+  head = λ c. leftOf (ruleAt g (ruleOf c));
+}
 
 module _ (g : Grammar) where
   abbrev pub NullableByRules : ℕ → Type 0
@@ -81,7 +82,7 @@ module _ (g : Grammar) where
       (λ i r e f. let F = empty-forest g (right r) (all-in (right r) f) in record { tree = node i (F .0); derives = (r, e, refl, F .1); empty = F .2 }) p
 
   pub nullable-rules : {X : ℕ} → Nullable g X → NullableByRules X
-  nullable-rules n = nullable-in g NullableByRules (λ i r e h. derive g i e (in-all h)) n
+  nullable-rules n = nullable-in g NullableByRules (λ i r e h. derive g i e (in-all NullableByRules (right r) h)) n
 
   -- a terminal begins with itself
   abbrev pub Itself : ℕ → ℕ → Type 0
@@ -90,26 +91,27 @@ module _ (g : Grammar) where
   abbrev pub BeginsByRules : ℕ → ℕ → Type 0
   BeginsByRules X c = Least (starting g (Nullable g)) (Itself c) X
 
-  start : {N S : ℕ → Type 0} (i : ℕ) {r : Rule} → ruleAt g i ≡ some r → Starts N (Least (starting g N) S) (right r) → Least (starting g N) S (r .left)
-  start {N} {S} i {r} e h =
+  pub start : (N S : ℕ → Type 0) (i : ℕ) {r : Rule} → ruleAt g i ≡ some r → Starts N (Least (starting g N) S) (right r) → Least (starting g N) S (r .left)
+  start N S i {r} e h =
       let p = starts-place (right r) h in
       let α = sym (ap rightOf e) in
       subst (Least (starting g N) S) (ap leftOf e)
       (by (occurs i (p .place)) (subst (λ (l : List ℕ). p .place < length l) α (p .within), subst (λ (l : List ℕ). Below N l (p .place)) α (p .run))
-        (λ a n. subst (Least (starting g N) S) (sym (n ∙ ap (λ (l : List ℕ). getD l (p .place) 0) (sym α))) (p .begins)))
+      (λ a n. subst (Least (starting g N) S) (sym (n ∙ ap (λ (l : List ℕ). getD l (p .place) 0) (sym α))) (p .begins)))
 
   pub begins-rules : {X c : ℕ} → Begins g X c → BeginsByRules X c
-  begins-rules {X} {c} b = begins-in g c (λ x. BeginsByRules x c) (λ t. seed (refl, t)) (λ i r e h. start i e h) b
+  begins-rules {X} {c} b = begins-in g c (λ x. BeginsByRules x c) (λ t. seed (refl, t)) (λ i r e h. start (Nullable g) (Itself c) i e h) b
 
   pub rules-begins : RightProductive g → {X c : ℕ} → BeginsByRules X c → Begins g X c
   rules-begins rich {X} {c} p = least-every (starting g (Nullable g)) (λ x. Begins g x c) leaf-begins (λ o ok ns. go (ruleOf o) (symbolOf o) (ruleAt g (ruleOf o)) refl ok (ns _ refl)) p
     where
       leaf-begins : (x : ℕ) → Itself c x → Begins g x c
       leaf-begins x s = record { tree = leaf c; derives = (sym (s .0), s .1); remainder = []; begins = refl }
+
       go : (i k : ℕ) (q : Option Rule) → ruleAt g i ≡ q → (k < length (rightOf q)) × Below (Nullable g) (rightOf q) k → Begins g (getD (rightOf q) k 0) c → Begins g (leftOf q) c
       go i k none e ok b = absurd (not-suc-le-zero (ok .0))
       go i k (some r) e ok b =
-          let F = starts-forest g (right r) c (rich i r e) (place-starts (right r) k (ok .0) (ok .1) b) in
+          let F = starts-forest g (right r) c (rich i r e) (place-starts (Nullable g) (λ x. Begins g x c) (right r) k (ok .0) (ok .1) b) in
           record { tree = node i (F .0); derives = (r, e, refl, F .2); remainder = F .1; begins = F .3 }
 
   -- first(β, {d}) by rules, and by forests

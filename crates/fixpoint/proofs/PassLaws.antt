@@ -40,6 +40,7 @@ module _ {n : ℕ} {P : ℕ → Type 0} where
     where
       not-zero : (m : ℕ) → m + 1 ≡ 0 → ⊥
       not-zero m e = omega arith
+
       higher : (a b : ℕ) → a ≤ b → b + 1 ≡ a → ⊥
       higher a b h e = omega arith
 
@@ -75,10 +76,13 @@ module _ {n : ℕ} {P : ℕ → Type 0} where
     where
       left-zero : (x y : ℕ) → x + y ≡ 0 → x ≡ 0
       left-zero x y e = omega arith
+
       right-zero : (x y : ℕ) → x + y ≡ 0 → y ≡ 0
       right-zero x y e = omega arith
+
       none-more : a + r ≡ a₀ → r ≡ 0
       none-more e = omega (arith, p .grown)
+
       none-before : a + r ≡ a₀ → a ≡ a₀
       none-before e = omega (arith, p .grown)
 

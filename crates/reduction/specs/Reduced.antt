@@ -36,12 +36,15 @@ module _ (g : Grammar) where
   unfoldable pub terminal? : (x : ℕ) → Dec (IsTerminal g x)
   terminal? x = both? (decLe 1 x) (decLe x (g .terminals))
 
-  unfoldable pub productive? : (X : ℕ) → Dec (Productive g X)
-  productive? X =
-      map? (rules-productive g) (productive-rules g)
-      (decide (productions g) (IsTerminal g) ℕ-discrete terminal? (numbers (length (g .rules)))
+  -- what the rules give from seeds that are decided
+  unfoldable pub derived? : (S : ℕ → Type 0) → ((x : ℕ) → Dec (S x)) → (X : ℕ) → Dec (Least (productions g) S X)
+  derived? S seed? X =
+      decide (productions g) S ℕ-discrete seed? (numbers (length (g .rules)))
       (λ Q h i ok. let l = rule-range g i (ok .1) in numbers-all (length (g .rules)) Q h i (l .0) (l .1))
-      (λ D test i. whole? D test i (ruleAt g i) refl) X)
+      (λ D test i. whole? D test i (ruleAt g i) refl) X
+
+  unfoldable pub productive? : (X : ℕ) → Dec (Productive g X)
+  productive? X = map? (rules-productive g) (productive-rules g) (derived? (IsTerminal g) terminal? X)
 
   -- reply 5's place: the lowest nonterminal that derives no string of terminals
   unfoldable pub lowestUnproductive : Found
