@@ -1,2 +1,3 @@
 pub mod ByRules
 pub mod Decided
+pub mod InMemory
