@@ -60,3 +60,10 @@ pub record RestBegins (m : List ℕ) (N F : ℕ → Type 0) (i k : ℕ) : Type 0
   pub within : place < lengthAt m i
   pub run : (j : ℕ) → k ≤ j → j < place → N (symbolAt m i j)
   pub begins : F (symbolAt m i place)
+
+-- of each item: whether its rest from a dot on is nullable, and what begins it
+abbrev pub EmptyRest : List ℕ → (ℕ → Type 0) → ℕ → ℕ → ℕ → Type 0
+EmptyRest m N items k i = IsRule items i × RestNullable m N i k
+
+abbrev pub RestFirst : List ℕ → (ℕ → Type 0) → (ℕ → ℕ → Type 0) → ℕ → ℕ → ℕ → ℕ → Type 0
+RestFirst m N F items k i c = IsRule items i × RestBegins m N (λ (x : ℕ). F x c) i k

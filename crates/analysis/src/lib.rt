@@ -7,7 +7,7 @@ ghost use Rattle.items.specs.Layout.{Shaped, Holds};
 ghost use Rattle.fixpoint.specs.Flags.{On, Marks, Decides};
 ghost use Rattle.fixpoint.specs.Pass.{Pass};
 ghost use Rattle.fixpoint.specs.Rows.{Row};
-ghost use Rattle.analysis.specs.InMemory.{Has, FirstFrom, Copied, Includes, RuleMet, Diagonal, SetsOf, RestNullable, RestBegins};
+ghost use Rattle.analysis.specs.InMemory.{Has, FirstFrom, Copied, Includes, RuleMet, Diagonal, SetsOf, RestNullable, RestBegins, EmptyRest, RestFirst};
 
 // Sets in row `to` what is set in row `from`; answers how many flags that were.
 fn merge_row(flags: &mut [u8], from: usize, to: usize) -> usize
@@ -143,4 +143,47 @@ pub fn rest_begins(
         j += 1;
     }
     false
+}
+
+// Flags each item whose symbols from k on are all nullable.
+pub fn find_empty_rests(m: &[u8], items: usize, k: usize, nullable: &[u8], rests: &mut [u8])
+    requires { ⌜ Shaped (now m) items ⌝ }
+    requires { ⌜ items < 256 ⌝ }
+    requires { ⌜ (length (now nullable) ≡ 128) × (now rests ≡ replicate 256 0) ⌝ }
+    ensures { λ _. ⌜ Marks (EmptyRest (now (m .entry)) (On (now (nullable .entry))) items k) (now (rests .exit)) ⌝ }
+{
+    let mut i = 1;
+    while i <= items {
+        if rest_nullable(m, items, i, k, nullable) {
+            rests[i] = 1;
+        }
+        i += 1;
+    }
+}
+
+// Sets in each item's row the codes that begin what its symbols from k on derive.
+pub fn find_rest_firsts(
+    m: &[u8],
+    items: usize,
+    k: usize,
+    nullable: &[u8],
+    first: &[u8],
+    rests: &mut [u8],
+)
+    requires { ⌜ Shaped (now m) items ⌝ }
+    requires { ⌜ items < 256 ⌝ }
+    requires { ⌜ (length (now nullable) ≡ 128) × (length (now first) ≡ 8192) × (now rests ≡ replicate 16384 0) ⌝ }
+    ensures { λ _. ⌜ Marks (Row (RestFirst (now (m .entry)) (On (now (nullable .entry))) (Has (now (first .entry))) items k)) (now (rests .exit)) ⌝ }
+{
+    let mut i = 1;
+    'items: while i <= items {
+        let mut c = 0;
+        'codes: while c < 64 {
+            if rest_begins(m, items, i, k, c, nullable, first) {
+                rests[i * 64 + c] = 1;
+            }
+            c += 1;
+        }
+        i += 1;
+    }
 }
