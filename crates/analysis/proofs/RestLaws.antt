@@ -1,19 +1,17 @@
 -- first(β, σ) where β is the rest of an item: what the two tests of memory say of it.
-use Prim.Native.Nat.{ℕ, zero, suc, _+_, _-_, _≤_, _<_}
-use mathlib.Core.Path.{_≡_, refl, sym, ap, subst, _∙_}
+use Prim.Native.Nat.{ℕ, _+_, _-_, _≤_, _<_}
+use mathlib.Core.Path.{_≡_, sym, ap, subst, _∙_}
 use mathlib.Core.Logic.{_⊎_, inl, inr}
-use mathlib.Core.List.{List, [], _∷_}
-use native.Mathlib.Nat.{not-suc-le-zero, le-of-suc-le-suc}
+use mathlib.Core.List.{List}
 use native.Mathlib.Omega.{arith}
 use lib.ListN.{length, getD, drop, length-drop}
 use lib.Seq.{getD-drop}
 use Rattle.language.specs.Grammar.{Grammar}
-use Rattle.language.specs.Sentence.{In}
 use Rattle.language.specs.GrammarLaws.{in-string, in-index}
-use Rattle.language.specs.Nullable.{Nullable, AllIn, Starts}
+use Rattle.language.specs.Nullable.{AllIn, Starts}
 use Rattle.items.specs.Layout.{lengthAt, symbolAt, RowIs}
-use Rattle.fixpoint.specs.Flags.{On, Marks}
-use Rattle.fixpoint.specs.Rows.{cell, Row, to-row, from-row}
+use Rattle.fixpoint.specs.Flags.{On}
+use Rattle.fixpoint.specs.Rows.{cell, to-row, from-row}
 use Rattle.analysis.specs.ByRules.{Place, Below, starts-place, place-starts, all-in, in-all, BeginsByRules, FirstByRules}
 use Rattle.analysis.specs.InMemory.{Has, SetsOf, RestNullable, RestBegins}
 

@@ -1,12 +1,12 @@
 -- Rows of codes under the rules: what a row copied into another, a rule gone through and a pass with nothing added mean.
-use Prim.Native.Nat.{ℕ, _+_, _*_, _%_, _≤_, _<_}
-use mathlib.Core.Path.{_≡_, refl, sym, ap, subst, subst₂, _∙_}
+use Prim.Native.Nat.{ℕ, _%_, _<_}
+use mathlib.Core.Path.{_≡_, refl, sym, subst, subst₂, _∙_}
 use mathlib.Core.List.{List}
 use native.Mathlib.Decide.{decLt}
 use native.Mathlib.Omega.{arith}
 use Rattle.items.specs.Layout.{leftAt, lengthAt, symbolAt}
 use Rattle.fixpoint.specs.Flags.{On, Off, Marks}
-use Rattle.fixpoint.specs.Least.{Least, seed, by, least-every, least-join}
+use Rattle.fixpoint.specs.Least.{seed, by, least-every, least-join}
 use Rattle.fixpoint.specs.Rows.{cell, Row, row-cell, column-low, to-row, from-row}
 use Rattle.reduction.specs.Reaches.{occurs, ruleOf, symbolOf}
 use Rattle.reduction.specs.InMemory.{IsRule}

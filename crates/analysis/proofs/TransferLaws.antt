@@ -1,12 +1,12 @@
 -- From flags in memory to the grammar that memory holds.
-use Prim.Native.Nat.{ℕ, zero, suc, _+_, _%_, _≤_, _<_}
-use mathlib.Core.Path.{_≡_, refl, sym, ap, subst, _∙_}
+use Prim.Native.Nat.{ℕ, _%_, _≤_, _<_}
+use mathlib.Core.Path.{_≡_, refl, sym, subst, _∙_}
 use mathlib.Core.List.{List}
 use mathlib.Core.Option.{Option, some, none}
 use native.Mathlib.Nat.{not-suc-le-zero}
 use native.Mathlib.Omega.{arith}
 use lib.ListN.{length, getD, replicate}
-use Rattle.language.specs.Grammar.{Grammar, Rule, right, ruleAt, IsTerminal}
+use Rattle.language.specs.Grammar.{Grammar, Rule, ruleAt}
 use Rattle.language.specs.GrammarLaws.{rule-range, range-rule}
 use Rattle.language.specs.Nullable.{Nullable}
 use Rattle.items.specs.Layout.{leftAt, lengthAt, symbolAt, Holds, Shaped}
@@ -15,7 +15,7 @@ use Rattle.fixpoint.specs.Least.{Least, Among, least-map}
 use Rattle.fixpoint.specs.Rows.{cell, Row, column-low, to-row, from-row}
 use Rattle.fixpoint.proofs.PassLaws.{all-off}
 use Rattle.reduction.specs.Derives.{leftOf}
-use Rattle.reduction.specs.Reaches.{Occurrence, occurs, ruleOf, symbolOf}
+use Rattle.reduction.specs.Reaches.{Occurrence, ruleOf, symbolOf}
 use Rattle.reduction.specs.InMemory.{IsRule, productionsIn}
 use Rattle.reduction.proofs.TransferLaws.{productions-to, productions-from, marks-map}
 use Rattle.analysis.specs.ByRules.{rightOf, starting, Itself, BeginsByRules, rules-nullable, nullable-rules}

@@ -7,7 +7,7 @@ use mathlib.Core.Option.{Option, some, none}
 use native.Mathlib.Nat.{not-suc-le-zero, le-of-suc-le-suc}
 use lib.ListN.{length, getD}
 use Rattle.language.specs.Grammar.{Grammar, Rule, right, ruleAt, IsTerminal}
-use Rattle.language.specs.Derivation.{leaf, node, IsTree}
+use Rattle.language.specs.Derivation.{leaf, node}
 use Rattle.language.specs.Sentence.{In, here, there, Productive}
 use Rattle.language.specs.First.{First}
 use Rattle.language.specs.Nullable.{Nullable, Begins, RightProductive, AllIn, Starts}

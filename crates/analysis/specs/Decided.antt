@@ -1,21 +1,19 @@
 -- Nullable symbols, what begins with a code, and first(β, σ) by rules, as tests.
-use Prim.Native.Nat.{ℕ, zero, suc, _+_, _≤_, _<_, zero-le, suc-le-suc}
-use mathlib.Core.Path.{_≡_, refl, sym, ap, subst, _∙_}
-use mathlib.Core.Logic.{_⊎_, inl, inr}
+use Prim.Native.Nat.{ℕ, zero, suc, _≤_, _<_}
+use mathlib.Core.Path.{_≡_, refl, sym, subst}
 use mathlib.Core.List.{List, [], _∷_}
 use mathlib.Core.Option.{Option, some, none}
-use native.Mathlib.Nat.{not-suc-le-zero, le-of-suc-le-suc}
+use native.Mathlib.Nat.{not-suc-le-zero}
 use native.Mathlib.Decide.{ℕ-discrete, decLt}
 use native.Mathlib.Omega.{arith}
 use borrow.Author.Count.{below-more}
 use lib.ListN.{length, getD}
-use Rattle.language.specs.Grammar.{Grammar, Rule, ruleAt, IsTerminal}
+use Rattle.language.specs.Grammar.{Grammar, Rule, ruleAt}
 use Rattle.language.specs.GrammarLaws.{rule-range}
 use Rattle.language.specs.Nullable.{Nullable, AllIn, Starts}
 use Rattle.fixpoint.specs.Tests.{map?, both?, either?}
-use Rattle.fixpoint.specs.Least.{Clauses, Least}
 use Rattle.fixpoint.specs.Decision.{Each, decide}
-use Rattle.reduction.specs.Reaches.{Occurrence, occurs, ruleOf, symbolOf}
+use Rattle.reduction.specs.Reaches.{Occurrence, occurs}
 use Rattle.reduction.specs.Reduced.{derived?, terminal?}
 use Rattle.analysis.specs.ByRules.{Below, rightOf, NoSeed, starting, Itself, BeginsByRules, FirstByRules, rules-nullable, nullable-rules}
 

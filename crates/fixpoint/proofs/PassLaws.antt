@@ -1,6 +1,6 @@
 -- How passes go on, one in another, and small laws of flags, ranges and tests.
 use Prim.Native.Nat.{ℕ, zero, suc, _+_, _≤_, _<_}
-use mathlib.Core.Path.{_≡_, refl, sym, ap, subst, subst₂, _∙_}
+use mathlib.Core.Path.{_≡_, refl, sym, subst, subst₂, _∙_}
 use mathlib.Core.Bool.{Bool, true, false, true≢false, false≢true}
 use mathlib.Core.List.{List}
 use native.Mathlib.Nat.{le-refl}
@@ -8,7 +8,7 @@ use native.Mathlib.Omega.{arith}
 use borrow.Author.Count.{below-more}
 use lib.ListN.{length, getD, set, replicate, length-set}
 use Rattle.fixpoint.specs.Flags.{On, Off, Decides}
-use Rattle.fixpoint.specs.Pass.{zeros, Pass}
+use Rattle.fixpoint.specs.Pass.{Pass}
 use Rattle.fixpoint.proofs.CountLaws.{zeros-set, only-set, keep-set}
 
 module _ {n : ℕ} {P : ℕ → Type 0} where

@@ -1,6 +1,6 @@
 -- Least sets, given by clauses.
 use Prim.Native.Nat.{ℕ}
-use mathlib.Core.Path.{_≡_, sym, subst}
+use mathlib.Core.Path.{_≡_, subst}
 use mathlib.Core.List.{List}
 use Rattle.fixpoint.specs.Flags.{On, Marks}
 

@@ -1,6 +1,6 @@
 -- Flags in rows of 64, a row for each symbol, a column for each code.
 use Prim.Native.Nat.{ℕ, _+_, _*_, _/_, _%_, _<_}
-use mathlib.Core.Path.{_≡_, sym, subst, subst₂}
+use mathlib.Core.Path.{_≡_, sym, subst₂}
 use native.Mathlib.Omega.{arith}
 
 -- the place of code c in row x

@@ -1,5 +1,4 @@
 -- Tests put together from tests. They compute, so a definition that goes by them is an equation.
-use mathlib.Core.Path.{_≡_}
 use mathlib.Core.Logic.{_⊎_, inl, inr}
 
 unfoldable pub map? : {P Q : Type 0} → (P → Q) → (Q → P) → Dec P → Dec Q

@@ -1,12 +1,12 @@
 -- How a row is built: a store for each symbol as it comes, one where a group begins, and the four figures at the end.
-use Prim.Native.Nat.{ℕ, zero, suc, _+_, _*_, _≤_, _<_}
-use mathlib.Core.Path.{_≡_, refl, sym, ap, subst, _∙_}
-use mathlib.Core.List.{List, [], _∷_, _++_, append-assoc, append-nil}
+use Prim.Native.Nat.{ℕ, _+_, _≤_, _<_}
+use mathlib.Core.Path.{_≡_, sym, ap, _∙_}
+use mathlib.Core.List.{List, [], _∷_, _++_}
 use native.Mathlib.Omega.{arith}
-use lib.ListN.{length, getD, set, replicate, length-append, length-replicate}
+use lib.ListN.{length, getD, set, replicate, length-replicate}
 use lib.Seq.{sets, length-sets}
 use Rattle.items.specs.Layout.{body, row}
-use Rattle.items.proofs.StoreLaws.{sets-join, sets-snoc, set-below, set-above, set-inside, read-below, read-above, read-inside, read-zeros, set-zero, sets-zeros}
+use Rattle.items.proofs.StoreLaws.{sets-snoc, set-below, set-inside, read-above, read-zeros, set-zero, sets-zeros}
 
 pub body-length : (α φ : List ℕ) → length (body α φ) ≡ 64
 unfolding body

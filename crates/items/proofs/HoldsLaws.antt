@@ -3,7 +3,6 @@ use Prim.Native.Nat.{ℕ, _≤_, _<_}
 use mathlib.Core.Path.{_≡_, sym, subst, _∙_}
 use mathlib.Core.List.{List}
 use native.Mathlib.Omega.{arith}
-use lib.ListN.{length, getD}
 use Rattle.language.specs.Sentence.{In}
 use Rattle.language.specs.GrammarLaws.{in-string, in-index}
 use Rattle.items.specs.Layout.{lengthAt, symbolAt, RowIs}

@@ -2,18 +2,18 @@
 use Prim.Native.Nat.{ℕ, zero, suc, _+_, _*_, _-_, _≤_, _<_}
 use mathlib.Core.Path.{_≡_, refl, sym, ap, subst, _∙_}
 use mathlib.Core.Logic.{_⊎_, inl, inr}
-use mathlib.Core.List.{List, [], _∷_, _++_}
-use mathlib.Core.Option.{Option, some, none}
+use mathlib.Core.List.{List, [], _∷_}
+use mathlib.Core.Option.{some}
 use native.Mathlib.Nat.{add-zero}
-use native.Mathlib.Decide.{decLt, decLe}
+use native.Mathlib.Decide.{decLt}
 use native.Mathlib.Omega.{arith}
 use lib.ListN.{length, getD, replicate, length-replicate, List·getD-eq-default}
 use lib.Seq.{sets, length-sets}
-use Rattle.language.specs.Grammar.{Grammar, Rule, right, concat, at, ruleAt, IsTerminal, IsNonterminal}
+use Rattle.language.specs.Grammar.{Grammar, Rule, right, at, ruleAt, IsTerminal, IsNonterminal}
 use Rattle.language.specs.Listing.{unitOf}
 use Rattle.language.specs.GrammarLaws.{not-there, at-below, in-string}
-use Rattle.language.specs.WellFormed.{RuleFormed, WellFormed}
-use Rattle.items.specs.Layout.{body, row, rowOf, entryRow, startsOf, itemTable, layout, leftAt, lengthAt, symbolAt, RowIs, RuleIn, EntryIn, Holds, Shaped}
+use Rattle.language.specs.WellFormed.{WellFormed}
+use Rattle.items.specs.Layout.{body, row, startsOf, itemTable, layout, leftAt, lengthAt, symbolAt, RowIs, RuleIn, EntryIn, Holds, Shaped}
 use Rattle.items.proofs.StoreLaws.{read-inside, read-below, read-above, read-zeros}
 use Rattle.items.proofs.BuildLaws.{body-length}
 use Rattle.items.proofs.TableLaws.{table-length, table-front, table-read-rule, table-read-entry}

@@ -1,11 +1,11 @@
 -- A run of stores: what a store beside it or into it does, and what is read back.
 use Prim.Native.Nat.{ℕ, zero, suc, _+_, _≤_, _<_}
-use mathlib.Core.Path.{_≡_, refl, sym, ap, subst, _∙_}
-use mathlib.Core.List.{List, [], _∷_, _++_, append-nil}
+use mathlib.Core.Path.{_≡_, refl, sym, ap, _∙_}
+use mathlib.Core.List.{List, [], _∷_, _++_}
 use native.Mathlib.Nat.{not-suc-le-zero, le-of-suc-le-suc, add-zero}
 use native.Mathlib.Omega.{arith}
-use lib.ListN.{length, getD, set, replicate, length-set, length-append, length-replicate, getD-replicate, List·getD-eq-default}
-use lib.Seq.{sets, set-comm, set-out, set-set, set-getD, getD-set-same, getD-set-other, length-sets}
+use lib.ListN.{length, getD, set, replicate, length-set}
+use lib.Seq.{sets, set-comm, set-set, set-getD, getD-set-same, getD-set-other}
 
 pub sets-join : (l a b : List ℕ) (i : ℕ) → sets l i (a ++ b) ≡ sets (sets l i a) (i + length a) b
 sets-join l [] b i = ap (λ (n : ℕ). sets l n b) (sym (add-zero i))

@@ -2,15 +2,14 @@
 use Prim.Native.Nat.{ℕ, zero, suc, _+_, _*_, _≤_, _<_}
 use mathlib.Core.Path.{_≡_, refl, sym, ap, subst, _∙_}
 use mathlib.Core.List.{List, [], _∷_, _++_, append-assoc, append-nil}
-use mathlib.Core.Option.{Option, some, none}
-use native.Mathlib.Nat.{suc-ne-zero}
+use mathlib.Core.Option.{some}
 use native.Mathlib.Omega.{arith}
-use lib.ListN.{length, getD, set, replicate, length-append, length-replicate, List·getD-append}
+use lib.ListN.{length, getD, replicate, length-append, length-replicate, List·getD-append}
 use lib.Seq.{sets, length-sets, getD-append-add}
-use Rattle.language.specs.Grammar.{Grammar, Rule, right, concat, at}
+use Rattle.language.specs.Grammar.{Rule, right, concat, at}
 use Rattle.language.specs.Listing.{unitOf}
 use Rattle.language.specs.GrammarLaws.{not-there}
-use Rattle.items.specs.Layout.{row, rowOf, entryRow, startsOf, entryRows, itemRows, itemTable}
+use Rattle.items.specs.Layout.{rowOf, entryRow, startsOf, entryRows, itemRows, itemTable}
 use Rattle.items.proofs.StoreLaws.{sets-join, read-inside, read-below, read-above, read-zeros}
 use Rattle.items.proofs.BuildLaws.{row-length}
 

@@ -1,6 +1,6 @@
 -- first by symbols: what begins a string is what begins one of its symbols behind nullable ones, or what follows a string of
 -- nullable symbols. And sets that are closed under the rules hold every nullable symbol, and all that begin with c.
-use Prim.Native.Nat.{ℕ, zero, suc}
+use Prim.Native.Nat.{ℕ}
 use native.Mathlib.Nat.{suc-ne-zero}
 use mathlib.Core.Logic.{_⊎_, inl, inr}
 use mathlib.Core.Path.{_≡_, refl, sym, ap, ap₂, _∙_, subst}
@@ -8,7 +8,7 @@ use mathlib.Core.List.{List, [], _∷_, _++_}
 use mathlib.Core.Option.{some}
 use lib.ListN.{length}
 use Rattle.language.specs.Grammar.{Grammar, Rule, ruleAt, right, IsTerminal, IsNonterminal}
-use Rattle.language.specs.Derivation.{Tree, Forest, leaf, node, nil, cons, yield, yields, All, tree-ind, IsTree, IsForest}
+use Rattle.language.specs.Derivation.{Tree, Forest, leaf, nil, cons, yield, yields, All, tree-ind, IsTree, IsForest}
 use Rattle.language.specs.Sentence.{In, here, there, Productive, AllProductive}
 use Rattle.language.specs.First.{next, First}
 use Rattle.language.specs.WellFormed.{WellFormed}

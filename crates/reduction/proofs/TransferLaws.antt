@@ -1,18 +1,17 @@
 -- From the clauses in memory to those of the grammar that memory holds, and what the flags then say.
-use Prim.Native.Nat.{ℕ, zero, suc, _+_, _≤_, _<_}
+use Prim.Native.Nat.{ℕ, _+_, _≤_, _<_}
 use mathlib.Core.Path.{_≡_, refl, sym, ap, subst, _∙_}
 use mathlib.Core.List.{List}
 use mathlib.Core.Option.{some}
 use native.Mathlib.Decide.{ℕ-discrete}
-use native.Mathlib.Omega.{arith}
-use lib.ListN.{length, getD, set, replicate, length-replicate}
-use Rattle.language.specs.Grammar.{Grammar, Rule, right, ruleAt, IsTerminal}
+use lib.ListN.{getD, set, replicate, length-replicate}
+use Rattle.language.specs.Grammar.{Grammar, Rule, right, ruleAt}
 use Rattle.language.specs.Sentence.{In, Productive, Reachable}
 use Rattle.language.specs.GrammarLaws.{rule-range, range-rule}
-use Rattle.items.specs.Layout.{leftAt, lengthAt, symbolAt, Holds, Shaped}
+use Rattle.items.specs.Layout.{leftAt, symbolAt, Holds, Shaped}
 use Rattle.items.proofs.HoldsLaws.{symbol-in, in-symbol}
 use Rattle.fixpoint.specs.Flags.{On, Off, Marks}
-use Rattle.fixpoint.specs.Least.{Clauses, Least, Among, least-map}
+use Rattle.fixpoint.specs.Least.{Least, Among, least-map}
 use Rattle.fixpoint.proofs.CountLaws.{on-set, only-set}
 use Rattle.fixpoint.proofs.PassLaws.{all-off}
 use Rattle.fixpoint.specs.declared.Found.{Found}

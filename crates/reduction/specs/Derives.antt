@@ -1,9 +1,8 @@
 -- Productive symbols by rules: the least set that holds the terminals, and a rule's left side once it holds the whole right side.
-use Prim.Native.Nat.{ℕ, zero, suc, _≤_}
-use mathlib.Core.Path.{_≡_, refl, sym, ap, subst, _∙_}
+use Prim.Native.Nat.{ℕ}
+use mathlib.Core.Path.{_≡_, refl, sym, ap, subst}
 use mathlib.Core.List.{List, [], _∷_}
 use mathlib.Core.Option.{Option, some, none}
-use native.Mathlib.Omega.{arith}
 use Rattle.language.specs.Grammar.{Grammar, Rule, right, ruleAt, IsTerminal}
 use Rattle.language.specs.Derivation.{Tree, Forest, leaf, node, nil, cons, All, tree-ind, IsTree, IsForest}
 use Rattle.language.specs.Sentence.{In, here, there, Productive}

@@ -1,9 +1,7 @@
 -- Reachable symbols by rules, for tests: the least set that holds the goal, and each symbol of a rule whose left side it holds.
-use Prim.Native.Nat.{ℕ, zero, suc, _<_}
+use Prim.Native.Nat.{ℕ}
 use mathlib.Core.Path.{_≡_, refl, sym, ap, subst, _∙_}
-use mathlib.Core.List.{List, [], _∷_}
-use mathlib.Core.Option.{Option, some, none}
-use lib.ListN.{length, getD}
+use mathlib.Core.Option.{some}
 use Rattle.language.specs.Grammar.{Grammar, Rule, right, ruleAt}
 use Rattle.language.specs.Sentence.{In, Reachable, from-goal, from-rule}
 use Rattle.fixpoint.specs.Least.{Clauses, Least, seed, by, least-every}

@@ -1,23 +1,21 @@
 -- A grammar is reduced when each of its nonterminals is productive and reachable. Document 01, 'Replies' 5 and 6, by tests.
-use Prim.Native.Nat.{ℕ, zero, suc, _+_, _≤_, _<_, zero-le, suc-le-suc}
-use mathlib.Core.Path.{_≡_, refl, sym, ap, subst, _∙_}
-use mathlib.Core.List.{List, [], _∷_, _++_}
+use Prim.Native.Nat.{ℕ, zero, suc, _+_}
+use mathlib.Core.Path.{_≡_, refl, sym, subst}
 use mathlib.Core.Option.{Option, some, none}
-use native.Mathlib.Nat.{not-suc-le-zero, le-of-suc-le-suc}
 use native.Mathlib.Decide.{ℕ-discrete, decLe}
 use native.Mathlib.Omega.{arith}
 use lib.ListN.{length}
-use Rattle.language.specs.Grammar.{Grammar, Rule, right, at, ruleAt, IsTerminal, IsNonterminal}
-use Rattle.language.specs.Sentence.{In, here, there, Productive, Reachable, AllProductive}
+use Rattle.language.specs.Grammar.{Grammar, Rule, right, ruleAt, IsTerminal, IsNonterminal}
+use Rattle.language.specs.Sentence.{In, Productive, Reachable, AllProductive}
 use Rattle.language.specs.GrammarLaws.{not-there, rule-range}
 use Rattle.fixpoint.specs.declared.Found.{Found}
 use Rattle.fixpoint.specs.Tests.{map?, both?, not?, not-not}
-use Rattle.fixpoint.specs.Least.{Clauses, Least}
+use Rattle.fixpoint.specs.Least.{Least}
 use Rattle.fixpoint.specs.Lowest.{Lowest, lowest, lowest-is}
 use Rattle.fixpoint.specs.Decision.{Each, decide}
 use Rattle.reduction.specs.Strings.{each?, in?, numbers, numbers-all, occurrences, occurrences-all}
-use Rattle.reduction.specs.Derives.{leftOf, productions, ProductiveByRules, rules-productive, productive-rules}
-use Rattle.reduction.specs.Reaches.{Occurrence, occurs, ruleOf, symbolOf, reaching, ReachableByRules, rules-reachable, reachable-rules}
+use Rattle.reduction.specs.Derives.{leftOf, productions, rules-productive, productive-rules}
+use Rattle.reduction.specs.Reaches.{Occurrence, occurs, reaching, rules-reachable, reachable-rules}
 
 module _ (g : Grammar) where
   -- whether all symbols of a rule's right side are in a set

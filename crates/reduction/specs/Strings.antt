@@ -1,12 +1,12 @@
 -- Tests of strings, and lists of what a grammar has, for the decisions.
-use Prim.Native.Nat.{ℕ, zero, suc, _+_, _≤_, _<_}
-use mathlib.Core.Path.{_≡_, refl, sym, ap, subst}
+use Prim.Native.Nat.{ℕ, zero, suc, _+_, _≤_}
+use mathlib.Core.Path.{_≡_, refl, sym, subst}
 use mathlib.Core.Logic.{_⊎_, inl, inr}
-use mathlib.Core.List.{List, [], _∷_, _++_}
-use mathlib.Core.Option.{some, none}
+use mathlib.Core.List.{List, [], _∷_}
+use mathlib.Core.Option.{some}
 use native.Mathlib.Decide.{ℕ-discrete}
 use native.Mathlib.Omega.{arith}
-use Rattle.language.specs.Grammar.{Grammar, Rule, right, at, ruleAt}
+use Rattle.language.specs.Grammar.{Rule, right, at}
 use Rattle.language.specs.Sentence.{In, here, there}
 use Rattle.language.specs.GrammarLaws.{not-there}
 use Rattle.fixpoint.specs.Tests.{map?, both?, either?}

@@ -1,6 +1,6 @@
 // Whether a grammar in memory is reduced: each nonterminal productive and reachable.
 ghost use mathlib.Core.Path.{_≡_};
-ghost use Prim.Native.Nat.{ℕ, _+_, _<_, _≤_};
+ghost use Prim.Native.Nat.{_+_, _<_, _≤_};
 ghost use lib.ListN.{length, replicate};
 ghost use Rattle.language.specs.Grammar.{Grammar};
 ghost use Rattle.items.specs.Layout.{Shaped, Holds};

@@ -1,6 +1,6 @@
 -- Nullable symbols from cleared flags, first sets from the terminals' own.
 use Prim.Native.Nat.{ℕ}
-use mathlib.Core.Path.{_≡_, ap, _∙_}
+use mathlib.Core.Path.{ap, _∙_}
 use borrow.Author.Needs.{needs}
 use lib.ListN.{length, length-replicate}
 use Rattle.analysis.proofs.TransferLaws.{sets-of}

@@ -1,11 +1,11 @@
 -- The flags set are those of the terminals passed, each in its own row.
-use Prim.Native.Nat.{ℕ, _+_, _*_, _%_, _≤_, _<_, _-_}
+use Prim.Native.Nat.{ℕ, _+_, _%_, _≤_, _<_, _-_}
 use mathlib.Core.Path.{_≡_, refl, sym, ap, subst, _∙_}
 use mathlib.Core.List.{List}
 use native.Mathlib.Omega.{arith}
 use borrow.Author.Needs.{needs}
 use lib.ListN.{length, length-set, length-replicate}
-use Rattle.fixpoint.specs.Flags.{On, Marks}
+use Rattle.fixpoint.specs.Flags.{On}
 use Rattle.fixpoint.specs.Rows.{cell, Row, row-cell, to-row}
 use Rattle.fixpoint.proofs.CountLaws.{on-set, only-set, keep-set}
 use Rattle.fixpoint.proofs.PassLaws.{all-off, no-gap, from-more}

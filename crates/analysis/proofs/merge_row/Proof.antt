@@ -1,14 +1,13 @@
 -- What is set in row `to` was there, or was set in row `from`; the codes passed are included.
 use Prim.Native.Nat.{ℕ, _+_, _*_, _≤_, _<_, _-_}
-use mathlib.Core.Path.{_≡_, refl, sym, ap, subst, _∙_}
+use mathlib.Core.Path.{_≡_, refl, subst}
 use mathlib.Core.Logic.{⊎-elim}
 use mathlib.Core.List.{List}
 use native.Mathlib.Omega.{arith}
 use borrow.Author.Needs.{needs}
 use borrow.Author.Count.{below-more, below-none}
-use lib.ListN.{length}
 use Rattle.fixpoint.specs.Flags.{On}
-use Rattle.fixpoint.specs.Pass.{zeros, Pass}
+use Rattle.fixpoint.specs.Pass.{Pass}
 use Rattle.fixpoint.specs.Rows.{cell}
 use Rattle.fixpoint.proofs.CountLaws.{zeros-le}
 use Rattle.fixpoint.proofs.PassLaws.{pass-start, pass-more, pass-add, set-on, not-off}

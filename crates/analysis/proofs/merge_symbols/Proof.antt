@@ -1,13 +1,12 @@
 -- The symbols passed are nullable, and their rows are included in the left side's.
-use Prim.Native.Nat.{ℕ, _+_, _≤_, _<_, _-_}
-use mathlib.Core.Path.{_≡_, refl, sym, ap, subst, _∙_}
+use Prim.Native.Nat.{ℕ, _≤_, _<_, _-_}
+use mathlib.Core.Path.{_≡_, refl}
 use native.Mathlib.Omega.{arith}
 use borrow.Author.Needs.{needs}
 use borrow.Author.Count.{below-more, below-none}
-use lib.ListN.{length}
 use Rattle.items.specs.Layout.{leftAt, lengthAt, symbolAt}
 use Rattle.fixpoint.specs.Flags.{On}
-use Rattle.fixpoint.specs.Pass.{zeros, Pass}
+use Rattle.fixpoint.specs.Pass.{Pass}
 use Rattle.fixpoint.specs.Rows.{Row}
 use Rattle.fixpoint.proofs.CountLaws.{zeros-le}
 use Rattle.fixpoint.proofs.PassLaws.{pass-start, pass-more, pass-call, set-on, on-at, off-at}

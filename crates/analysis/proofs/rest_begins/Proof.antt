@@ -1,6 +1,6 @@
 -- The symbols passed are nullable, and do not begin with the code.
 use Prim.Native.Nat.{ℕ, _≤_, _<_, _-_}
-use mathlib.Core.Path.{_≡_, ap, sym, subst}
+use mathlib.Core.Path.{_≡_, ap}
 use mathlib.Core.List.{List}
 use native.Mathlib.Decide.{decLt}
 use native.Mathlib.Omega.{arith}
@@ -8,7 +8,7 @@ use borrow.Author.Needs.{needs}
 use Rattle.items.specs.Layout.{lengthAt, symbolAt}
 use Rattle.fixpoint.specs.Flags.{On, Off}
 use Rattle.fixpoint.specs.Rows.{cell}
-use Rattle.fixpoint.proofs.PassLaws.{set-on, on-at, off-at, not-off, is-yes, is-no, no-gap, from-more}
+use Rattle.fixpoint.proofs.PassLaws.{set-on, on-at, off-at, is-yes, is-no, no-gap, from-more}
 use Rattle.analysis.specs.InMemory.{Has, RestBegins}
 use Rattle.analysis.proofs.rest_begins.Statement.{statement}
 use Rattle.analysis.proofs.rest_begins.Tie as tie

@@ -6,13 +6,13 @@ use mathlib.Core.List.{List}
 use native.Mathlib.Omega.{arith}
 use borrow.Author.Needs.{needs}
 use lib.ListN.{length}
-use Rattle.items.specs.Layout.{leftAt, lengthAt, symbolAt}
-use Rattle.fixpoint.specs.Flags.{On, Marks}
+use Rattle.items.specs.Layout.{leftAt, symbolAt}
+use Rattle.fixpoint.specs.Flags.{On}
 use Rattle.fixpoint.specs.Least.{Least, seed, by, least-join, least-marks}
 use Rattle.fixpoint.specs.Pass.{zeros, Pass}
 use Rattle.fixpoint.proofs.CountLaws.{zeros-le}
 use Rattle.fixpoint.proofs.PassLaws.{pass-start, pass-more, pass-add, set-on, on-at, no-gap, from-more}
-use Rattle.reduction.specs.InMemory.{SymbolIn, productionsIn, AllOn}
+use Rattle.reduction.specs.InMemory.{productionsIn, AllOn}
 use Rattle.reduction.proofs.close_productions.Statement.{statement}
 use Rattle.reduction.proofs.close_productions.Tie as tie
 

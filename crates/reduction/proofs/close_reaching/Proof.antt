@@ -8,7 +8,7 @@ use borrow.Author.Needs.{needs}
 use borrow.Author.Count.{below-more, below-none}
 use lib.ListN.{length}
 use Rattle.items.specs.Layout.{leftAt, lengthAt, symbolAt}
-use Rattle.fixpoint.specs.Flags.{On, Marks}
+use Rattle.fixpoint.specs.Flags.{On}
 use Rattle.fixpoint.specs.Least.{Least, seed, by, Met, least-join, least-marks}
 use Rattle.fixpoint.specs.Pass.{zeros, Pass}
 use Rattle.fixpoint.proofs.CountLaws.{zeros-le}
