@@ -2,8 +2,7 @@
 use Prim.Native.Nat.{ℕ, _-_, _<_, _≤_}
 use mathlib.Core.List.{List, [], _∷_}
 use mathlib.Core.Bool.{Bool, true, false, cond, _&&_}
-use lib.ListN.{length, getD}
-use lib.Seq.{slice}
+use lib.ListN.{length, getD, take, drop}
 use lib.Dec.{leb, eqb}
 use Rattle.scans.specs.declared.Line.{Line}
 use Rattle.scans.specs.declared.Previous.{Previous}
@@ -14,7 +13,7 @@ unfoldable pub codeOf : List ℕ → ℕ → ℕ
 codeOf letters b = cond (leb 65 b && leb b 90) (getD letters (b - 65) 0) 0
 
 abbrev pub bytesOf : List ℕ → Line → List ℕ
-bytesOf s line = slice (line .start) (line .next) s
+bytesOf s line = take (line .next - line .start) (drop (line .start) s)
 
 unfoldable pub sameBytes : List ℕ → List ℕ → Bool
 sameBytes [] [] = true

@@ -80,7 +80,10 @@ fn text_byte(b: u8) -> bool
     if 126 < b {
         return false;
     }
-    b != b','
+    if b == b',' {
+        return false;
+    }
+    true
 }
 
 // A text of n bytes, whose LF is before `next`.
