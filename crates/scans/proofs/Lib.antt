@@ -1,2 +1,4 @@
 pub mod TextLaws
 pub mod RepeatLaws
+pub mod LetterLaws
+pub mod LineLaws

@@ -1,21 +1,18 @@
-use mathlib.Core.Path.{_≡_, refl, sym, ap, subst, _∙_}
-use mathlib.Core.Logic.{⊎-elim}
-use Prim.Native.Nat.{ℕ, zero, suc, _+_, _*_, _≤_, _<_, _-_}
-use native.Mathlib.Omega.{arith}
-use borrow.Author.Count.{below-more, below-none}
-use lib.ListN.{length, getD, set, length-set, replicate}
+-- `scans::code_of` meets its contract. Assumes nothing.
+use mathlib.Core.Path.{_≡_}
 use borrow.Author.Needs.{needs}
+use borrow.Author.Tests.{le-leb, lt-leb}
+use Rattle.scans.specs.Token.{codeOf}
 use Rattle.scans.proofs.code_of.Statement.{statement}
 use Rattle.scans.proofs.code_of.Tie as tie
-use Rattle.scans.proofs.code_of.Reads as reads
-use Rattle.scans.proofs.code_of.Lts as lts
-use Rattle.scans.proofs.wide.Reads as wide-reads
 
 returns : tie.Need-returns
-returns c = search needs
+unfolding codeOf
+returns c = simp (lt-leb _ _ (c .if1 .taken))
 
 returns-2 : tie.Need-returns-2
-returns-2 c = search needs
+unfolding codeOf
+returns-2 c = simp (le-leb _ _ (c .before .if1 .left), lt-leb _ _ (c .if2 .taken))
 
 wide-requires : tie.Need-wide-requires
 wide-requires c κs = search needs
@@ -27,7 +24,10 @@ element-copy-out-result : tie.Need-element-copy-out-result
 element-copy-out-result c = search needs
 
 returns-3 : tie.Need-returns-3
-returns-3 c = search needs
+unfolding codeOf
+returns-3 c =
+    let w = c .before in
+    simp (w .wide .ensures .0, le-leb _ _ (w .before .before .if1 .left), le-leb _ _ (w .before .if2 .left))
 
 pub code-of-spec : {M : Type 1} → statement M
 code-of-spec =

@@ -1,15 +1,9 @@
-use mathlib.Core.Path.{_≡_, refl, sym, ap, subst, _∙_}
-use mathlib.Core.Logic.{⊎-elim}
-use Prim.Native.Nat.{ℕ, zero, suc, _+_, _*_, _≤_, _<_, _-_}
-use native.Mathlib.Omega.{arith}
-use borrow.Author.Count.{below-more, below-none}
-use lib.ListN.{length, getD, set, length-set, replicate}
+-- `scans::repeats_line` meets its contract. Assumes nothing.
 use borrow.Author.Needs.{needs}
+use Rattle.scans.specs.Token.{repeats}
+use Rattle.scans.proofs.RepeatLaws.{same-told}
 use Rattle.scans.proofs.repeats_line.Statement.{statement}
 use Rattle.scans.proofs.repeats_line.Tie as tie
-use Rattle.scans.proofs.repeats_line.Reads as reads
-use Rattle.scans.proofs.repeats_line.Lts as lts
-use Rattle.check.proofs.same.Reads as same-reads
 
 sub-same : tie.Need-sub-same
 sub-same c = search needs
@@ -33,7 +27,8 @@ same-requires : tie.Need-same-requires
 same-requires c κs = search needs
 
 returns : tie.Need-returns
-returns c = search needs
+unfolding repeats
+returns c = same-told _ _ _ (c .same .ensures .0) (c .same .ensures .1)
 
 pub repeats-line-spec : {M : Type 1} → statement M
 repeats-line-spec =

@@ -1,15 +1,11 @@
-use mathlib.Core.Path.{_≡_, refl, sym, ap, subst, _∙_}
-use mathlib.Core.Logic.{⊎-elim}
-use Prim.Native.Nat.{ℕ, zero, suc, _+_, _*_, _≤_, _<_, _-_}
-use native.Mathlib.Omega.{arith}
-use borrow.Author.Count.{below-more, below-none}
-use lib.ListN.{length, getD, set, length-set, replicate}
+-- `scans::token_of` meets its contract. Assumes nothing.
+use mathlib.Core.Path.{_≡_, sym, ap, subst, _∙_}
 use borrow.Author.Needs.{needs}
+use denote.Ref.{now}
+use Rattle.scans.specs.declared.Previous.{Previous}
+use Rattle.scans.specs.Token.{tokenOf, WithinFile}
 use Rattle.scans.proofs.token_of.Statement.{statement}
 use Rattle.scans.proofs.token_of.Tie as tie
-use Rattle.scans.proofs.token_of.Reads as reads
-use Rattle.scans.proofs.token_of.Lts as lts
-use Rattle.scans.proofs.repeats_line.Reads as repeats-line-reads
 
 enum-known-previous : tie.Need-enum-known-previous
 enum-known-previous c = search needs
@@ -18,16 +14,28 @@ enum-told : tie.Need-enum-told
 enum-told c = search needs
 
 returns : tie.Need-returns
-returns c = search needs
+unfolding tokenOf
+returns c = simp (c .enum-told .given .1)
 
 repeats-line-requires : tie.Need-repeats-line-requires
-repeats-line-requires c κs = search needs
+repeats-line-requires c κs =
+    let p = c .before in
+    let a = p .before .before .before in
+    (subst (λ (x : Previous). WithinFile (now (a .args .file)) x) (p .previous .given .1) (a .pre .0), a .pre .1)
 
 returns-2 : tie.Need-returns-2
-returns-2 c = search needs
+unfolding tokenOf
+returns-2 c =
+    let r = c .before in
+    let e = sym (r .repeats-line .ensures) ∙ c .if1 .taken in
+    simp (r .before .before .previous .given .1, e)
 
 returns-3 : tie.Need-returns-3
-returns-3 c = search needs
+unfolding tokenOf
+returns-3 c =
+    let r = c .before in
+    let e = sym (r .repeats-line .ensures) ∙ c .if1 .left in
+    simp (r .before .before .previous .given .1, e)
 
 pub token-of-spec : {M : Type 1} → statement M
 token-of-spec =
