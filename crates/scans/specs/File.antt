@@ -47,10 +47,13 @@ linesFrom letters s (suc k) before at =
     (refusedAt kind.Malformed at))
     (tokens [])
 
--- "Scan files: length, then lines in order": "book or scan file | 0 | 65,536 bytes", place "0 for a length". A line has a byte at
--- least, so there are at most as many lines as bytes.
+-- all lines; a line has a byte at least, so there are at most as many lines as bytes
+abbrev pub allLines : List ℕ → List ℕ → Scanned
+allLines letters s = linesFrom letters s (length s) previous.Nothing 0
+
+-- "Scan files: length, then lines in order": "book or scan file | 0 | 65,536 bytes", place "0 for a length"
 unfoldable pub scanned : List ℕ → List ℕ → Scanned
-scanned letters s = cond (leb (length s) 65536) (linesFrom letters s (length s) previous.Nothing 0) (refusedAt kind.LimitExceeded 0)
+scanned letters s = cond (leb (length s) 65536) (allLines letters s) (refusedAt kind.LimitExceeded 0)
 
 -- the reply before the room is looked at: of whole, the place is "tokens read"
 abbrev pub replyOf : Scanned → Reply

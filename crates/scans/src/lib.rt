@@ -8,7 +8,7 @@ ghost use Prim.Native.Nat.{_≤_, _<_};
 ghost use lib.ListN.{length, drop, set};
 ghost use Rattle.scans.specs.Line.{textByte, textEnd, textFrom, lineAt};
 ghost use Rattle.scans.specs.Token.{codeOf, repeats, Within, WithinFile, tokenOf};
-ghost use Rattle.scans.specs.File.{house, linesFrom, Stored, outcomeOf, scanned, scansOf};
+ghost use Rattle.scans.specs.File.{allLines, Stored, outcomeOf, scanned, scansOf};
 
 // A line: its letter, its first byte and the byte past its LF.
 pub struct Line {
@@ -197,7 +197,7 @@ fn store(tokens: &mut [u8], i: usize, token: u8)
 
 // Reads the lines, and stores their tokens as far as there is room.
 fn read_lines(letters: &[u8; 26], file: &[u8], tokens: &mut [u8]) -> Reply
-    ensures { λ r. ⌜ Stored (linesFrom (now (letters .entry)) (now (file .entry)) (length (now (file .entry))) Previous.Nothing 0) r (now (tokens .entry)) (now (tokens .exit)) ⌝ }
+    ensures { λ r. ⌜ Stored (allLines (now (letters .entry)) (now (file .entry))) r (now (tokens .entry)) (now (tokens .exit)) ⌝ }
 {
     let mut previous = Previous::Nothing;
     let mut at = 0;
