@@ -4,3 +4,4 @@ pub mod LetterLaws
 pub mod LineLaws
 pub mod ReadLaws
 pub mod OutcomeLaws
+pub mod TokenLaws

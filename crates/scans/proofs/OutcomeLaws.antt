@@ -13,21 +13,21 @@ use Rattle.reply.specs.declared.Reply.{Reply}
 use Rattle.reply.specs.declared.Reply.the-variants as reply
 use Rattle.scans.specs.File.{Scanned, tokens, refused, refusedAt, allLines, scanned, replyOf, Outcome, outcomeOf, Stored}
 
-drop-zeros : (n k : ℕ) → drop k (replicate n 0) ≡ replicate (n - k) 0
-drop-zeros n zero = refl
-drop-zeros zero (suc k) = refl
-drop-zeros (suc n) (suc k) = drop-zeros n k
+drop-zeros : (n k : ℕ) → drop {A = ℕ} k (replicate n 0) ≡ replicate (n - k) 0
+drop-zeros n zero = let e : n ≡ n - 0 = omega arith in ap (λ (m : ℕ). replicate m 0) e
+drop-zeros zero (suc k) = let e : 0 ≡ 0 - suc k = omega arith in ap (λ (m : ℕ). replicate m 0) e
+drop-zeros (suc n) (suc k) = let e : n - k ≡ suc n - suc k = omega arith in drop-zeros n k ∙ ap (λ (m : ℕ). replicate m 0) e
 
 sets-zeros : (l : List ℕ) (room : ℕ) → length l ≤ room → sets (replicate room 0) 0 l ≡ l ++ replicate (room - length l) 0
 sets-zeros l room h =
-    let e : length (replicate room 0) ≡ room = length-replicate room 0 in
+    let e : length {A = ℕ} (replicate room 0) ≡ room = length-replicate room 0 in
     sets-eq l (replicate room 0) 0 (omega arith) ∙ simp (zero-add, drop-zeros room (length l))
 
 -- r and `held` are the reply and the slice that reading s into a slice of `room` tokens gives
 abbrev pub Answers : List ℕ → List ℕ → ℕ → Reply → List ℕ → Type 0
 Answers letters s room r held = (r ≡ outcomeOf (scanned letters s) room .reply) × (held ≡ outcomeOf (scanned letters s) room .tokens)
 
-module _ {letters s : List ℕ} {room : ℕ} where
+module _ (letters s : List ℕ) (room : ℕ) where
   refused-answer : {x : Refusal} → scanned letters s ≡ refused x → {r : Reply} {zeros : List ℕ} → r ≡ reply.Refused x → zeros ≡ replicate room 0 → Answers letters s room r zeros
   unfolding outcomeOf
   refused-answer e p q = (p ∙ simp e, q ∙ simp e)
@@ -65,7 +65,7 @@ module _ {letters s : List ℕ} {room : ℕ} where
       enough-room z f =
           let l = listed .0 in
           let k : length l ≤ room = omega (arith, listed .2) in (
-            simp (by-lines, listed .1, le-leb (length l) room k, listed .2),
+            ap reply.Accepted (sym (listed .2)) ∙ simp (by-lines, listed .1, le-leb (length l) room k),
             d .stored l (listed .1) ∙ ap (λ (m : List ℕ). sets m 0 l) z ∙ sets-zeros l room k ∙ simp (by-lines, listed .1, le-leb (length l) room k),
           )
 

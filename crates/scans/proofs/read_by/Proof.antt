@@ -19,7 +19,7 @@ same-length : tie.Need-same-length
 same-length c = search needs
 
 returns : tie.Need-returns
-returns c = too-long (c .before .if1 .taken) (c .refuse .ensures) (c .before .before .before .before .clear .ensures)
+returns c = too-long _ _ _ (c .before .if1 .taken) (c .refuse .ensures) (c .before .before .before .before .clear .ensures)
 
 read-lines-requires : tie.Need-read-lines-requires
 read-lines-requires c κs = search needs
@@ -35,7 +35,7 @@ returns-2 c =
     let v = c .before .before in
     let d = v .before .before .before .before in
     let f = d .before .before in
-    enough-room (f .if1 .left) (d .read-lines .ensures) (v .read .given .1) (f .before .before .before .clear .ensures) ?
+    enough-room _ _ _ (f .if1 .left) (d .read-lines .ensures) (v .read .given .1) (f .before .before .before .clear .ensures) (search needs)
 
 clear-requires-2 : tie.Need-clear-requires-2
 clear-requires-2 c κs = search needs
@@ -53,13 +53,34 @@ same-length-3 : tie.Need-same-length-3
 same-length-3 c = search needs
 
 returns-3 : tie.Need-returns-3
-returns-3 c = ?
+returns-3 c =
+    let z = c .before .before .before in
+    let v = z .before .before .before .before in
+    let d = v .before .before .before .before in
+    let f = d .before .before in
+    let e : length (d .read-lines .last .1 .1 .0) ≡ length (now (f .before .before .before .before .before .before .before .args .tokens)) = search needs in
+    no-room
+    _
+    _
+    _
+    (f .if1 .left)
+    (d .read-lines .ensures)
+    (v .read .given .1)
+    (omega (arith, e, z .before .before .if2 .left))
+    (c .refuse2 .ensures)
+    (z .clear2 .ensures ∙ ap (λ (n : ℕ). replicate n 0) e)
 
 same-length-4 : tie.Need-same-length-4
 same-length-4 c = search needs
 
 returns-4 : tie.Need-returns-4
-returns-4 c = ?
+returns-4 c =
+    let z = c .before .before in
+    let v = z .before .before .before in
+    let d = v .before .before .before .before in
+    let f = d .before .before in
+    let e : length (d .read-lines .last .1 .1 .0) ≡ length (now (f .before .before .before .before .before .before .before .args .tokens)) = search needs in
+    refused-lines _ _ _ (f .if1 .left) (d .read-lines .ensures) (v .read2 .given .1) (z .clear3 .ensures ∙ ap (λ (n : ℕ). replicate n 0) e)
 
 pub read-by-spec : {M : Type 1} → statement M
 read-by-spec =

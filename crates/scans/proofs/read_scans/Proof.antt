@@ -1,15 +1,8 @@
-use mathlib.Core.Path.{_≡_, refl, sym, ap, subst, _∙_}
-use mathlib.Core.Logic.{⊎-elim}
-use Prim.Native.Nat.{ℕ, zero, suc, _+_, _*_, _≤_, _<_, _-_}
-use native.Mathlib.Omega.{arith}
-use borrow.Author.Count.{below-more, below-none}
-use lib.ListN.{length, getD, set, length-set, replicate}
+-- `scans::read_scans` meets its contract. Assumes nothing.
 use borrow.Author.Needs.{needs}
+use Rattle.scans.specs.File.{scansOf}
 use Rattle.scans.proofs.read_scans.Statement.{statement}
 use Rattle.scans.proofs.read_scans.Tie as tie
-use Rattle.scans.proofs.read_scans.Reads as reads
-use Rattle.scans.proofs.read_scans.Lts as lts
-use Rattle.scans.proofs.read_by.Reads as read-by-reads
 
 read-by-requires : tie.Need-read-by-requires
 read-by-requires c κs = search needs
@@ -18,6 +11,7 @@ same-length : tie.Need-same-length
 same-length c = search needs
 
 returns : tie.Need-returns
+unfolding scansOf
 returns c = search needs
 
 pub read-scans-spec : {M : Type 1} → statement M
