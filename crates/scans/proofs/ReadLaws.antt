@@ -69,16 +69,17 @@ module _ (letters s : List ℕ) (before : Previous) (at : ℕ) where
 
 pub going-start : (letters s lent : List ℕ) → Going letters s (allLines letters s) lent lent previous.Nothing 0 0
 going-start letters s lent =
-    record
-    { out = []
-    ; fuel = length s
-    ; enough = omega arith
-    ; within = tt
-    ; counted = refl
-    ; few = omega arith
-    ; stored = refl
-    ; long = refl
-    ; same = sym (join-none _) }
+    record {
+      out = [];
+      fuel = length s;
+      enough = omega arith;
+      within = tt;
+      counted = refl;
+      few = omega arith;
+      stored = refl;
+      long = refl;
+      same = sym (join-none _);
+    }
 
 module _ {letters s : List ℕ} {all : Scanned} {lent held : List ℕ} {before : Previous} {at count : ℕ} (g : Going letters s all lent held before at count) where
   -- there is fuel for the line at `at`
@@ -121,20 +122,21 @@ module _ {letters s : List ℕ} {all : Scanned} {lent held : List ℕ} {before :
           → held′ ≡ set held count (tokenOf s before line (codeOf letters (line .letter)))
           → Going letters s all lent held′ (previous.Line line) (line .next) (count + 1)
       line-read f {held′} e =
-          record
-          { out = g .out ++ token ∷ []
-          ; fuel = k .0
-          ; enough = omega (arith, k .1, w .0, w .1 .some, g .enough)
-          ; within = w .1
-          ; counted = length-append (g .out) (token ∷ []) ∙ ap (λ (n : ℕ). n + 1) (g .counted)
-          ; few = omega (arith, w .0, w .1 .some, g .few)
-          ; stored = e ∙ simp (g .stored, sets-more (g .out) lent 0 token, zero-add, g .counted)
-          ; long = ap length e ∙ length-set held count token ∙ g .long
-          ; same =
-            g .same
+          record {
+            out = g .out ++ token ∷ [];
+            fuel = k .0;
+            enough = omega (arith, k .1, w .0, w .1 .some, g .enough);
+            within = w .1;
+            counted = length-append (g .out) (token ∷ []) ∙ ap (λ (n : ℕ). n + 1) (g .counted);
+            few = omega (arith, w .0, w .1 .some, g .few);
+            stored = e ∙ simp (g .stored, sets-more (g .out) lent 0 token, zero-add, g .counted);
+            long = ap length e ∙ length-set held count token ∙ g .long;
+            same =
+                g .same
                 ∙ ap (λ (n : ℕ). join (g .out) (linesFrom letters s n before at)) (k .1)
                 ∙ ap (join (g .out)) (read-here letters s before at h q f (k .0))
-                ∙ join-one (g .out) token (linesFrom letters s (k .0) (previous.Line line) (line .next)) }
+                ∙ join-one (g .out) token (linesFrom letters s (k .0) (previous.Line line) (line .next));
+          }
         where
           token : ℕ
           token = tokenOf s before line (codeOf letters (line .letter))

@@ -1,11 +1,12 @@
 -- What is known of the tokens of a file that was read.
 use Prim.Native.Nat.{ℕ, zero, suc, _-_, _<_, _≤_}
-use mathlib.Core.Path.{_≡_, refl, sym, ap, subst, _∙_}
+use mathlib.Core.Path.{_≡_, refl, ap, subst, _∙_}
 use mathlib.Core.List.{List, [], _∷_, _++_}
 use mathlib.Core.Bool.{Bool, true, false, cond, _&&_}
 use native.Mathlib.Omega.{arith}
-use borrow.Author.Tests.{leb-true, leb-false, eqb-false}
-use lib.Dec.{T, leb, ltb, eqb}
+use borrow.Author.Needs.{needs}
+use borrow.Author.Tests.{leb-true, eqb-false}
+use lib.Dec.{leb, ltb, eqb}
 use lib.ListN.{length, getD, replicate}
 use Rattle.reply.specs.declared.Refusal.{Refusal}
 use Rattle.reply.specs.declared.Reply.the-variants as reply
@@ -26,7 +27,7 @@ module _
     (none : (k : ℕ) → Q k (tokens []))
     (fails : (k : ℕ) (x : Refusal) → Q k (refused x))
     (more : (k : ℕ) (before : Previous) (line : Line) → (codeOf letters (line .letter) ≡ 0 → ⊥) → (rest : Scanned) → Q k rest
-      → Q (suc k) (join (tokenOf s before line (codeOf letters (line .letter)) ∷ []) rest)) where
+    → Q (suc k) (join (tokenOf s before line (codeOf letters (line .letter)) ∷ []) rest)) where
   by-lines : (k : ℕ) (before : Previous) (at : ℕ) → Q k (linesFrom letters s k before at)
   unfolding linesFrom
   by-lines zero before at = none zero
@@ -39,13 +40,13 @@ module _
 
       go : (t : Bool) (x : Parsed) → ((line : Line) → Q k (linesFrom letters s k (previous.Line line) (line .next)))
           → Q (suc k)
-            (cond t
-            (onLine x
-              (λ line.
-                cond (eqb (codeOf letters (line .letter)) 0) (refusedAt kind.Undeclared at)
-                (join (tokenOf s before line (codeOf letters (line .letter)) ∷ []) (linesFrom letters s k (previous.Line line) (line .next))))
-              (refusedAt kind.Malformed at))
-            (tokens []))
+          (cond t
+          (onLine x
+          (λ line.
+          cond (eqb (codeOf letters (line .letter)) 0) (refusedAt kind.Undeclared at)
+          (join (tokenOf s before line (codeOf letters (line .letter)) ∷ []) (linesFrom letters s k (previous.Line line) (line .next))))
+          (refusedAt kind.Malformed at))
+          (tokens []))
       go true (parsed.Line line) f = coded line (linesFrom letters s k (previous.Line line) (line .next)) (eqb (codeOf letters (line .letter)) 0) refl (f line)
       go true parsed.Broken f = fails (suc k) _
       go false x f = none (suc k)
@@ -100,7 +101,7 @@ module _ (P : ℕ → Type 0) (letters s : List ℕ) (four : P 4) (code : (b : �
   each-token l e =
       each-at P l
       (subst (EachOf P) (scanned-lines letters s l e)
-        (by-lines letters s (λ k. EachOf P) (λ k. tt) (λ k x. tt) (λ k before line f rest r. more _ rest (token-of before line f) r) (length s) previous.Nothing 0))
+      (by-lines letters s (λ k. EachOf P) (λ k. tt) (λ k x. tt) (λ k before line f rest r. more _ rest (token-of before line f) r) (length s) previous.Nothing 0))
     where
       more : (t : ℕ) (rest : Scanned) → P t → EachOf P rest → EachOf P (join (t ∷ []) rest)
       more t (tokens l) p r = (p, r)
@@ -141,10 +142,12 @@ scans-listed s room n e = go (scanned house s) refl
   where
     room-for : (l : List ℕ) → scanned house s ≡ tokens l → (t : Bool) → leb (length l) room ≡ t → Listed s room n
     room-for l q true p =
-        let c : length l ≡ n = let f = sym e ∙ simp (q, p) in let g : length l ≡ n = cc in g in
-        record { list = l; read = q; counted = c; fits = omega (arith, leb-true (length l) room p); held = simp (q, p, c) }
-    room-for l q false p = let f = sym e ∙ simp (q, p) in let z : _≡_ {A = ℕ} 0 1 = cc in absurd (omega arith)
+        let f = simp (q, p) at e in
+        let c : length l ≡ n = cc in
+        let h : scansOf s room .tokens ≡ l ++ replicate (room - length l) 0 = simp (q, p) in
+        record { list = l; read = q; counted = c; fits = omega (arith, leb-true (length l) room p); held = h ∙ ap (λ (m : ℕ). l ++ replicate (room - m) 0) c }
+    room-for l q false p = let f = simp (q, p) at e in let z : _≡_ {A = ℕ} 0 1 = cc in absurd (omega arith)
 
     go : (x : Scanned) → scanned house s ≡ x → Listed s room n
     go (tokens l) q = room-for l q (leb (length l) room) refl
-    go (refused x) q = let f = sym e ∙ simp q in let z : _≡_ {A = ℕ} 0 1 = cc in absurd (omega arith)
+    go (refused x) q = let f = simp q at e in let z : _≡_ {A = ℕ} 0 1 = cc in absurd (omega arith)

@@ -38,7 +38,7 @@ same-length : tie.Need-same-length Inv-loop μ-loop
 same-length c = search needs
 
 returns : tie.Need-returns Inv-loop μ-loop
-returns c = 
+returns c =
     let l = c .before .before .before in
     line-broken (l .before .before .loop .inv) (l .before .loop-test .taken) (sym (l .read-line .ensures) ∙ c .before .enum-told .given .1) (c .refuse .ensures)
 
@@ -52,7 +52,7 @@ same-length-2 : tie.Need-same-length-2 Inv-loop μ-loop
 same-length-2 c = search needs
 
 returns-2 : tie.Need-returns-2 Inv-loop μ-loop
-returns-2 c = 
+returns-2 c =
     let k = c .before .before in
     let l = k .before .before .before .before in
     line-undeclared
@@ -63,7 +63,7 @@ returns-2 c =
     (c .refuse2 .ensures)
 
 token-of-requires : tie.Need-token-of-requires Inv-loop μ-loop
-token-of-requires c κs = 
+token-of-requires c κs =
     let k = c .before .before in
     let l = k .before .before .before .before in
     (l .before .before .loop .inv .within, line-in _ _ (sym (l .read-line .ensures) ∙ k .before .before .line .given .1) .1)
