@@ -45,8 +45,8 @@ module _ (letters s : List ℕ) (room : ℕ) where
     unfolding scanned
     by-lines = simp (le-leb (length s) 65536 h)
 
-    pub refused-lines : {x : Refusal} → r ≡ reply.Refused x → {zeros : List ℕ} → zeros ≡ replicate room 0 → Answers letters s room (reply.Refused x) zeros
-    refused-lines {x} e q = refused-answer (by-lines ∙ go (allLines letters s) (sym e ∙ d .replied)) refl q
+    pub refused-lines : {x : Refusal} → r ≡ reply.Refused x → {a : Reply} {zeros : List ℕ} → a ≡ reply.Refused x → zeros ≡ replicate room 0 → Answers letters s room a zeros
+    refused-lines {x} e p q = refused-answer (by-lines ∙ go (allLines letters s) (sym e ∙ d .replied)) p q
       where
         go : (y : Scanned) → reply.Refused x ≡ replyOf y → y ≡ refused x
         go (tokens l) p = let z : _≡_ {A = ℕ} 0 1 = cc in absurd (omega arith)

@@ -1,11 +1,12 @@
 // Reads scan files: a token for each line.
 use reply::Kind;
+use reply::Refusal;
 use reply::Reply;
 use text::Cursor;
 use text::Field;
 ghost use mathlib.Core.Path.{_≡_};
 ghost use Prim.Native.Nat.{_≤_, _<_};
-ghost use lib.ListN.{length, drop, set};
+ghost use lib.ListN.{length, drop, set, replicate};
 ghost use Rattle.scans.specs.Line.{textByte, textEnd, textFrom, lineAt};
 ghost use Rattle.scans.specs.Token.{codeOf, repeats, Within, WithinFile, tokenOf};
 ghost use Rattle.scans.specs.File.{allLines, Stored, outcomeOf, scanned, scansOf};
@@ -218,6 +219,15 @@ fn read_lines(letters: &[u8; 26], file: &[u8], tokens: &mut [u8]) -> Reply
     Reply::Accepted(count)
 }
 
+// A refusal leaves zeros.
+fn refuse_file(tokens: &mut [u8], why: Refusal) -> Reply
+    ensures refused { λ r. ⌜ r ≡ Reply.Refused why ⌝ }
+    ensures zeroed { λ r. ⌜ now (tokens .exit) ≡ replicate (length (now (tokens .entry))) 0 ⌝ }
+{
+    reply::clear(tokens);
+    Reply::Refused(why)
+}
+
 // Reads a scan file by the codes of its letters.
 fn read_by(letters: &[u8; 26], file: &[u8], tokens: &mut [u8]) -> Reply
     ensures replied { λ r. ⌜ r ≡ outcomeOf (scanned (now (letters .entry)) (now (file .entry))) (length (now (tokens .entry))) .reply ⌝ }
@@ -233,13 +243,13 @@ fn read_by(letters: &[u8; 26], file: &[u8], tokens: &mut [u8]) -> Reply
             if count <= tokens.len() {
                 return Reply::Accepted(count);
             }
-            reply::clear(tokens);
-            reply::refuse(Kind::BufferTooSmall, 0)
+            let why = Refusal {
+                kind: Kind::BufferTooSmall,
+                place: 0,
+            };
+            refuse_file(tokens, why)
         }
-        Reply::Refused(why) => {
-            reply::clear(tokens);
-            Reply::Refused(why)
-        }
+        Reply::Refused(why) => refuse_file(tokens, why),
     }
 }
 

@@ -37,24 +37,21 @@ returns-2 c =
     let f = d .before .before in
     enough-room _ _ _ (f .if1 .left) (d .read-lines .ensures) (v .read .given .1) (f .before .before .before .clear .ensures) (search needs)
 
-clear-requires-2 : tie.Need-clear-requires-2
-clear-requires-2 c κs = search needs
-
-refuse-requires-2 : tie.Need-refuse-requires-2
-refuse-requires-2 c κs = search needs
+refuse-file-requires : tie.Need-refuse-file-requires
+refuse-file-requires c κs = search needs
 
 enum-known-read-2 : tie.Need-enum-known-read-2
 enum-known-read-2 c = search needs
 
-clear-requires-3 : tie.Need-clear-requires-3
-clear-requires-3 c κs = search needs
+refuse-file-requires-2 : tie.Need-refuse-file-requires-2
+refuse-file-requires-2 c κs = search needs
 
 same-length-3 : tie.Need-same-length-3
 same-length-3 c = search needs
 
 returns-3 : tie.Need-returns-3
 returns-3 c =
-    let z = c .before .before .before in
+    let z = c .before .before in
     let v = z .before .before .before .before in
     let d = v .before .before .before .before in
     let f = d .before .before in
@@ -67,8 +64,8 @@ returns-3 c =
     (d .read-lines .ensures)
     (v .read .given .1)
     (omega (arith, e, z .before .before .if2 .left))
-    (c .refuse2 .ensures)
-    (z .clear2 .ensures ∙ ap (λ (n : ℕ). replicate n 0) e)
+    (z .refuse-file .ensures .0)
+    (z .refuse-file .ensures .1 ∙ ap (λ (n : ℕ). replicate n 0) e)
 
 same-length-4 : tie.Need-same-length-4
 same-length-4 c = search needs
@@ -80,7 +77,15 @@ returns-4 c =
     let d = v .before .before .before .before in
     let f = d .before .before in
     let e : length (d .read-lines .last .1 .1 .0) ≡ length (now (f .before .before .before .before .before .before .before .args .tokens)) = search needs in
-    refused-lines _ _ _ (f .if1 .left) (d .read-lines .ensures) (v .read2 .given .1) (z .clear3 .ensures ∙ ap (λ (n : ℕ). replicate n 0) e)
+    refused-lines
+    _
+    _
+    _
+    (f .if1 .left)
+    (d .read-lines .ensures)
+    (v .read2 .given .1)
+    (z .refuse-file2 .ensures .0)
+    (z .refuse-file2 .ensures .1 ∙ ap (λ (n : ℕ). replicate n 0) e)
 
 pub read-by-spec : {M : Type 1} → statement M
 read-by-spec =
@@ -94,10 +99,9 @@ read-by-spec =
     enum-known-read
     same-length-2
     returns-2
-    clear-requires-2
-    refuse-requires-2
+    refuse-file-requires
     enum-known-read-2
-    clear-requires-3
+    refuse-file-requires-2
     same-length-3
     returns-3
     same-length-4
