@@ -5,10 +5,11 @@ use reply::Reply;
 use text::Cursor;
 use text::Field;
 ghost use mathlib.Core.Path.{_≡_};
+ghost use mathlib.Core.Bool.{true};
 ghost use Prim.Native.Nat.{_≤_, _<_};
 ghost use lib.ListN.{length, drop, set, replicate};
 ghost use Rattle.scans.specs.Line.{textByte, textEnd, textFrom, lineAt};
-ghost use Rattle.scans.specs.Token.{codeOf, repeats, Within, WithinFile, tokenOf};
+ghost use Rattle.scans.specs.Token.{codeOf, bytesOf, repeats, Within, WithinFile, tokenOf};
 ghost use Rattle.scans.specs.File.{allLines, Stored, outcomeOf, scanned, scansOf};
 
 // A line: its letter, its first byte and the byte past its LF.
@@ -159,17 +160,27 @@ fn code_of(letters: &[u8; 26], letter: u8) -> u8
     letters[wide(letter) - 65]
 }
 
+// Whether two lines are the same bytes.
+fn same_bytes(file: &[u8], a: Line, b: Line) -> bool
+    requires { ⌜ Within (now file) a ⌝ }
+    requires { ⌜ Within (now file) b ⌝ }
+    ensures same { λ r. ⌜ (r ≡ true → bytesOf (now (file .entry)) a ≡ bytesOf (now (file .entry)) b) ⌝ }
+    ensures told { λ r. ⌜ (bytesOf (now (file .entry)) a ≡ bytesOf (now (file .entry)) b → r ≡ true) ⌝ }
+{
+    let from = a.start;
+    let to = a.next;
+    let start = b.start;
+    let next = b.next;
+    check::same(&file[from..to], &file[start..next])
+}
+
 // Whether a line repeats the line before it.
 fn repeats_line(file: &[u8], before: Line, line: Line) -> bool
     requires { ⌜ Within (now file) before ⌝ }
     requires { ⌜ Within (now file) line ⌝ }
     ensures { λ r. ⌜ r ≡ repeats (now (file .entry)) before line ⌝ }
 {
-    let from = before.start;
-    let to = before.next;
-    let start = line.start;
-    let next = line.next;
-    check::same(&file[from..to], &file[start..next])
+    same_bytes(file, before, line)
 }
 
 // The token of a line whose letter has the code `code`.
@@ -220,11 +231,11 @@ fn read_lines(letters: &[u8; 26], file: &[u8], tokens: &mut [u8]) -> Reply
 }
 
 // A refusal leaves zeros.
-fn refuse_file(tokens: &mut [u8], why: Refusal) -> Reply
+fn refuse_file(lent: &mut [u8], why: Refusal) -> Reply
     ensures refused { λ r. ⌜ r ≡ Reply.Refused why ⌝ }
-    ensures zeroed { λ r. ⌜ now (tokens .exit) ≡ replicate (length (now (tokens .entry))) 0 ⌝ }
+    ensures zeroed { λ r. ⌜ now (lent .exit) ≡ replicate (length (now (lent .entry))) 0 ⌝ }
 {
-    reply::clear(tokens);
+    reply::clear(lent);
     Reply::Refused(why)
 }
 
