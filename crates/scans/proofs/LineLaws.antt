@@ -1,6 +1,6 @@
 -- Where a line that was read stands.
 use Prim.Native.Nat.{ℕ, _+_, _<_, _≤_}
-use mathlib.Core.Path.{_≡_, refl, sym, ap, subst, _∙_}
+use mathlib.Core.Path.{_≡_, refl, subst}
 use mathlib.Core.List.{List, [], _∷_}
 use mathlib.Core.Bool.{Bool, true, false, cond, _&&_}
 use native.Mathlib.Omega.{arith}
@@ -53,7 +53,9 @@ LineIn s at parsed.Broken = Unit {0}
 module _ (s : List ℕ) (at : ℕ) where
   after-in : (letter : ℕ) (c : Cursor) → at < c .at → LineIn s at (lineAfter s at letter c)
   unfolding lineAfter
-  after-in letter c h = go (c .ended) (textFrom (drop (c .at) s) (c .at) 0) (text-in (drop (c .at) s) (c .at) (length s) (c .at) 0 (omega arith) (λ z. omega (arith, length-drop (c .at) s)))
+  after-in letter c h =
+      go (c .ended) (textFrom (drop (c .at) s) (c .at) 0)
+      (text-in (drop (c .at) s) (c .at) (length s) (c .at) 0 (omega arith) (λ z. omega (arith, length-drop (c .at) s)))
     where
       go : (t : Bool) (x : Text) → TextIn (c .at) (length s) x
           → LineIn s at (cond t parsed.Broken (onText x (λ next. parsed.Line (record { letter = letter; start = at; next = next }))))

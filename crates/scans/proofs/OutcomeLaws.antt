@@ -1,7 +1,7 @@
 -- What reading a file into a slice gives, from what reading its lines gave.
 use Prim.Native.Nat.{ℕ, zero, suc, _-_, _<_, _≤_}
 use mathlib.Core.Path.{_≡_, refl, sym, ap, _∙_}
-use mathlib.Core.List.{List, [], _∷_, _++_}
+use mathlib.Core.List.{List, _++_}
 use native.Mathlib.Omega.{arith}
 use native.Mathlib.Nat.{zero-add}
 use borrow.Author.Tests.{le-leb, lt-leb}
@@ -11,7 +11,7 @@ use Rattle.reply.specs.declared.Kind.the-variants as kind
 use Rattle.reply.specs.declared.Refusal.{Refusal}
 use Rattle.reply.specs.declared.Reply.{Reply}
 use Rattle.reply.specs.declared.Reply.the-variants as reply
-use Rattle.scans.specs.File.{Scanned, tokens, refused, refusedAt, allLines, scanned, replyOf, Outcome, outcomeOf, Stored}
+use Rattle.scans.specs.File.{Scanned, tokens, refused, refusedAt, allLines, scanned, replyOf, outcomeOf, Stored}
 
 drop-zeros : (n k : ℕ) → drop {A = ℕ} k (replicate n 0) ≡ replicate (n - k) 0
 drop-zeros n zero = let e : n ≡ n - 0 = omega arith in ap (λ (m : ℕ). replicate m 0) e
@@ -28,7 +28,8 @@ abbrev pub Answers : List ℕ → List ℕ → ℕ → Reply → List ℕ → Ty
 Answers letters s room r held = (r ≡ outcomeOf (scanned letters s) room .reply) × (held ≡ outcomeOf (scanned letters s) room .tokens)
 
 module _ (letters s : List ℕ) (room : ℕ) where
-  refused-answer : {x : Refusal} → scanned letters s ≡ refused x → {r : Reply} {zeros : List ℕ} → r ≡ reply.Refused x → zeros ≡ replicate room 0 → Answers letters s room r zeros
+  refused-answer : {x : Refusal} → scanned letters s ≡ refused x → {r : Reply} {zeros : List ℕ}
+      → r ≡ reply.Refused x → zeros ≡ replicate room 0 → Answers letters s room r zeros
   unfolding outcomeOf
   refused-answer e p q = (p ∙ simp e, q ∙ simp e)
 
@@ -45,7 +46,8 @@ module _ (letters s : List ℕ) (room : ℕ) where
     unfolding scanned
     by-lines = simp (le-leb (length s) 65536 h)
 
-    pub refused-lines : {x : Refusal} → r ≡ reply.Refused x → {a : Reply} {zeros : List ℕ} → a ≡ reply.Refused x → zeros ≡ replicate room 0 → Answers letters s room a zeros
+    pub refused-lines : {x : Refusal} → r ≡ reply.Refused x → {a : Reply} {zeros : List ℕ}
+        → a ≡ reply.Refused x → zeros ≡ replicate room 0 → Answers letters s room a zeros
     refused-lines {x} e p q = refused-answer (by-lines ∙ go (allLines letters s) (sym e ∙ d .replied)) p q
       where
         go : (y : Scanned) → reply.Refused x ≡ replyOf y → y ≡ refused x

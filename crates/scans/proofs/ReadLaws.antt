@@ -1,6 +1,6 @@
 -- How reading the lines goes on, and how it ends.
 use Prim.Native.Nat.{ℕ, zero, suc, _+_, _<_, _≤_}
-use mathlib.Core.Path.{_≡_, refl, sym, ap, subst, _∙_}
+use mathlib.Core.Path.{_≡_, refl, sym, ap, _∙_}
 use mathlib.Core.List.{List, [], _∷_, _++_, append-assoc, append-nil}
 use native.Mathlib.Omega.{arith}
 use native.Mathlib.Nat.{zero-add}
@@ -115,7 +115,8 @@ module _ {letters s : List ℕ} {all : Scanned} {lent held : List ℕ} {before :
     line-broken q = refused-line kind.Malformed h (λ n. broken-here letters s before at h q n)
 
     module _ {line : Line} (q : lineAt s at ≡ parsed.Line line) where
-      pub line-undeclared : codeOf letters (line .letter) ≡ 0 → {r : Reply} → r ≡ reply.Refused (record { kind = kind.Undeclared; place = at }) → Stored all r lent held
+      pub line-undeclared : codeOf letters (line .letter) ≡ 0 → {r : Reply}
+          → r ≡ reply.Refused (record { kind = kind.Undeclared; place = at }) → Stored all r lent held
       line-undeclared z = refused-line kind.Undeclared h (λ n. undeclared-here letters s before at h q z n)
 
       pub line-read : (codeOf letters (line .letter) ≡ 0 → ⊥) → {held′ : List ℕ}

@@ -1,7 +1,7 @@
 -- What is known of the tokens of a file that was read.
 use Prim.Native.Nat.{ℕ, zero, suc, _-_, _<_, _≤_}
 use mathlib.Core.Path.{_≡_, refl, ap, subst, _∙_}
-use mathlib.Core.List.{List, [], _∷_, _++_}
+use mathlib.Core.List.{List, [], _∷_, _++_, map}
 use mathlib.Core.Bool.{Bool, true, false, cond, _&&_}
 use native.Mathlib.Omega.{arith}
 use borrow.Author.Needs.{needs}
@@ -115,6 +115,11 @@ below : (m : ℕ) (l : List ℕ) → Each (λ (x : ℕ). x ≤ m) l → (i : ℕ
 below m [] a i = omega arith
 below m (x ∷ l) a zero = a .0
 below m (x ∷ l) a (suc i) = below m l (a .1) i
+
+-- "D 1, G 2, P 3, E 5, T 6, F 7"
+pub house-letters : map (codeOf house) (68 ∷ 71 ∷ 80 ∷ 69 ∷ 84 ∷ 70 ∷ []) ≡ 1 ∷ 2 ∷ 3 ∷ 5 ∷ 6 ∷ 7 ∷ []
+unfolding codeOf
+house-letters = refl
 
 house-code : (b : ℕ) → codeOf house b ≤ 7
 unfolding codeOf

@@ -1,5 +1,5 @@
 -- `scan_vectors::main` is safe and ends. Assumes nothing.
-use Prim.Native.Nat.{_*_, _≤_, _<_, _-_}
+use Prim.Native.Nat.{_*_, _<_, _-_}
 use borrow.Author.Needs.{needs}
 use Rattle.scan_vectors.proofs.main.Statement.{statement}
 use Rattle.scan_vectors.proofs.main.Tie as tie

@@ -1,5 +1,4 @@
 -- `scans::code_of` meets its contract. Assumes nothing.
-use mathlib.Core.Path.{_≡_}
 use borrow.Author.Needs.{needs}
 use borrow.Author.Tests.{le-leb, lt-leb}
 use Rattle.scans.specs.Token.{codeOf}

@@ -1,5 +1,5 @@
 -- `scans::read_line` meets its contract. Assumes nothing.
-use mathlib.Core.Path.{_≡_, sym, _∙_}
+use mathlib.Core.Path.{sym, _∙_}
 use borrow.Author.Needs.{needs}
 use Rattle.text.proofs.ElseLaws.{else-letter}
 use Rattle.scans.specs.Line.{lineAfter, lineAt}

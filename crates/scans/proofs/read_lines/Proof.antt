@@ -1,9 +1,8 @@
 -- `scans::read_lines` meets its contract. The loop's invariant is `Going`. Assumes nothing.
 use Prim.Native.Nat.{_-_}
-use mathlib.Core.Path.{_≡_, sym, ap, _∙_}
+use mathlib.Core.Path.{sym, ap, _∙_}
 use borrow.Author.Needs.{needs}
 use native.Mathlib.Omega.{arith}
-use denote.Ref.{now}
 use lib.ListN.{length, set}
 use Rattle.scans.specs.Token.{tokenOf}
 use Rattle.scans.specs.File.{allLines}
@@ -83,14 +82,16 @@ loop-less c =
 
 loop-again : tie.Need-loop-again Inv-loop μ-loop
 loop-again c =
-    let k = c .before .before .before .before .before .before in
+    let t = c .before .before .before in
+    let k = t .before .before .before in
     let l = k .before .before .before .before in
+    let a = l .before .before .loop in
     line-read
-    (l .before .before .loop .inv)
+    (a .inv)
     (l .before .loop-test .taken)
     (sym (l .read-line .ensures) ∙ k .before .before .line .given .1)
-    (λ z. c .before .before .before .before .before .if1 .left (k .code-of .ensures ∙ z))
-    (c .before .before .store .ensures ∙ ap (set (l .before .before .loop .tokens) (l .before .before .loop .count)) (c .before .before .before .token-of .ensures ∙ ap (tokenOf _ _ _) (k .code-of .ensures)))
+    (λ z. t .before .before .if1 .left (k .code-of .ensures ∙ z))
+    (c .before .before .store .ensures ∙ ap (set (a .tokens) (a .count)) (t .token-of .ensures ∙ ap (tokenOf _ _ _) (k .code-of .ensures)))
 
 same-length-3 : tie.Need-same-length-3 Inv-loop μ-loop
 same-length-3 c = search needs

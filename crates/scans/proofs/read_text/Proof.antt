@@ -1,5 +1,5 @@
 -- `scans::read_text` meets its contract. The loop's invariant: the text from the start on is the text from here on, with n bytes read. Assumes nothing.
-use Prim.Native.Nat.{_+_, _≤_, _-_}
+use Prim.Native.Nat.{_≤_, _-_}
 use mathlib.Core.Path.{_≡_, sym, _∙_}
 use borrow.Author.Needs.{needs}
 use borrow.Author.Tests.{not-true, not-false}
