@@ -1,7 +1,8 @@
 // Symbol codes: the end of the tokens, terminals and nonterminals.
+use range::in_range;
 ghost use mathlib.Core.Path.{_≡_};
-ghost use lib.Dec.{eqb};
-ghost use Rattle.symbol.specs.Symbol.{isTerminal, isNonterminal, isDeclared};
+ghost use Prim.Native.Nat.{_≤_};
+ghost use Rattle.symbol.specs.Symbol.{isEnd, isTerminal, isNonterminal, isDeclared};
 
 // A symbol by its code.
 pub struct Symbol {
@@ -15,7 +16,7 @@ impl Symbol {
     pub const FIRST_NONTERMINAL: usize = 64;
 
     pub fn is_end(self) -> bool
-        ensures { λ r. ⌜ r ≡ eqb (self .code) 0 ⌝ }
+        ensures { λ r. ⌜ r ≡ isEnd (self .code) ⌝ }
     {
         self.code == Symbol::END
     }
@@ -24,29 +25,24 @@ impl Symbol {
     pub fn is_terminal(self, t: usize) -> bool
         ensures { λ r. ⌜ r ≡ isTerminal t (self .code) ⌝ }
     {
-        let code = self.code;
-        if code <= Symbol::END {
-            return false;
-        }
-        code <= t
+        in_range(Symbol::END + 1, self.code, t)
     }
 
     // One of the n nonterminals from 64 on.
     pub fn is_nonterminal(self, n: usize) -> bool
+        requires { ⌜ n ≤ 64 ⌝ }
         ensures { λ r. ⌜ r ≡ isNonterminal n (self .code) ⌝ }
     {
-        let code = self.code;
-        if code < Symbol::FIRST_NONTERMINAL {
-            return false;
-        }
-        if n <= code - Symbol::FIRST_NONTERMINAL {
-            return false;
-        }
-        true
+        in_range(
+            Symbol::FIRST_NONTERMINAL,
+            self.code,
+            Symbol::FIRST_NONTERMINAL - 1 + n,
+        )
     }
 
     // A terminal or a nonterminal.
     pub fn is_declared(self, t: usize, n: usize) -> bool
+        requires { ⌜ n ≤ 64 ⌝ }
         ensures { λ r. ⌜ r ≡ isDeclared t n (self .code) ⌝ }
     {
         if self.is_terminal(t) {

@@ -3,3 +3,4 @@ pub mod ClassLaws
 pub mod NumberLaws
 pub mod FieldLaws
 pub mod ElseLaws
+pub mod OnwardLaws

@@ -2,9 +2,10 @@
 -- by commas, no quoting. A field is a number, a mark or a letter, never empty. A number is digits, leading zeros allowed."
 use Prim.Native.Nat.{ℕ, _+_, _-_, _*_, min}
 use mathlib.Core.List.{List, [], _∷_}
-use mathlib.Core.Bool.{Bool, true, false, cond, _&&_, _||_}
+use mathlib.Core.Bool.{Bool, true, false, cond, _||_}
 use lib.ListN.{drop}
-use lib.Dec.{leb, eqb}
+use lib.Dec.{eqb}
+use Rattle.range.specs.Range.{within}
 use Rattle.text.specs.declared.Cursor.{Cursor}
 use Rattle.text.specs.declared.Class.{Class}
 use Rattle.text.specs.declared.Class.the-variants as class
@@ -16,8 +17,8 @@ use Rattle.text.specs.declared.Field.the-variants as field
 -- `0` to `9` are 48 to 57, `A` to `Z` are 65 to 90, `/` is 47 and `^` 94
 unfoldable pub classOf : ℕ → Class
 classOf b =
-    cond (leb 48 b && leb b 57) class.Digit
-    (cond (leb 65 b && leb b 90) class.Letter
+    cond (within 48 b 57) class.Digit
+    (cond (within 65 b 90) class.Letter
     (cond (eqb b 47 || eqb b 94) class.Mark class.Other))
 
 -- a field ends at a comma, 44, or at an LF, 10, which ends the line too
