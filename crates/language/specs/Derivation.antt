@@ -2,7 +2,7 @@
 use Prim.Native.Nat.{ℕ, zero, suc, _+_}
 use native.Mathlib.Omega.{arith}
 use mathlib.Core.Path.{_≡_, refl, sym, ap, _∙_}
-use mathlib.Core.List.{List, [], _∷_, _++_, append-assoc}
+use mathlib.Core.List.{List, [], _∷_, _++_, append-assoc, append-nil}
 use mathlib.Core.Option.{some}
 use Rattle.language.specs.Grammar.{Grammar, Rule, right, ruleAt, IsTerminal}
 
@@ -106,3 +106,25 @@ module _ (g : Grammar) where
   join (X ∷ α) β nil G h k = absurd h
   join [] β (cons T F) G h k = absurd h
   join (X ∷ α) β (cons T F) G h k = (h .0, join α β F G (h .1) k)
+
+  -- a forest of no symbol is empty
+  pub no-tree : (F : Forest) → IsForest F [] → F ≡ nil
+  no-tree nil h = refl
+  no-tree (cons T F) h = absurd h
+
+  -- a forest of one symbol is a tree
+  pub record One (X : ℕ) (F : Forest) : Type 0 where
+    pub tree : Tree
+    pub is : IsTree tree X
+    pub yield-is : yields F ≡ yield tree
+    pub size-is : size tree ≡ sizes F
+
+  pub one-tree : (F : Forest) (X : ℕ) → IsForest F (X ∷ []) → One X F
+  one-tree nil X h = absurd h
+  one-tree (cons T nil) X h = record { tree = T; is = h .0; yield-is = append-nil (yield T); size-is = omega arith }
+  one-tree (cons T (cons U F)) X h = absurd (h .1)
+
+  -- what follows the first tree
+  pub but-first : (F : Forest) (X : ℕ) (β : List ℕ) → IsForest F (X ∷ β) → (G : Forest) × IsForest G β
+  but-first nil X β h = absurd h
+  but-first (cons T F) X β h = (F, h .1)

@@ -9,6 +9,7 @@ use lib.Dec.{leb}
 use lib.ListN.{length, drop}
 use Rattle.language.specs.Grammar.{Grammar, Rule, ruleAt}
 use Rattle.language.specs.First.{next}
+pub use Rattle.language.specs.Trace.{Event, shifted, announced, closed, rulesOf}
 
 -- what a state does on a code; an announce names its rule and, for each group, the number of its entry
 pub data Cell : Type 0 where
@@ -23,23 +24,13 @@ pub record Automaton : Type 0 where
   pub goto : ℕ → ℕ → ℕ
   pub cell : ℕ → ℕ → Cell
 
-pub data Event : Type 0 where
-  shifted : ℕ → Event
-  announced : ℕ → Event
-  closed : Event
-
 -- what a step comes to: an event and the stack after it, or the walk's end
 pub data Outcome : Type 0 where
   on : Event → List ℕ → Outcome
   whole : Outcome
   wrong : Outcome
 
--- what an event adds to the listing, what it leaves of the tokens to come, and how many are then taken
-abbrev pub rulesOf : Event → List ℕ
-rulesOf (shifted a) = []
-rulesOf (announced i) = i ∷ []
-rulesOf closed = []
-
+-- what an event leaves of the tokens to come, and how many are then taken
 abbrev pub toCome : Event → List ℕ → List ℕ
 toCome (shifted a) w = drop 1 w
 toCome (announced i) w = w

@@ -1,0 +1,4 @@
+// Tables in memory: what their slices hold, in specs/.
+
+// Where the definitions stand; the crate has no code of its own.
+pub fn theory() {}
