@@ -89,8 +89,8 @@ module _ {C : Type 0} (k : Clauses C) (n : ℕ) (all : List C) (S : ℕ → Type
       let x = k .head c in
       let lx : x < length fs = subst (λ (b : ℕ). k .head c < b) (sym e) (low c (f .0)) in
       grow m (set fs x 1) (omega (arith, zeros-set fs x lx z)) (length-set fs x 1 ∙ e)
-        (only-set (Least k S) fs x only (by c (f .0) (λ a h. only a (f .1 a h))))
-        (λ y s. keep-set fs x lx y (seeds y s)) (next (set fs x 1) all)
+      (only-set (Least k S) fs x only (by c (f .0) (λ a h. only a (f .1 a h))))
+      (λ y s. keep-set fs x lx y (seeds y s)) (next (set fs x 1) all)
 
   -- from flags of the seeds
   module _ (fs : List ℕ) (long : length fs ≡ n) (seeded : Marks S fs) where

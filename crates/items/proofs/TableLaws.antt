@@ -102,7 +102,7 @@ grows : (ρs : List (List ℕ)) (ρ : List ℕ) (size base : ℕ) → Even ρs �
     → sets (sets (replicate size 0) 64 (concat ρs)) base ρ ≡ sets (replicate size 0) 64 (concat (ρs ++ ρ ∷ []))
 grows ρs ρ size base h e =
     ap (λ (n : ℕ). sets (sets (replicate size 0) 64 (concat ρs)) n ρ) at-end
-      ∙ (sym (sets-join (replicate size 0) (concat ρs) ρ 64) ∙ ap (sets (replicate size 0) 64) (sym (concat-snoc ρs ρ)))
+    ∙ (sym (sets-join (replicate size 0) (concat ρs) ρ 64) ∙ ap (sets (replicate size 0) 64) (sym (concat-snoc ρs ρ)))
   where
     at-end : base ≡ 64 + length (concat ρs)
     at-end = omega (arith, e, concat-length ρs h)
@@ -112,14 +112,14 @@ pub table-rule : (rs : List Rule) (r : Rule) (size base : ℕ) → base ≡ suc 
 unfolding itemTable
 table-rule rs r size base e =
     grows (itemRows rs []) (rowOf r) size base (even-rows rs []) (omega (arith, e, rows-count rs []))
-      ∙ ap (λ (l : List (List ℕ)). sets (replicate size 0) 64 (concat l)) (sym (rows-rule rs r))
+    ∙ ap (λ (l : List (List ℕ)). sets (replicate size 0) 64 (concat l)) (sym (rows-rule rs r))
 
 pub table-entry : (rs : List Rule) (γs : List (List ℕ)) (γ : List ℕ) (size base : ℕ) → base ≡ suc (length rs + length γs) * 64
     → sets (itemTable rs γs size) base (entryRow γ) ≡ itemTable rs (γs ++ γ ∷ []) size
 unfolding itemTable
 table-entry rs γs γ size base e =
     grows (itemRows rs γs) (entryRow γ) size base (even-rows rs γs) (omega (arith, e, rows-count rs γs))
-      ∙ ap (λ (l : List (List ℕ)). sets (replicate size 0) 64 (concat l)) (sym (rows-entry rs γs γ))
+    ∙ ap (λ (l : List (List ℕ)). sets (replicate size 0) 64 (concat l)) (sym (rows-entry rs γs γ))
 
 -- ---- the table is read
 pub table-length : (rs : List Rule) (γs : List (List ℕ)) (size : ℕ) → length (itemTable rs γs size) ≡ size
@@ -142,7 +142,7 @@ read-row ρs size k j h e room l =
     let i = concat-read ρs k j h e l in
     let lk : suc k ≤ length ρs = i .1 in
     ap (λ (n : ℕ). getD (sets (replicate size 0) 64 (concat ρs)) n 0) (group k j)
-      ∙ (read-inside (replicate size 0) (concat ρs) 64 (k * 64 + j) (omega (arith, concat-length ρs h)) (omega (arith, length-replicate {A = ℕ} size 0)) ∙ i .0)
+    ∙ (read-inside (replicate size 0) (concat ρs) 64 (k * 64 + j) (omega (arith, concat-length ρs h)) (omega (arith, length-replicate {A = ℕ} size 0)) ∙ i .0)
   where
     group : (k j : ℕ) → suc k * 64 + j ≡ 64 + (k * 64 + j)
     group k j = omega arith
