@@ -7,7 +7,7 @@ use native.Mathlib.Omega.{arith}
 use borrow.Author.Count.{below-more}
 use lib.ListN.{length, getD, set, replicate, length-set}
 use Rattle.fixpoint.specs.Flags.{On, Off, Decides}
-use Rattle.fixpoint.specs.Decision.{zeros, zeros-set, only-set, keep-set}
+use Rattle.fixpoint.proofs.CountLaws.{zeros, zeros-set, only-set, keep-set}
 
 -- A pass from fs₀ and added₀ on: fs now, and `added` counts the flags set. While it is 0, what was visited is met (Done).
 pub record Pass (n : ℕ) (P : ℕ → Type 0) (fs₀ fs : List ℕ) (added₀ added : ℕ) (Done : List ℕ → Type 0) : Type 0 where
@@ -77,6 +77,10 @@ on-at {fs = fs} e on = subst (On fs) e on
 
 pub off-at : (fs : List ℕ) {x y : ℕ} → x ≡ y → Off fs x → Off fs y
 off-at fs e z = subst (λ (k : ℕ). getD fs k 0 ≡ 0) e z
+
+-- a flag is not both set and unset
+pub not-off : {Q : Type 0} {fs : List ℕ} {x y : ℕ} → On fs y → x ≡ y → Off fs x → Q
+not-off {fs = fs} on e z = absurd (on .nonzero (off-at fs e z))
 
 -- ---- ranges
 pub no-gap : {d k : ℕ} → d ≤ k → k < d → ⊥

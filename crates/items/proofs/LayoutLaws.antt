@@ -4,14 +4,14 @@ use mathlib.Core.Path.{_≡_, refl, sym, ap, subst, _∙_}
 use mathlib.Core.Logic.{_⊎_, inl, inr}
 use mathlib.Core.List.{List, [], _∷_, _++_}
 use mathlib.Core.Option.{Option, some, none}
-use native.Mathlib.Nat.{not-suc-le-zero, le-of-suc-le-suc, add-zero}
+use native.Mathlib.Nat.{add-zero}
 use native.Mathlib.Decide.{decLt, decLe}
 use native.Mathlib.Omega.{arith}
 use lib.ListN.{length, getD, replicate, length-replicate, List·getD-eq-default}
 use lib.Seq.{sets, length-sets}
 use Rattle.language.specs.Grammar.{Grammar, Rule, right, concat, at, ruleAt, IsTerminal, IsNonterminal}
 use Rattle.language.specs.Listing.{unitOf}
-use Rattle.language.specs.Sentence.{In, here, there}
+use Rattle.language.specs.GrammarLaws.{not-there, at-below, in-string}
 use Rattle.language.specs.WellFormed.{RuleFormed, WellFormed}
 use Rattle.items.specs.Layout.{body, row, rowOf, entryRow, startsOf, itemTable, layout, leftAt, lengthAt, symbolAt, RowIs, RuleIn, EntryIn, Holds, Shaped}
 use Rattle.items.proofs.StoreLaws.{read-inside, read-below, read-above, read-zeros}
@@ -95,11 +95,6 @@ row-fits {α = α} h l f = record {
   low-symbols = λ k lk. omega (arith, h .symbol-is k lk, f .1 k);
 }
 
-pub at-below : {A : Type 0} (l : List A) (k : ℕ) → k < length l → (x : A) × (at l k ≡ some x)
-at-below [] k h = absurd (not-suc-le-zero h)
-at-below (x ∷ l) zero h = (x, refl)
-at-below (x ∷ l) (suc k) h = at-below l k (le-of-suc-le-suc h)
-
 module _ (rs : List Rule) (γs : List (List ℕ)) (size : ℕ) (room : suc (length rs + length γs) * 64 ≤ size)
     (rules-fit : (k : ℕ) (r : Rule) → at rs k ≡ some r → (r .left < 128) × Fits (right r))
     (entries-fit : (k : ℕ) (γ : List ℕ) → at γs k ≡ some γ → Fits γ) where
@@ -129,11 +124,6 @@ module _ (rs : List Rule) (γs : List (List ℕ)) (size : ℕ) (room : suc (leng
   }
 
 -- ---- a grammar's layout
-pub in-string : (l : List ℕ) (k : ℕ) → k < length l → In (getD l k 0) l
-in-string [] k h = absurd (not-suc-le-zero h)
-in-string (x ∷ l) zero h = here
-in-string (x ∷ l) (suc k) h = there (in-string l k (le-of-suc-le-suc h))
-
 pub declared-below : (g : Grammar) → WellFormed g → (X : ℕ) → IsTerminal g X ⊎ IsNonterminal g X → X < 128
 declared-below g w X (inl h) = omega (arith, h .1, w .few-terminals)
 declared-below g w X (inr h) = omega (arith, h .1, w .few-nonterminals)
@@ -151,11 +141,8 @@ module _ (g : Grammar) (w : WellFormed g) where
     layout-holds = record { count = refl; rule-in = go }
       where
         go : (i : ℕ) {r : Rule} → ruleAt g i ≡ some r → RuleIn (layout g size) i r
-        go zero e = let z : _≡_ {A = ℕ} 0 1 = cc in absurd (omega arith)
+        go zero e = not-there e
         go (suc k) e = table-rule-in (g .rules) [] size (omega arith) k e (w .formed (suc k) e .short)
 
     pub layout-shaped : Shaped (layout g size) (length (g .rules))
-    layout-shaped = subst (Shaped (layout g size)) (add-zero (length (g .rules))) (table-shaped (g .rules) [] size (omega arith) rule-fits (λ k γ e. no-entry e))
-      where
-        no-entry : {A B : Type 0} {x : A} → none ≡ some x → B
-        no-entry e = let z : _≡_ {A = ℕ} 0 1 = cc in absurd (omega arith)
+    layout-shaped = subst (Shaped (layout g size)) (add-zero (length (g .rules))) (table-shaped (g .rules) [] size (omega arith) rule-fits (λ k γ e. not-there e))

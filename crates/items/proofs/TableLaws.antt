@@ -9,6 +9,7 @@ use lib.ListN.{length, getD, set, replicate, length-append, length-replicate, Li
 use lib.Seq.{sets, length-sets, getD-append-add}
 use Rattle.language.specs.Grammar.{Grammar, Rule, right, concat, at}
 use Rattle.language.specs.Listing.{unitOf}
+use Rattle.language.specs.GrammarLaws.{not-there}
 use Rattle.items.specs.Layout.{row, rowOf, entryRow, startsOf, entryRows, itemRows, itemTable}
 use Rattle.items.proofs.StoreLaws.{sets-join, read-inside, read-below, read-above, read-zeros}
 use Rattle.items.proofs.BuildLaws.{row-length}
@@ -26,12 +27,9 @@ concat-snoc : (ρs : List (List ℕ)) (ρ : List ℕ) → concat (ρs ++ ρ ∷ 
 concat-snoc [] ρ = append-nil ρ
 concat-snoc (σ ∷ ρs) ρ = ap (λ (l : List ℕ). σ ++ l) (concat-snoc ρs ρ) ∙ sym (append-assoc σ (concat ρs) ρ)
 
-no-row : {A B : Type 0} {x : A} → none ≡ some x → B
-no-row e = let z : _≡_ {A = ℕ} 0 1 = cc in absurd (omega arith)
-
 concat-read : (ρs : List (List ℕ)) (k : ℕ) {ρ : List ℕ} (j : ℕ) → Even ρs → at ρs k ≡ some ρ → j < 64
     → (getD (concat ρs) (k * 64 + j) 0 ≡ getD ρ j 0) × (suc k ≤ length ρs)
-concat-read [] k j h e l = no-row e
+concat-read [] k j h e l = not-there e
 concat-read (σ ∷ ρs) zero {ρ = ρ} j h e l =
     let s : σ ≡ ρ = cc in
     (ap (λ (n : ℕ). getD (σ ++ concat ρs) n 0) (zero-plus j) ∙ (List·getD-append σ (concat ρs) 0 j (omega (arith, h .0)) ∙ ap (λ (r : List ℕ). getD r j 0) s), omega arith)
@@ -74,12 +72,12 @@ rows-entry [] γs γ = entries-entry γs γ
 rows-entry (q ∷ rs) γs γ = ap (λ (l : List (List ℕ)). rowOf q ∷ l) (rows-entry rs γs γ)
 
 at-rule : (rs : List Rule) (γs : List (List ℕ)) (k : ℕ) {r : Rule} → at rs k ≡ some r → at (itemRows rs γs) k ≡ some (rowOf r)
-at-rule [] γs k e = no-row e
+at-rule [] γs k e = not-there e
 at-rule (q ∷ rs) γs zero {r = r} e = let s : q ≡ r = cc in ap (λ (x : Rule). some (rowOf x)) s
 at-rule (q ∷ rs) γs (suc k) e = at-rule rs γs k e
 
 at-entries : (γs : List (List ℕ)) (k : ℕ) {γ : List ℕ} → at γs k ≡ some γ → at (entryRows γs) k ≡ some (entryRow γ)
-at-entries [] k e = no-row e
+at-entries [] k e = not-there e
 at-entries (δ ∷ γs) zero {γ = γ} e = let s : δ ≡ γ = cc in ap (λ (x : List ℕ). some (entryRow x)) s
 at-entries (δ ∷ γs) (suc k) e = at-entries γs k e
 
