@@ -4,3 +4,4 @@ pub mod JudgeLaws
 pub mod KeepLaws
 pub mod ReadLaws
 pub mod LineLaws
+pub mod FormLaws
