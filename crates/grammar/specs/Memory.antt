@@ -66,3 +66,7 @@ pub record Ready (m : List ℕ) (h : Heading) (g : Grammar) : Type 0 where
   pub laid : m ≡ layout g (length m)
   pub room : 8192 ≤ length m
   pub heading : h ≡ headingOf g
+
+pub record Held (m : List ℕ) (h : Heading) : Type 0 where
+  pub grammar : Grammar
+  pub ready : Ready m h grammar

@@ -10,13 +10,12 @@ use reply::Refusal;
 use reply::clear;
 use rule::RuleLine;
 use rule::read_rule;
-
 ghost use mathlib.Core.Path.{_≡_};
 ghost use Prim.Native.Nat.{_+_, _*_, _≤_};
 ghost use lib.ListN.{length, replicate};
 ghost use Rattle.language.specs.Grammar.{Grammar};
 ghost use Rattle.grammar.specs.Book.{rulesFrom, endOf, bookOf, reducedOf, grammarOf};
-ghost use Rattle.grammar.specs.Memory.{replyOf, readOf, memoryOf, linesReply, Listed, Laid, Ready};
+ghost use Rattle.grammar.specs.Memory.{replyOf, readOf, memoryOf, linesReply, Listed, Laid, Ready, Held};
 
 // The bytes of an item table of 127 rules: a row of 64 for each, after row 0.
 pub const TABLE: usize = 8192;
@@ -92,7 +91,7 @@ fn read_lines(s: &[u8], m: &mut [u8]) -> GrammarReply
 
 // Refuses a grammar in which a nonterminal is unproductive or unreachable.
 fn check_reduced(h: Heading, m: &[u8]) -> GrammarReply
-    requires { ⌜ (g : Grammar) × Ready (now m) h g ⌝ }
+    requires { ⌜ Held (now m) h ⌝ }
     ensures { λ r. ⌜ ((g : Grammar) → Ready (now (m .entry)) h g → r ≡ replyOf (reducedOf g)) ⌝ }
 {
     let barren = lowest_unproductive(m, h.terminals, h.nonterminals, h.rules);

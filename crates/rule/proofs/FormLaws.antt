@@ -87,16 +87,19 @@ module _ (g : Grammar) where
     where
       α : List ℕ
       α = symbolsOf ps
+
       formed : overLimits left α ≡ false → strays (g .terminals) (g .nonterminals) left α ≡ false → (β : List ℕ) (γs : List (List ℕ)) → β ++ concat γs ≡ α
           → NoneEmpty γs → RuleFormed g (record { unit = unit; left = left; before = β; groups = γs })
       formed o x β γs e f =
-          record
-          { left-declared = is-nonterminal g left (left-declared (g .terminals) (g .nonterminals) left α x)
-          ; short = subst (λ (δ : List ℕ). length δ ≤ 15) (sym e) (few left α o)
-          ; declared = λ X i. is-declared g X (not-false (isDeclared (g .terminals) (g .nonterminals) X)
-              (none-undeclared (undeclared (g .terminals) (g .nonterminals)) α (all-declared (g .terminals) (g .nonterminals) left α x) X
-              (subst (In X) e i)))
-          ; filled = f }
+          record {
+            left-declared = is-nonterminal g left (left-declared (g .terminals) (g .nonterminals) left α x);
+            short = subst (λ (δ : List ℕ). length δ ≤ 15) (sym e) (few left α o);
+            declared = λ X i. is-declared g X (not-false (isDeclared (g .terminals) (g .nonterminals) X)
+                (none-undeclared (undeclared (g .terminals) (g .nonterminals)) α (all-declared (g .terminals) (g .nonterminals) left α x) X
+                (subst (In X) e i)));
+            filled = f;
+          }
+
       go : overLimits left α ≡ false → strays (g .terminals) (g .nonterminals) left α ≡ false → (h : Shape) → Seen h α → FilledShape h
           → Formed (onMarked h (λ β γs. read (record { unit = unit; left = left; before = β; groups = γs }) next) (refusedAt at kind.MisplacedMark))
       go o x (before β) e f = tt

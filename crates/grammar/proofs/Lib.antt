@@ -1,0 +1,5 @@
+pub mod ListLaws
+pub mod BookLaws
+pub mod FormLaws
+pub mod ReducedLaws
+pub mod IntoLaws
