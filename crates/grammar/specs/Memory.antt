@@ -10,6 +10,8 @@ use Rattle.language.specs.WellFormed.{WellFormed}
 use Rattle.items.specs.Layout.{itemTable, layout, Holds, Shaped}
 use Rattle.reply.specs.declared.Kind.the-variants as kind
 use Rattle.reply.specs.declared.Refusal.{Refusal}
+use Rattle.reply.specs.declared.Reply.{Reply}
+use Rattle.reply.specs.declared.Reply.the-variants.{Accepted, Refused}
 use Rattle.header.specs.declared.Heading.{Heading}
 use Rattle.grammar.specs.declared.RuleLines.{RuleLines}
 use Rattle.grammar.specs.declared.RuleLines.the-variants as lines
@@ -20,6 +22,11 @@ use Rattle.grammar.specs.Book.{Rules, listed, broken-off, Book, whole, d
 -- ---- the answer
 abbrev pub headingOf : Grammar → Heading
 headingOf g = record { terminals = g .terminals; nonterminals = g .nonterminals; rules = length (g .rules); goal = g .goal }
+
+-- the answer as a reply, whose number and place are `numberOf` and `placeOf` of it
+abbrev pub asReply : GrammarReply → Reply
+asReply (reply.Read h) = Accepted 0
+asReply (reply.Refused x) = Refused x
 
 abbrev pub replyOf : Book → GrammarReply
 replyOf (whole g) = reply.Read (headingOf g)

@@ -7,6 +7,7 @@ use reduction::lowest_unproductive;
 use reduction::lowest_unreachable;
 use reply::Kind;
 use reply::Refusal;
+use reply::Reply;
 use reply::clear;
 use rule::RuleLine;
 use rule::read_rule;
@@ -15,7 +16,7 @@ ghost use Prim.Native.Nat.{_+_, _*_, _≤_};
 ghost use lib.ListN.{length, replicate};
 ghost use Rattle.language.specs.Grammar.{Grammar};
 ghost use Rattle.grammar.specs.Book.{rulesFrom, endOf, bookOf, reducedOf, grammarOf};
-ghost use Rattle.grammar.specs.Memory.{replyOf, readOf, memoryOf, linesReply, Listed, Laid, Ready, Held};
+ghost use Rattle.grammar.specs.Memory.{asReply, replyOf, readOf, memoryOf, linesReply, Listed, Laid, Ready, Held};
 
 // The bytes of an item table of 127 rules: a row of 64 for each, after row 0.
 pub const TABLE: usize = 8192;
@@ -145,4 +146,14 @@ pub fn read_grammar(book: &[u8], items: &mut [u8]) -> GrammarReply
         return GrammarReply::Refused(why);
     }
     read_into(book, items)
+}
+
+// The answer as a reply, with its number and place.
+pub fn as_reply(answer: GrammarReply) -> Reply
+    ensures { λ r. ⌜ r ≡ asReply answer ⌝ }
+{
+    match answer {
+        GrammarReply::Read(_) => Reply::Accepted(0),
+        GrammarReply::Refused(why) => Reply::Refused(why),
+    }
 }
