@@ -3,3 +3,4 @@ pub mod BookLaws
 pub mod FormLaws
 pub mod ReducedLaws
 pub mod IntoLaws
+pub mod GrammarLaws
