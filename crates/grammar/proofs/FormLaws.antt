@@ -18,7 +18,7 @@ use Rattle.header.specs.Header.{headerOf}
 use Rattle.header.proofs.HeaderLaws.{Ranged, header-ranged}
 use Rattle.rule.specs.RuleLine as line
 use Rattle.rule.proofs.FormLaws.{rule-formed}
-use Rattle.grammar.specs.Book.{Rules, listed, broken-off, after, onLine, rulesFrom, Book, whole, denied, grammarWith, endOf, linesOf, bookOf}
+use Rattle.grammar.specs.Book.{Rules, listed, broken-off, after, onLine, rulesFrom, Book, accepted, rejected, grammarWith, endOf, linesOf, bookOf}
 
 -- k rules, each of them formed in g
 RulesFormed : Grammar → ℕ → Rules → Type 0
@@ -60,8 +60,8 @@ module _ (s : List ℕ) (h : Heading) (k place : ℕ) (rs : List Rule) (end : �
 
 -- ---- the book
 Formed : Book → Type 0
-Formed (whole g) = WellFormed g
-Formed (denied x) = Unit {0}
+Formed (accepted g) = WellFormed g
+Formed (rejected x) = Unit {0}
 
 well-formed : (s : List ℕ) (h : Heading) → Ranged h → (place : ℕ) (rs : List Rule) (end : ℕ)
     → rulesFrom (h .rules) s (h .terminals) (h .nonterminals) place ≡ listed rs end → WellFormed (grammarWith h rs)
@@ -98,6 +98,6 @@ book-formed s = all-cond Formed (ltb 65536 (length s)) (λ x. tt) (λ x. header-
 
 -- "t 1 to 63, n 1 to 64, 1 to 127 rules", the goal and every left side a nonterminal, at most 15 declared symbols a right side,
 -- no empty group
-pub whole-formed : (s : List ℕ) (g : Grammar) → bookOf s ≡ whole g → WellFormed g
+pub accepted-formed : (s : List ℕ) (g : Grammar) → bookOf s ≡ accepted g → WellFormed g
 unfolding Formed
-whole-formed s g e = subst Formed e (book-formed s)
+accepted-formed s g e = subst Formed e (book-formed s)

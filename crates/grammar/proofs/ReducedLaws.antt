@@ -16,22 +16,22 @@ use Rattle.reply.specs.declared.Refusal.{Refusal}
 use Rattle.header.specs.declared.Heading.{Heading}
 use Rattle.grammar.specs.declared.GrammarReply.{GrammarReply}
 use Rattle.grammar.specs.declared.GrammarReply.the-variants as reply
-use Rattle.grammar.specs.Book.{Book, whole, denied, deniedAt, onFound, reducedOf}
+use Rattle.grammar.specs.Book.{Book, accepted, rejected, rejectedAt, onFound, reducedOf}
 use Rattle.grammar.specs.Memory.{headingOf, replyOf, Ready}
 
 module _ (g : Grammar) where
-  pub reduced-unproductive : {X : ℕ} → lowestUnproductive g ≡ Found.At X → reducedOf g ≡ deniedAt kind.Unproductive X
+  pub reduced-unproductive : {X : ℕ} → lowestUnproductive g ≡ Found.At X → reducedOf g ≡ rejectedAt kind.Unproductive X
   unfolding reducedOf
   reduced-unproductive e = simp e
 
   module _ (e : lowestUnproductive g ≡ Found.Nothing) where
-    pub reduced-unreachable : {X : ℕ} → lowestUnreachable g ≡ Found.At X → reducedOf g ≡ deniedAt kind.Unreachable X
+    pub reduced-unreachable : {X : ℕ} → lowestUnreachable g ≡ Found.At X → reducedOf g ≡ rejectedAt kind.Unreachable X
     unfolding reducedOf
     reduced-unreachable f = simp (e, f)
 
-    pub reduced-whole : lowestUnreachable g ≡ Found.Nothing → reducedOf g ≡ whole g
+    pub reduced-accepted : lowestUnreachable g ≡ Found.Nothing → reducedOf g ≡ accepted g
     unfolding reducedOf
-    reduced-whole f = simp (e, f)
+    reduced-accepted f = simp (e, f)
 
 -- ---- what memory that is ready offers
 module _ {m : List ℕ} {h : Heading} {g : Grammar} (r : Ready m h g) where

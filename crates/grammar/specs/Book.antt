@@ -38,27 +38,27 @@ rulesFrom (suc k) s t n at = onLine (ruleAt s t n at) (λ r next. after (r ∷ [
 
 -- ---- the book
 pub data Book : Type 0 where
-  whole : Grammar → Book
-  denied : Refusal → Book
+  accepted : Grammar → Book
+  rejected : Refusal → Book
 
-abbrev pub deniedAt : Kind → ℕ → Book
-deniedAt k place = denied (record { kind = k; place = place })
+abbrev pub rejectedAt : Kind → ℕ → Book
+rejectedAt k place = rejected (record { kind = k; place = place })
 
 abbrev pub grammarWith : Heading → List Rule → Grammar
 grammarWith h rs = record { terminals = h .terminals; nonterminals = h .nonterminals; goal = h .goal; rules = rs }
 
 -- a line too many is refused at its first byte, whatever it holds
 unfoldable pub endOf : ℕ → Heading → Rules → Book
-endOf size h (listed rs end) = cond (eqb end size) (whole (grammarWith h rs)) (deniedAt kind.Malformed end)
-endOf size h (broken-off x) = denied x
+endOf size h (listed rs end) = cond (eqb end size) (accepted (grammarWith h rs)) (rejectedAt kind.Malformed end)
+endOf size h (broken-off x) = rejected x
 
 unfoldable pub linesOf : List ℕ → HeaderLine → Book
 linesOf s (header.Read h next) = endOf (length s) h (rulesFrom (h .rules) s (h .terminals) (h .nonterminals) next)
-linesOf s (header.Refused x) = denied x
+linesOf s (header.Refused x) = rejected x
 
 -- "book or scan file | 0 | 65,536 bytes", before any line; its place is 0
 unfoldable pub bookOf : List ℕ → Book
-bookOf s = cond (ltb 65536 (length s)) (deniedAt kind.LimitExceeded 0) (linesOf s (headerOf s))
+bookOf s = cond (ltb 65536 (length s)) (rejectedAt kind.LimitExceeded 0) (linesOf s (headerOf s))
 
 -- ---- "5 | a nonterminal derives no string of terminals | its code, lowest", then "6 | a nonterminal is not reached from the
 -- goal | its code, lowest"
@@ -68,13 +68,13 @@ onFound Found.Nothing f y = y
 
 unfoldable pub reducedOf : Grammar → Book
 reducedOf g =
-    onFound (lowestUnproductive g) (deniedAt kind.Unproductive)
-    (onFound (lowestUnreachable g) (deniedAt kind.Unreachable) (whole g))
+    onFound (lowestUnproductive g) (rejectedAt kind.Unproductive)
+    (onFound (lowestUnreachable g) (rejectedAt kind.Unreachable) (accepted g))
 
-abbrev pub onWhole : {A : Type 0} → Book → (Grammar → A) → (Refusal → A) → A
-onWhole (whole g) f y = f g
-onWhole (denied x) f y = y x
+abbrev pub onAccepted : {A : Type 0} → Book → (Grammar → A) → (Refusal → A) → A
+onAccepted (accepted g) f y = f g
+onAccepted (rejected x) f y = y x
 
 -- the meaning of a grammar book
 unfoldable pub grammarOf : List ℕ → Book
-grammarOf s = onWhole (bookOf s) reducedOf denied
+grammarOf s = onAccepted (bookOf s) reducedOf rejected

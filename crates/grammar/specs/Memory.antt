@@ -17,7 +17,7 @@ use Rattle.grammar.specs.declared.RuleLines.{RuleLines}
 use Rattle.grammar.specs.declared.RuleLines.the-variants as lines
 use Rattle.grammar.specs.declared.GrammarReply.{GrammarReply}
 use Rattle.grammar.specs.declared.GrammarReply.the-variants as reply
-use Rattle.grammar.specs.Book.{Rules, listed, broken-off, Book, whole, denied, deniedAt, onWhole, grammarOf}
+use Rattle.grammar.specs.Book.{Rules, listed, broken-off, Book, accepted, rejected, rejectedAt, onAccepted, grammarOf}
 
 -- ---- the answer
 abbrev pub headingOf : Grammar → Heading
@@ -29,14 +29,14 @@ asReply (reply.Read h) = Accepted 0
 asReply (reply.Refused x) = Refused x
 
 abbrev pub replyOf : Book → GrammarReply
-replyOf (whole g) = reply.Read (headingOf g)
-replyOf (denied x) = reply.Refused x
+replyOf (accepted g) = reply.Read (headingOf g)
+replyOf (rejected x) = reply.Refused x
 
 -- "11 | a lent slice is shorter than the whole result", after everything else. The table has 128 rows of 64 bytes, whatever the
 -- number of rules.
 abbrev pub within : ℕ → Book → Book
-within size (whole g) = cond (ltb size 8192) (deniedAt kind.BufferTooSmall 0) (whole g)
-within size (denied x) = denied x
+within size (accepted g) = cond (ltb size 8192) (rejectedAt kind.BufferTooSmall 0) (accepted g)
+within size (rejected x) = rejected x
 
 -- a book read into a slice of `size` bytes
 abbrev pub readOf : List ℕ → ℕ → Book
@@ -44,8 +44,8 @@ readOf s size = within size (grammarOf s)
 
 -- "After a refusal every output slice is zeros"; after success the item table is followed by zeros
 abbrev pub memoryOf : Book → ℕ → List ℕ
-memoryOf (whole g) size = layout g size
-memoryOf (denied x) size = replicate size 0
+memoryOf (accepted g) size = layout g size
+memoryOf (rejected x) size = replicate size 0
 
 -- ---- on the way
 abbrev pub linesReply : Rules → RuleLines
@@ -61,8 +61,8 @@ pub record Listed (r : Rules) (size : ℕ) (m : List ℕ) : Type 0 where
   pub table : ListedBy r size m
 
 abbrev pub LaidBy : Book → ℕ → List ℕ → Type 0
-LaidBy (whole g) size m = m ≡ layout g size
-LaidBy (denied x) size m = Unit {0}
+LaidBy (accepted g) size m = m ≡ layout g size
+LaidBy (rejected x) size m = Unit {0}
 
 pub record Laid (b : Book) (size : ℕ) (m : List ℕ) : Type 0 where
   pub table : LaidBy b size m

@@ -95,12 +95,12 @@ fn check_reduced(h: Heading, m: &[u8]) -> GrammarReply
     requires { ⌜ Held (now m) h ⌝ }
     ensures { λ r. ⌜ ((g : Grammar) → Ready (now (m .entry)) h g → r ≡ replyOf (reducedOf g)) ⌝ }
 {
-    let barren = lowest_unproductive(m, h.terminals, h.nonterminals, h.rules);
-    if let Found::At(x) = barren {
+    let unproductive = lowest_unproductive(m, h.terminals, h.nonterminals, h.rules);
+    if let Found::At(x) = unproductive {
         return refuse(Kind::Unproductive, x);
     }
-    let apart = lowest_unreachable(m, h.goal, h.nonterminals, h.rules);
-    if let Found::At(x) = apart {
+    let unreachable = lowest_unreachable(m, h.goal, h.nonterminals, h.rules);
+    if let Found::At(x) = unreachable {
         return refuse(Kind::Unreachable, x);
     }
     GrammarReply::Read(h)

@@ -34,10 +34,10 @@ headerOf s =
     onNumber (fieldAt s c) (λ n c.
     onNumber (fieldAt s c) (λ rules c.
     onNumber (fieldAt s c) (λ goal c.
-    cond (c .ended) (figuresOf t n rules goal (c .at)) torn)
-    torn) torn) torn) torn)
-    torn)
-    torn
+    cond (c .ended) (figuresOf t n rules goal (c .at)) malformed)
+    malformed) malformed) malformed) malformed)
+    malformed)
+    malformed
   where
-    torn : HeaderLine
-    torn = refusedHeader kind.Malformed
+    malformed : HeaderLine
+    malformed = refusedHeader kind.Malformed

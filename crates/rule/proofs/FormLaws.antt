@@ -19,7 +19,7 @@ use Rattle.text.specs.Field.{fieldAt}
 use Rattle.text.proofs.ElseLaws.{all-number, all-letter}
 use Rattle.rule.specs.Parts.{Part, Rest, parts, broken, symbol, caret, cut, partsAt, symbolsOf}
 use Rattle.rule.specs.Marks.{Shape, before, at-caret, in-group, at-cut, misplaced, withPart, shapeFrom, shapeOf, onMarked}
-use Rattle.rule.specs.RuleLine.{Line, read, refused, refusedAt, any, undeclared, overLimits, strays, ruleOf, isRule, ruleAt}
+use Rattle.rule.specs.RuleLine.{Line, read, refused, refusedAt, any, undeclared, overLimits, someUndeclared, ruleOf, isRule, ruleAt}
 use Rattle.rule.specs.Memory.{beforeSeen, groupsSeen}
 use Rattle.rule.proofs.SeenLaws.{Seen, seen}
 use Rattle.rule.proofs.KeepLaws.{either-false}
@@ -82,13 +82,13 @@ module _ (g : Grammar) where
   rest-formed at unit left broken = tt
   rest-formed at unit left (parts ps next) =
       all-cond Formed (overLimits left (symbolsOf ps)) (λ e. tt) (λ o.
-      all-cond Formed (strays (g .terminals) (g .nonterminals) left (symbolsOf ps)) (λ e. tt) (λ x.
+      all-cond Formed (someUndeclared (g .terminals) (g .nonterminals) left (symbolsOf ps)) (λ e. tt) (λ x.
       go o x (shapeOf ps) (seen ps) (shape-parts (before []) ps tt)))
     where
       α : List ℕ
       α = symbolsOf ps
 
-      formed : overLimits left α ≡ false → strays (g .terminals) (g .nonterminals) left α ≡ false → (β : List ℕ) (γs : List (List ℕ)) → β ++ concat γs ≡ α
+      formed : overLimits left α ≡ false → someUndeclared (g .terminals) (g .nonterminals) left α ≡ false → (β : List ℕ) (γs : List (List ℕ)) → β ++ concat γs ≡ α
           → NoneEmpty γs → RuleFormed g (record { unit = unit; left = left; before = β; groups = γs })
       formed o x β γs e f =
           record {
@@ -100,7 +100,7 @@ module _ (g : Grammar) where
             filled = f;
           }
 
-      go : overLimits left α ≡ false → strays (g .terminals) (g .nonterminals) left α ≡ false → (h : Shape) → Seen h α → FilledShape h
+      go : overLimits left α ≡ false → someUndeclared (g .terminals) (g .nonterminals) left α ≡ false → (h : Shape) → Seen h α → FilledShape h
           → Formed (onMarked h (λ β γs. read (record { unit = unit; left = left; before = β; groups = γs }) next) (refusedAt at kind.MisplacedMark))
       go o x (before β) e f = tt
       go o x (at-caret β) e f = formed o x β [] (e tt) none-filled

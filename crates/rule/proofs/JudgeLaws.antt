@@ -30,11 +30,11 @@ module _ (at n left : ℕ) (p : Progress) (next : ℕ) where
         left-undeclared h = simp (le-ltb _ _ h1, h2, le-ltb _ _ h3, h)
 
         module _ (h4 : isNonterminal n left ≡ true) where
-          pub symbol-undeclared : p .stray ≡ true → judged at n left p next ≡ refusedLine at kind.Undeclared
+          pub symbol-undeclared : p .undeclared ≡ true → judged at n left p next ≡ refusedLine at kind.Undeclared
           unfolding judged
           symbol-undeclared h = simp (le-ltb _ _ h1, h2, le-ltb _ _ h3, h4, h)
 
-          module _ (h5 : p .stray ≡ false) where
+          module _ (h5 : p .undeclared ≡ false) where
             pub mark-misplaced : placed (p .stage) ≡ false → judged at n left p next ≡ refusedLine at kind.MisplacedMark
             unfolding judged
             mark-misplaced h = simp (le-ltb _ _ h1, h2, le-ltb _ _ h3, h4, h5, h)

@@ -31,7 +31,7 @@ use Rattle.rule.specs.declared.RuleLine.{RuleLine}
 use Rattle.rule.specs.declared.RuleLine.the-variants as line
 use Rattle.rule.specs.Parts.{Part, Rest, parts, broken, partsAt, symbolsOf}
 use Rattle.rule.specs.Marks.{Shape, before, at-caret, in-group, at-cut, misplaced, shapeOf, onMarked}
-use Rattle.rule.specs.RuleLine.{Line, read, refused, refusedAt, any, large, undeclared, overLimits, strays, ruleOf, isRule, ruleAt}
+use Rattle.rule.specs.RuleLine.{Line, read, refused, refusedAt, any, large, undeclared, overLimits, someUndeclared, ruleOf, isRule, ruleAt}
 use Rattle.rule.specs.Progress.{Tracks, Pointed, Answers, stageOf, placed, judged, refusedLine, lineOf}
 use Rattle.rule.specs.Memory.{withFigures, beforeSeen, groupsSeen, startsSeen, Placed, Kept, Filled, StoredBy, Stored}
 use Rattle.rule.proofs.SeenLaws.{Seen, seen}
@@ -68,12 +68,12 @@ module _ (at t n : ℕ) (unit : Bool) (left : ℕ) where
       go (parts ps next) a = absurd a
       go broken a = refl
 
-  pub line-judged : (r : Rest) (p : Progress) (end : ℕ) → Answers t n r (out.Whole p end) → lineOf (ruleOf at t n unit left r) ≡ judged at n left p end
-  unfolding ruleOf judged overLimits strays
+  pub line-judged : (r : Rest) (p : Progress) (end : ℕ) → Answers t n r (out.Complete p end) → lineOf (ruleOf at t n unit left r) ≡ judged at n left p end
+  unfolding ruleOf judged overLimits someUndeclared
   line-judged broken p end a = absurd a
   line-judged (parts ps next) p end a =
       let k = a .0 in
-      rw (k .count-is, k .over-is, k .stray-is, k .stage-is, a .1)
+      rw (k .count-is, k .over-is, k .undeclared-is, k .stage-is, a .1)
       (go (large left || (any large (symbolsOf ps) || ltb 15 (length (symbolsOf ps)))) (not (isNonterminal n left) || any (undeclared t n) (symbolsOf ps)) (shapeOf ps))
     where
       go : (a b : Bool) (h : Shape)
@@ -94,13 +94,13 @@ pub few : (left : ℕ) (α : List ℕ) → overLimits left α ≡ false → leng
 unfolding overLimits
 few left α e = ltb-false 15 (length α) (either-false (any large α) (ltb 15 (length α)) (either-false (large left) (any large α || ltb 15 (length α)) e .1) .1)
 
-module _ (t n left : ℕ) (α : List ℕ) (e : strays t n left α ≡ false) where
+module _ (t n left : ℕ) (α : List ℕ) (e : someUndeclared t n left α ≡ false) where
   pub left-declared : isNonterminal n left ≡ true
-  unfolding strays
+  unfolding someUndeclared
   left-declared = not-false (isNonterminal n left) (either-false (not (isNonterminal n left)) (any (undeclared t n) α) e .0)
 
   pub all-declared : any (undeclared t n) α ≡ false
-  unfolding strays
+  unfolding someUndeclared
   all-declared = either-false (not (isNonterminal n left)) (any (undeclared t n) α) e .1
 
 -- ---- the row
@@ -122,22 +122,22 @@ module _ (m₀ : List ℕ) (base : ℕ) where
   refused-stored (refused y) x m e = record { stored = tt }
 
   pub rule-stored : (at t n : ℕ) (unit : Bool) (left : ℕ) → n ≤ 64 → (r : Rest) (p : Progress) (end : ℕ) (m : List ℕ)
-      → Answers t n r (out.Whole p end) → Filled t n r m₀ base m
+      → Answers t n r (out.Complete p end) → Filled t n r m₀ base m
       → Stored (ruleOf at t n unit left r) m₀ base (withFigures m base left (p .count) (p .point) (unitOf unit))
   unfolding ruleOf building
   rule-stored at t n unit left hn broken p end m a f = absurd a
   rule-stored at t n unit left hn (parts ps next) p end m a f =
-      record { stored = go (overLimits left (symbolsOf ps)) (strays t n left (symbolsOf ps)) (shapeOf ps) refl refl (seen ps) (a .0 .point-is) (f .filled) }
+      record { stored = go (overLimits left (symbolsOf ps)) (someUndeclared t n left (symbolsOf ps)) (shapeOf ps) refl refl (seen ps) (a .0 .point-is) (f .filled) }
     where
       α : List ℕ
       α = symbolsOf ps
 
-      done : (β : List ℕ) (γs : List (List ℕ)) → overLimits left α ≡ false → strays t n left α ≡ false → β ++ concat γs ≡ α → p .point ≡ length β
+      done : (β : List ℕ) (γs : List (List ℕ)) → overLimits left α ≡ false → someUndeclared t n left α ≡ false → β ++ concat γs ≡ α → p .point ≡ length β
           → m ≡ sets m₀ base (body α (replicate (length β) 0 ++ groupStarts γs))
           → withFigures m base left (p .count) (p .point) (unitOf unit) ≡ sets m₀ base (row left (length β) (unitOf unit) (β ++ concat γs) (replicate (length β) 0 ++ groupStarts γs))
       done β γs o x e q k = row-done m₀ base m α β γs left (p .count) (p .point) (unitOf unit) e k (omega (arith, within-true 64 left (63 + n) (left-declared t n left α x) .1)) (few left α o) (a .0 .count-is) q
 
-      go : (a b : Bool) (h : Shape) → overLimits left α ≡ a → strays t n left α ≡ b → Seen h α → Pointed h (p .point)
+      go : (a b : Bool) (h : Shape) → overLimits left α ≡ a → someUndeclared t n left α ≡ b → Seen h α → Pointed h (p .point)
           → (Placed h → any (undeclared t n) α ≡ false → length α ≤ 15 → m ≡ sets m₀ base (body α (startsSeen h)))
           → StoredBy (cond a (refusedAt at kind.LimitExceeded) (cond b (refusedAt at kind.Undeclared)
           (onMarked h (λ α γs. read (record { unit = unit; left = left; before = α; groups = γs }) next) (refusedAt at kind.MisplacedMark))))
@@ -155,8 +155,8 @@ module _ (m₀ : List ℕ) (base : ℕ) where
   told {l} {x} {r} {m} e q = (q ∙ sym (ap lineOf e), refused-stored l x m (ap lineOf e))
 
   module _ (at t n : ℕ) (unit : Bool) (left : ℕ) (r : Rest) (l : Line) (e : l ≡ ruleOf at t n unit left r)
-      {o : Parts} (a : Answers t n r o) {p : Progress} {end : ℕ} (w : o ≡ out.Whole p end) {y : RuleLine} (j : y ≡ judged at n left p end) where
-    answers : Answers t n r (out.Whole p end)
+      {o : Parts} (a : Answers t n r o) {p : Progress} {end : ℕ} (w : o ≡ out.Complete p end) {y : RuleLine} (j : y ≡ judged at n left p end) where
+    answers : Answers t n r (out.Complete p end)
     answers = subst (Answers t n r) w a
 
     line-is : lineOf l ≡ y

@@ -64,7 +64,7 @@ module _ (s : List ℕ) (t n : ℕ) (first : Cursor) (m₀ : List ℕ) (base : �
     pub kept : Kept t n passed m₀ base m
     pub few : length (symbolsOf passed) ≤ c .at
 
-  pub reading-start : EmptyRow m₀ base → Reading first (record { count = 0; point = 0; stage = stageOf (before []); over = false; stray = false }) m₀
+  pub reading-start : EmptyRow m₀ base → Reading first (record { count = 0; point = 0; stage = stageOf (before []); over = false; undeclared = false }) m₀
   reading-start h =
       record {
         fuel = length s;
@@ -133,11 +133,11 @@ module _ (s : List ℕ) (t n : ℕ) (first : Cursor) (m₀ : List ℕ) (base : �
     reading-mark e x d f q = rw q (with-mark e x d f)
 
     -- ---- the ways out
-    pub reading-ended : c .ended ≡ true → Answers t n (partsAt s first) (out.Whole p (c .at)) × Filled t n (partsAt s first) m₀ base m
+    pub reading-ended : c .ended ≡ true → Answers t n (partsAt s first) (out.Complete p (c .at)) × Filled t n (partsAt s first) m₀ base m
     reading-ended e =
         let q : partsAt s first ≡ parts (r .passed) (c .at) =
         r .same ∙ ap (after (r .passed)) (parts-ended (r .fuel) s c e) ∙ ap (λ (l : List Part). parts l (c .at)) (append-nil (r .passed)) in (
-          subst (λ (x : Rest). Answers t n x (out.Whole p (c .at))) (sym q) (r .tracks, refl),
+          subst (λ (x : Rest). Answers t n x (out.Complete p (c .at))) (sym q) (r .tracks, refl),
           subst (λ (x : Rest). Filled t n x m₀ base m) (sym q) (record { filled = r .kept }),
         )
 

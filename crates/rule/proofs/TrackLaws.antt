@@ -41,8 +41,8 @@ point-symbol (in-group α γs Y γ) X x e = e
 point-symbol (at-cut α γs) X x e = e
 point-symbol misplaced X x e = tt
 
-pub tracks-none : (t n : ℕ) → Tracks t n [] (record { count = 0; point = 0; stage = stageOf (before []); over = false; stray = false })
-tracks-none t n = record { count-is = refl; point-is = tt; stage-is = refl; over-is = refl; stray-is = refl }
+pub tracks-none : (t n : ℕ) → Tracks t n [] (record { count = 0; point = 0; stage = stageOf (before []); over = false; undeclared = false })
+tracks-none t n = record { count-is = refl; point-is = tt; stage-is = refl; over-is = refl; undeclared-is = refl }
 
 pub tracks-symbol : (t n : ℕ) (ps : List Part) (p : Progress) (v : ℕ) → Tracks t n ps p → Tracks t n (ps ++ symbol v ∷ []) (addSymbol t n p v)
 unfolding addSymbol
@@ -52,7 +52,7 @@ tracks-symbol t n ps p v k =
       point-is = rw (shape-more ps (symbol v)) (point-symbol (shapeOf ps) v (p .point) (k .point-is));
       stage-is = rw (shape-more ps (symbol v)) (ap afterSymbol (k .stage-is) ∙ stage-symbol (shapeOf ps) v);
       over-is = rw (symbols-symbol ps v, any-more large (symbolsOf ps) v) (ap (λ (b : Bool). b || large v) (k .over-is));
-      stray-is = rw (symbols-symbol ps v, any-more (undeclared t n) (symbolsOf ps) v) (ap (λ (b : Bool). b || undeclared t n v) (k .stray-is));
+      undeclared-is = rw (symbols-symbol ps v, any-more (undeclared t n) (symbolsOf ps) v) (ap (λ (b : Bool). b || undeclared t n v) (k .undeclared-is));
     }
 
 stage-mark : (h : Shape) (b : ℕ) → afterMark (stageOf h) b ≡ stageOf (withPart h (markOf b))
@@ -109,5 +109,5 @@ tracks-mark t n ps p b k =
       point-is = rw (shape-more ps (markOf b)) (point-mark (shapeOf ps) b (p .point) (p .count) (k .point-is) c);
       stage-is = rw (shape-more ps (markOf b)) (ap (λ (g : Stage). afterMark g b) (k .stage-is) ∙ stage-mark (shapeOf ps) b);
       over-is = rw (symbols-mark ps b) (k .over-is);
-      stray-is = rw (symbols-mark ps b) (k .stray-is);
+      undeclared-is = rw (symbols-mark ps b) (k .undeclared-is);
     }

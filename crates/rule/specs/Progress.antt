@@ -40,13 +40,13 @@ pub record Tracks (t n : ℕ) (ps : List Part) (p : Progress) : Type 0 where
   pub point-is : Pointed (shapeOf ps) (p .point)
   pub stage-is : p .stage ≡ stageOf (shapeOf ps)
   pub over-is : p .over ≡ any large (symbolsOf ps)
-  pub stray-is : p .stray ≡ any (undeclared t n) (symbolsOf ps)
+  pub undeclared-is : p .undeclared ≡ any (undeclared t n) (symbolsOf ps)
 
 -- what the reader of a right side answers
 abbrev pub Answers : ℕ → ℕ → Rest → Parts → Type 0
-Answers t n (parts ps next) (out.Whole p x) = Tracks t n ps p × (x ≡ next)
+Answers t n (parts ps next) (out.Complete p x) = Tracks t n ps p × (x ≡ next)
 Answers t n (parts ps next) out.Broken = ⊥
-Answers t n broken (out.Whole p x) = ⊥
+Answers t n broken (out.Complete p x) = ⊥
 Answers t n broken out.Broken = Unit {0}
 
 -- one symbol more
@@ -60,8 +60,8 @@ afterSymbol stage.Misplaced = stage.Misplaced
 abbrev pub overWith : Bool → ℕ → Bool
 overWith over v = over || large v
 
-abbrev pub strayWith : Bool → ℕ → ℕ → ℕ → Bool
-strayWith stray t n v = stray || undeclared t n v
+abbrev pub undeclaredWith : Bool → ℕ → ℕ → ℕ → Bool
+undeclaredWith seen t n v = seen || undeclared t n v
 
 unfoldable pub addSymbol : ℕ → ℕ → Progress → ℕ → Progress
 addSymbol t n p v =
@@ -70,7 +70,7 @@ addSymbol t n p v =
       point = p .point;
       stage = afterSymbol (p .stage);
       over = overWith (p .over) v;
-      stray = strayWith (p .stray) t n v;
+      undeclared = undeclaredWith (p .undeclared) t n v;
     }
 
 -- one mark more
@@ -101,7 +101,7 @@ addMark p b =
       point = pointAt b (p .count) (p .point);
       stage = afterMark (p .stage) b;
       over = p .over;
-      stray = p .stray;
+      undeclared = p .undeclared;
     }
 
 -- the line, by the progress at its end
@@ -118,7 +118,7 @@ refusedLine at k = line.Refused (record { kind = k; place = at })
 unfoldable pub judged : ℕ → ℕ → ℕ → Progress → ℕ → RuleLine
 judged at n left p next =
     cond (large left || (p .over || ltb 15 (p .count))) (refusedLine at kind.LimitExceeded)
-    (cond (not (isNonterminal n left) || p .stray) (refusedLine at kind.Undeclared)
+    (cond (not (isNonterminal n left) || p .undeclared) (refusedLine at kind.Undeclared)
     (cond (placed (p .stage)) (line.Read next) (refusedLine at kind.MisplacedMark)))
 
 -- a line without its rule, which is in memory

@@ -37,15 +37,15 @@ unfoldable pub overLimits : ℕ → List ℕ → Bool
 overLimits left α = large left || (any large α || ltb 15 (length α))
 
 -- "3 | a symbol [..] undeclared or of the wrong kind for its field"
-unfoldable pub strays : ℕ → ℕ → ℕ → List ℕ → Bool
-strays t n left α = not (isNonterminal n left) || any (undeclared t n) α
+unfoldable pub someUndeclared : ℕ → ℕ → ℕ → List ℕ → Bool
+someUndeclared t n left α = not (isNonterminal n left) || any (undeclared t n) α
 
 -- a line at `at` that has its letter and its left side: "each by 1, 2, 3, 4"
 unfoldable pub ruleOf : ℕ → ℕ → ℕ → Bool → ℕ → Rest → Line
 ruleOf at t n unit left broken = refusedAt at kind.Malformed
 ruleOf at t n unit left (parts ps next) =
     cond (overLimits left (symbolsOf ps)) (refusedAt at kind.LimitExceeded)
-    (cond (strays t n left (symbolsOf ps)) (refusedAt at kind.Undeclared)
+    (cond (someUndeclared t n left (symbolsOf ps)) (refusedAt at kind.Undeclared)
     (onMarked (shapeOf ps) (λ α γs. read (record { unit = unit; left = left; before = α; groups = γs }) next)
     (refusedAt at kind.MisplacedMark)))
 

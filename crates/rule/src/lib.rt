@@ -12,7 +12,7 @@ ghost use lib.ListN.{length};
 ghost use Rattle.language.specs.Listing.{unitOf};
 ghost use Rattle.rule.specs.RuleLine.{isRule, ruleAt};
 ghost use Rattle.rule.specs.Parts.{partsAt};
-ghost use Rattle.rule.specs.Progress.{afterSymbol, afterCaret, afterCut, afterMark, placed, overWith, strayWith, addSymbol, pointAt, addMark, judged, Answers, lineOf};
+ghost use Rattle.rule.specs.Progress.{afterSymbol, afterCaret, afterCut, afterMark, placed, overWith, undeclaredWith, addSymbol, pointAt, addMark, judged, Answers, lineOf};
 ghost use Rattle.rule.specs.Memory.{EmptyRow, begins, withSymbol, withFigures, Filled, Stored};
 
 // What the last part of a right side was, as far as its marks stand where they may.
@@ -31,12 +31,12 @@ pub struct Progress {
     pub point: usize,
     pub stage: Stage,
     pub over: bool,
-    pub stray: bool,
+    pub undeclared: bool,
 }
 
 // A right side to its line's end with the position past it, or a field that breaks the line's form.
 pub enum Parts {
-    Whole(Progress, usize),
+    Complete(Progress, usize),
     Broken,
 }
 
@@ -115,11 +115,11 @@ fn over_with(over: bool, v: usize) -> bool
     65535 < v
 }
 
-fn stray_with(stray: bool, t: usize, n: usize, v: usize) -> bool
+fn undeclared_with(seen: bool, t: usize, n: usize, v: usize) -> bool
     requires { ⌜ n ≤ 64 ⌝ }
-    ensures { λ r. ⌜ r ≡ strayWith stray t n v ⌝ }
+    ensures { λ r. ⌜ r ≡ undeclaredWith seen t n v ⌝ }
 {
-    if stray {
+    if seen {
         return true;
     }
     let x = Symbol { code: v };
@@ -136,7 +136,7 @@ fn add_symbol(t: usize, n: usize, p: Progress, v: usize) -> Progress
         point: p.point,
         stage: after_symbol(stage),
         over: over_with(p.over, v),
-        stray: stray_with(p.stray, t, n, v),
+        undeclared: undeclared_with(p.undeclared, t, n, v),
     }
 }
 
@@ -159,7 +159,7 @@ fn add_mark(p: Progress, b: u8) -> Progress
         point: point_at(b, p.count, p.point),
         stage: after_mark(stage, b),
         over: p.over,
-        stray: p.stray,
+        undeclared: p.undeclared,
     }
 }
 
@@ -209,12 +209,12 @@ fn read_parts(s: &[u8], first: Cursor, t: usize, n: usize, m: &mut [u8], base: u
         point: 0,
         stage: Stage::Before,
         over: false,
-        stray: false,
+        undeclared: false,
     };
     loop {
         let ended = c.ended;
         if ended {
-            return Parts::Whole(p, c.at);
+            return Parts::Complete(p, c.at);
         }
         match read_field(s, c) {
             Field::Number(v, d) => {
@@ -263,8 +263,8 @@ fn judge(at: usize, n: usize, left: usize, p: Progress, next: usize) -> RuleLine
     if !x.is_nonterminal(n) {
         return refuse(Kind::Undeclared, at);
     }
-    let stray = p.stray;
-    if stray {
+    let undeclared = p.undeclared;
+    if undeclared {
         return refuse(Kind::Undeclared, at);
     }
     let stage = p.stage;
@@ -321,7 +321,7 @@ pub fn read_rule(s: &[u8], at: usize, t: usize, n: usize, m: &mut [u8], base: us
         return refuse(Kind::Malformed, at);
     };
     let right = read_parts(s, d, t, n, m, base);
-    let Parts::Whole(p, end) = right else {
+    let Parts::Complete(p, end) = right else {
         return refuse(Kind::Malformed, at);
     };
     match judge(at, n, left, p, end) {

@@ -4,7 +4,7 @@ use denote.Ref.{now}
 use lib.ListN.{length}
 use Rattle.grammar.specs.Book.{Book}
 use Rattle.grammar.specs.Memory.{replyOf, memoryOf}
-use Rattle.grammar.proofs.IntoLaws.{denied-cleared, short-denied, short-whole, long-enough}
+use Rattle.grammar.proofs.IntoLaws.{rejected-cleared, short-rejected, short-accepted, long-enough}
 use borrow.Author.Needs.{needs}
 use Rattle.grammar.proofs.read_grammar.Statement.{statement}
 use Rattle.grammar.proofs.read_grammar.Tie as tie
@@ -33,7 +33,7 @@ same-length c = search needs
 returns : tie.Need-returns
 returns c =
     let k = length (now (c .before .before .before .before .before .before .before .before .before .before .before .before .before .args .items)) in
-    let d = denied-cleared (short-whole _ k (c .before .before .before .before .read-into .ensures .0) (c .before .before .before .before .before .before .before .before .before .before .if1 .taken) (c .before .enum-told .given .1)) k (c .before .before .before .before .before .before .before .before .clear .ensures) in
+    let d = rejected-cleared (short-accepted _ k (c .before .before .before .before .read-into .ensures .0) (c .before .before .before .before .before .before .before .before .before .before .if1 .taken) (c .before .enum-told .given .1)) k (c .before .before .before .before .before .before .before .before .clear .ensures) in
     (c .refuse .ensures ∙ d .0, d .1)
 
 same-length-2 : tie.Need-same-length-2
@@ -42,7 +42,7 @@ same-length-2 c = search needs
 returns-2 : tie.Need-returns-2
 returns-2 c =
     let k = length (now (c .before .before .before .before .before .before .before .before .before .before .before .before .before .args .items)) in
-    denied-cleared (short-denied _ k (c .before .before .before .before .read-into .ensures .0) (c .before .reply .given .1)) k (c .before .before .before .before .before .before .before .before .clear .ensures)
+    rejected-cleared (short-rejected _ k (c .before .before .before .before .read-into .ensures .0) (c .before .reply .given .1)) k (c .before .before .before .before .before .before .before .before .clear .ensures)
 
 read-into-requires-2 : tie.Need-read-into-requires-2
 read-into-requires-2 c κs = search needs

@@ -4,7 +4,7 @@ use mathlib.Core.Path.{_≡_, ap, _∙_}
 use native.Mathlib.Omega.{arith}
 use denote.Ref.{now}
 use lib.ListN.{length, replicate}
-use Rattle.grammar.proofs.IntoLaws.{cleared-length, zeros-again, laid-again, denied-cleared, lines-denied, grammar, ready, grammar-denied, grammar-whole}
+use Rattle.grammar.proofs.IntoLaws.{cleared-length, zeros-again, laid-again, rejected-cleared, lines-rejected, grammar, ready, grammar-rejected, grammar-accepted}
 use borrow.Author.Needs.{needs}
 use Rattle.grammar.proofs.read_into.Statement.{statement}
 use Rattle.grammar.proofs.read_into.Tie as tie
@@ -33,7 +33,7 @@ returns : tie.Need-returns
 returns c =
     let k = length (now (c .before .before .before .before .before .before .before .before .before .before .before .before .before .before .before .before .before .args .m)) in
     let e : length (c .before .before .before .before .before .before .before .before .before .read-lines .last .1 .0) ≡ k = search needs in
-    denied-cleared (lines-denied _ (c .before .before .before .before .before .before .before .before .before .read-lines .ensures .0) (c .before .before .before .before .before .lines2 .given .1)) k (c .before .before .clear2 .ensures ∙ ap (λ (j : ℕ). replicate {A = ℕ} j 0) e)
+    rejected-cleared (lines-rejected _ (c .before .before .before .before .before .before .before .before .before .read-lines .ensures .0) (c .before .before .before .before .before .lines2 .given .1)) k (c .before .before .clear2 .ensures ∙ ap (λ (j : ℕ). replicate {A = ℕ} j 0) e)
 
 check-reduced-requires : tie.Need-check-reduced-requires
 check-reduced-requires c κs =
@@ -58,7 +58,7 @@ returns-2 c =
     let k = length (now (c .before .before .before .before .before .before .before .before .before .before .before .before .before .before .before .before .before .before .args .m)) in
     let w = laid-again (cleared-length k (c .before .before .before .before .before .before .before .before .before .before .before .before .before .before .clear .ensures)) (c .before .before .before .before .before .before .before .before .before .before .read-lines .ensures .1) in
     let r = ready _ (c .before .before .before .before .before .before .before .before .before .before .read-lines .ensures .0) (c .before .before .before .before .before .before .lines .given .1) w (c .before .before .before .before .before .before .before .before .before .before .before .before .before .before .before .before .before .before .pre) in
-    grammar-whole _ (c .before .before .before .before .before .before .before .before .before .before .read-lines .ensures .0) (c .before .before .before .before .before .before .lines .given .1) w (c .before .before .before .check-reduced .ensures _ r) (c .before .reduced .given .1)
+    grammar-accepted _ (c .before .before .before .before .before .before .before .before .before .before .read-lines .ensures .0) (c .before .before .before .before .before .before .lines .given .1) w (c .before .before .before .check-reduced .ensures _ r) (c .before .reduced .given .1)
 
 same-length-3 : tie.Need-same-length-3
 same-length-3 c = search needs
@@ -69,7 +69,7 @@ returns-3 c =
     let w = laid-again (cleared-length k (c .before .before .before .before .before .before .before .before .before .before .before .before .before .before .before .before .before .before .clear .ensures)) (c .before .before .before .before .before .before .before .before .before .before .before .before .before .before .read-lines .ensures .1) in
     let r = ready _ (c .before .before .before .before .before .before .before .before .before .before .before .before .before .before .read-lines .ensures .0) (c .before .before .before .before .before .before .before .before .before .before .lines .given .1) w (c .before .before .before .before .before .before .before .before .before .before .before .before .before .before .before .before .before .before .before .before .before .before .pre) in
     let e : length (c .before .before .before .before .before .before .before .before .before .before .before .before .before .before .read-lines .last .1 .0) ≡ k = search needs in
-    denied-cleared (grammar-denied _ (c .before .before .before .before .before .before .before .before .before .before .before .before .before .before .read-lines .ensures .0) (c .before .before .before .before .before .before .before .before .before .before .lines .given .1) w (c .before .before .before .before .before .before .before .check-reduced .ensures _ r) (c .before .before .before .before .before .reduced2 .given .1)) k
+    rejected-cleared (grammar-rejected _ (c .before .before .before .before .before .before .before .before .before .before .before .before .before .before .read-lines .ensures .0) (c .before .before .before .before .before .before .before .before .before .before .lines .given .1) w (c .before .before .before .before .before .before .before .check-reduced .ensures _ r) (c .before .before .before .before .before .reduced2 .given .1)) k
     (c .before .before .clear3 .ensures ∙ ap (λ (j : ℕ). replicate {A = ℕ} j 0) e)
 
 pub read-into-spec : {M : Type 1} → statement M

@@ -2,7 +2,7 @@
 use mathlib.Core.Path.{refl, sym, _∙_}
 use native.Mathlib.Omega.{arith}
 use Rattle.header.proofs.HeaderLaws.{header-ranged}
-use Rattle.grammar.proofs.BookLaws.{denied-told, too-long, no-header, no-rules, line-extra, all-lines}
+use Rattle.grammar.proofs.BookLaws.{rejected-told, too-long, no-header, no-rules, line-extra, all-lines}
 use borrow.Author.Needs.{needs}
 use Rattle.grammar.proofs.read_lines.Statement.{statement}
 use Rattle.grammar.proofs.read_lines.Tie as tie
@@ -11,7 +11,7 @@ refuse-requires : tie.Need-refuse-requires
 refuse-requires c κs = search needs
 
 returns : tie.Need-returns
-returns c = denied-told (too-long _ (c .before .if1 .taken)) (c .refuse .ensures) _ _
+returns c = rejected-told (too-long _ (c .before .if1 .taken)) (c .refuse .ensures) _ _
 
 read-header-requires : tie.Need-read-header-requires
 read-header-requires c κs = search needs
@@ -41,19 +41,19 @@ same-length c = search needs
 
 returns-2 : tie.Need-returns-2
 returns-2 c =
-    denied-told
+    rejected-told
     (line-extra _ (c .before .before .before .before .before .before .before .before .before .before .before .before .before .if1 .left) (sym (c .before .before .before .before .before .before .before .before .before .before .before .before .read-header .ensures) ∙ c .before .before .before .before .before .before .before .before .before .before .first2 .given .1) (c .before .before .before .before .before .before .before .read-rules .ensures .0) (c .before .before .before .lines2 .given .1) (c .before .if2 .taken))
     (c .refuse2 .ensures) _ _
 
 returns-3 : tie.Need-returns-3
-returns-3 c = denied-told (no-header _ (c .before .before .before .before .if1 .left) (sym (c .before .before .before .read-header .ensures) ∙ c .before .first .given .1)) refl _ _
+returns-3 c = rejected-told (no-header _ (c .before .before .before .before .if1 .left) (sym (c .before .before .before .read-header .ensures) ∙ c .before .first .given .1)) refl _ _
 
 same-length-2 : tie.Need-same-length-2
 same-length-2 c = search needs
 
 returns-4 : tie.Need-returns-4
 returns-4 c =
-    denied-told
+    rejected-told
     (no-rules _ (c .before .before .before .before .before .before .before .before .before .before .before .if1 .left) (sym (c .before .before .before .before .before .before .before .before .before .before .read-header .ensures) ∙ c .before .before .before .before .before .before .before .before .first2 .given .1) (c .before .before .before .before .before .read-rules .ensures .0) (c .before .lines .given .1))
     refl _ _
 

@@ -13,14 +13,14 @@ after-symbol-requires c κs = search needs
 over-with-requires : tie.Need-over-with-requires
 over-with-requires c κs = search needs
 
-stray-with-requires : tie.Need-stray-with-requires
-stray-with-requires c κs = search needs
+undeclared-with-requires : tie.Need-undeclared-with-requires
+undeclared-with-requires c κs = search needs
 
 returns : tie.Need-returns
 unfolding addSymbol
-returns c = simp (c .before .before .after-symbol .ensures, c .before .over-with .ensures, c .stray-with .ensures)
+returns c = simp (c .before .before .after-symbol .ensures, c .before .over-with .ensures, c .undeclared-with .ensures)
 
 pub add-symbol-spec : {M : Type 1} → statement M
 add-symbol-spec =
     tie.close
-    (tie.spec add-t6 after-symbol-requires over-with-requires stray-with-requires returns)
+    (tie.spec add-t6 after-symbol-requires over-with-requires undeclared-with-requires returns)

@@ -2,8 +2,8 @@
 use mathlib.Core.Bool.{not}
 use mathlib.Core.Path.{ap}
 use borrow.Author.Needs.{needs}
-use Rattle.rule.proofs.stray_with.Statement.{statement}
-use Rattle.rule.proofs.stray_with.Tie as tie
+use Rattle.rule.proofs.undeclared_with.Statement.{statement}
+use Rattle.rule.proofs.undeclared_with.Tie as tie
 
 returns : tie.Need-returns
 returns c = simp (c .if1 .taken)
@@ -14,5 +14,5 @@ is-declared-requires c κs = search needs
 returns-2 : tie.Need-returns-2
 returns-2 c = simp (c .before .if1 .left) (ap not (c .is-declared .ensures))
 
-pub stray-with-spec : {M : Type 1} → statement M
-stray-with-spec = tie.close (tie.spec returns is-declared-requires returns-2)
+pub undeclared-with-spec : {M : Type 1} → statement M
+undeclared-with-spec = tie.close (tie.spec returns is-declared-requires returns-2)
