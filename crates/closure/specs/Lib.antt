@@ -1,1 +1,4 @@
 pub mod Expansion
+pub mod FirstBy
+pub mod Rests
+pub mod Adds
