@@ -11,8 +11,10 @@ use Rattle.language.specs.Grammar.{Rule, right, ruleAt, IsTerminal, IsNontermin
 use Rattle.language.specs.Derivation.{node, nil}
 use Rattle.language.specs.Sentence.{In, here, there, AllProductive, Declared}
 use Rattle.language.specs.First.{First}
-use Rattle.leftcorner.specs.Table.{Action, S, N, A, P, L, nextState, entryFrom, actionFor, gotoState}
+use Rattle.leftcorner.specs.Table.{Action, S, N, A, P, L, nextState, entryFrom, actionFor, gotoState, automaton}
 use Rattle.leftcorner.specs.Construction.{Wanted, of-goal, of-group, forget, entryItem, EntryAt, KernelAt, ActionAt, in-kernel, in-closure, MovedBy, WellFormed, EntriesMeet, ItemsMeet, Carries, Asked, to-move, to-announce, to-pop, LookaheadsMeet, Meets}
+use Rattle.leftcorner.specs.Claim.{Claim}
+use Rattle.leftcorner.specs.Demand3.{demand3}
 use Rattle.leftcorner.specs.Smallest.{Each, each, ofKernel, ofAction, ofRow, the-rule, g, t, no-some, by-rule, by-entry, one, one-is, first-none, carried, moved-only, first-move, second-move, cells, asked-only}
 
 -- ---- reading lines off
@@ -198,3 +200,7 @@ meets = record {
         ),
       ),
     )
+
+-- the theorem at this book
+pub claimed : (w : List ℕ) → ((a : ℕ) → In a w → IsTerminal g a) → Claim g (automaton g t) w
+claimed = demand3 g t declared all-productive meets

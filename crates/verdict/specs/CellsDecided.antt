@@ -78,7 +78,7 @@ module _ (g : Grammar) (t : Table) (F : List ℕ → ℕ → ℕ → Type 0) (F?
       to : {i n : ℕ} → MovedBy g t q X i n → (x : Spot) × In x (closure-list g t q) × Q x
       to {i = i} (moved {k = k} h go) = (spot i k, closure-every g t q i k h, moved h go)
 
-  asked? : (q X : ℕ) (x : Action) → Dec (Asked g t F q X x)
+  pub asked? : (q X : ℕ) (x : Action) → Dec (Asked g t F q X x)
   asked? q X (S zero) = map-dec (λ h. to-move (h .2)) out (spots-any? q X)
     where
       out : Asked g t F q X (S zero) → (i : ℕ) × (n : ℕ) × MovedBy g t q X i n

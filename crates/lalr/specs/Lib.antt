@@ -1,0 +1,5 @@
+pub mod Strings
+pub mod States
+pub mod Lookaheads
+pub mod Built
+pub mod Text
