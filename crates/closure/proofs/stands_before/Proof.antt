@@ -1,3 +1,4 @@
+use Rattle.fixpoint.proofs.PassLaws.{is-yes, is-no}
 use mathlib.Core.Path.{_≡_, refl, sym, ap, subst, _∙_}
 use mathlib.Core.Logic.{⊎-elim}
 use Prim.Native.Nat.{ℕ, zero, suc, _+_, _*_, _≤_, _<_, _-_}
@@ -16,16 +17,16 @@ length-of-requires : tie.Need-length-of-requires
 length-of-requires c κs = search needs
 
 returns : tie.Need-returns
-returns c = search needs
+returns c = is-no _ (λ p. omega (arith, p .within, c .before .length-of .ensures .0, c .if1 .taken))
 
 mark-of-requires : tie.Need-mark-of-requires
 mark-of-requires c κs = search needs
 
 returns-2 : tie.Need-returns-2
-returns-2 c = search needs
+returns-2 c = is-no _ (λ p. p .unmarked (sym (c .before .mark-of .ensures .0) ∙ c .if2 .taken))
 
 returns-3 : tie.Need-returns-3
-returns-3 c = search needs
+returns-3 c = is-yes _ (record { within = omega (arith, c .before .before .before .length-of .ensures .0); unmarked = λ e. c .if2 .left (c .before .mark-of .ensures .0 ∙ e) })
 
 pub stands-before-spec : {M : Type 1} → statement M
 stands-before-spec =
