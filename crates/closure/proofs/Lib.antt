@@ -1,1 +1,2 @@
 pub mod AddLaws
+pub mod PrepareLaws

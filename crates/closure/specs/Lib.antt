@@ -2,3 +2,4 @@ pub mod Expansion
 pub mod FirstBy
 pub mod Rests
 pub mod Adds
+pub mod Prepared

@@ -6,6 +6,7 @@ ghost use Rattle.items.specs.Layout.{Shaped};
 ghost use Rattle.fixpoint.specs.Flags.{Decides};
 ghost use Rattle.closure.specs.Rests.{Before, restAt};
 ghost use Rattle.closure.specs.Adds.{Adds, InRow, AnyIn, RestFirst};
+ghost use Rattle.closure.specs.Prepared.{Prepared};
 
 // Whether item i's dot k stands before a symbol, and not at its recognition point.
 pub fn stands_before(m: &[u8], items: usize, i: usize, k: usize) -> bool
@@ -81,4 +82,23 @@ pub fn rest_first(
         j += 1;
     }
     true
+}
+
+// Fills in, for each rule, what can begin after its first symbol: once, for the closures of all states.
+pub fn prepare_rules(m: &[u8], items: usize, rules: usize, codes: usize, nul: &[u8], fst: &[u8], starts: &mut [u8], through: &mut [u8])
+    requires { ⌜ Shaped (now m) items ⌝ }
+    requires { ⌜ (rules ≤ items) × (rules ≤ 127) × (codes ≤ 64) ⌝ }
+    requires { ⌜ (length (now nul) ≡ 128) × (length (now fst) ≡ 8192) ⌝ }
+    requires { ⌜ (length (now starts) ≡ 8192) × (length (now through) ≡ 128) ⌝ }
+    ensures { λ _. ⌜ Prepared (now (m .entry)) (rules + 1) codes (now (nul .entry)) (now (fst .entry)) (now (starts .exit)) (now (through .exit)) ⌝ }
+{
+    reply::clear(starts);
+    reply::clear(through);
+    let mut i = 1;
+    while i <= rules {
+        if rest_first(m, items, i, 1, codes, nul, fst, starts, i * 64) {
+            through[i] = 1;
+        }
+        i += 1;
+    }
 }
