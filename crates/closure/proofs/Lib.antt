@@ -1,2 +1,3 @@
 pub mod AddLaws
 pub mod PrepareLaws
+pub mod KernelLaws

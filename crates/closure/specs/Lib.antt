@@ -3,3 +3,4 @@ pub mod FirstBy
 pub mod Rests
 pub mod Adds
 pub mod Prepared
+pub mod Kernel

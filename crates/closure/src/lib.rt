@@ -7,6 +7,8 @@ ghost use Rattle.fixpoint.specs.Flags.{Decides};
 ghost use Rattle.closure.specs.Rests.{Before, restAt};
 ghost use Rattle.closure.specs.Adds.{Adds, InRow, AnyIn, RestFirst};
 ghost use Rattle.closure.specs.Prepared.{Prepared};
+ghost use Rattle.closure.specs.Kernel.{BeforeNonterminal, FollowsNonterminal, KernelBefore, KernelFollows};
+ghost use Rattle.memory.specs.Memory.{stateAt, itemAt, dotAt};
 
 // Whether item i's dot k stands before a symbol, and not at its recognition point.
 pub fn stands_before(m: &[u8], items: usize, i: usize, k: usize) -> bool
@@ -101,4 +103,61 @@ pub fn prepare_rules(m: &[u8], items: usize, rules: usize, codes: usize, nul: &[
         }
         i += 1;
     }
+}
+
+fn wide(x: u8) -> usize
+    ensures { λ r. ⌜ (r ≡ x) × (r < 256) ⌝ }
+{
+    x as usize
+}
+
+// The state of kernel line l.
+pub fn state_of(kernels: &[u8], lines: usize, l: usize) -> usize
+    requires { ⌜ (lines * 4 ≤ length (now kernels)) × (l < lines) ⌝ }
+    ensures { λ r. ⌜ (r ≡ stateAt (now (kernels .entry)) l) × (r < 256) ⌝ }
+{
+    wide(kernels[l * 4])
+}
+
+// The item of kernel line l.
+pub fn item_of(kernels: &[u8], lines: usize, l: usize) -> usize
+    requires { ⌜ (lines * 4 ≤ length (now kernels)) × (l < lines) ⌝ }
+    ensures { λ r. ⌜ (r ≡ itemAt (now (kernels .entry)) l) × (r < 256) ⌝ }
+{
+    wide(kernels[l * 4 + 1])
+}
+
+// The dot of kernel line l.
+pub fn dot_of(kernels: &[u8], lines: usize, l: usize) -> usize
+    requires { ⌜ (lines * 4 ≤ length (now kernels)) × (l < lines) ⌝ }
+    ensures { λ r. ⌜ (r ≡ dotAt (now (kernels .entry)) l) × (r < 256) ⌝ }
+{
+    wide(kernels[l * 4 + 2])
+}
+
+// What item i with dot k adds to its state's closure, where its lookaheads stand from `start` on.
+fn add_item(m: &[u8], items: usize, i: usize, k: usize, lookaheads: &[u8], start: usize, codes: usize, nul: &[u8], fst: &[u8], present: &mut [u8], follow: &mut [u8])
+    requires { ⌜ Shaped (now m) items ⌝ }
+    requires { ⌜ (i ≤ items) × (codes ≤ 64) × (start + 64 ≤ length (now lookaheads)) ⌝ }
+    requires { ⌜ (length (now nul) ≡ 128) × (length (now fst) ≡ 8192) ⌝ }
+    requires { ⌜ (length (now present) ≡ 64) × (length (now follow) ≡ 4096) ⌝ }
+    ensures { λ _. ⌜ Adds (BeforeNonterminal (now (m .entry)) i k) (now (present .entry)) (now (present .exit)) ⌝ }
+    ensures { λ _. ⌜ Adds (FollowsNonterminal (now (m .entry)) codes (now (nul .entry)) (now (fst .entry)) (now (lookaheads .entry)) start i k) (now (follow .entry)) (now (follow .exit)) ⌝ }
+{
+    if !stands_before(m, items, i, k) {
+        return;
+    }
+    let x = items::symbol_of(m, items, i, k);
+    if x < 64 {
+        return;
+    }
+    let b = x - 64;
+    present[b] = 1;
+    if !any_code(lookaheads, start, codes) {
+        return;
+    }
+    if !rest_first(m, items, i, k + 1, codes, nul, fst, follow, b * 64) {
+        return;
+    }
+    add_codes(lookaheads, start, codes, follow, b * 64);
 }
