@@ -2,18 +2,18 @@
 use Prim.Native.Nat.{ℕ, _+_, _*_, _-_, _≤_, _<_}
 use native.Mathlib.Decide.{decLt}
 use native.Mathlib.Omega.{arith}
-use mathlib.Core.Path.{_≡_, refl, sym, ap, subst, _∙_}
+use mathlib.Core.Path.{_≡_, refl, sym, ap, subst, subst₂, _∙_}
 use mathlib.Core.Logic.{_⊎_, inl, inr}
 use mathlib.Core.Bool.{Bool, true, false, false≢true}
 use mathlib.Core.List.{List}
 use lib.ListN.{length, set}
 use Rattle.items.specs.Layout.{symbolAt}
-use Rattle.memory.specs.Memory.{stateAt}
+use Rattle.memory.specs.Memory.{stateAt, itemAt, dotAt}
 use Rattle.fixpoint.specs.Flags.{On, Off}
 use Rattle.closure.specs.FirstBy.{FirstBy, BeginsAt}
 use Rattle.closure.specs.Rests.{Before, restAt}
 use Rattle.closure.specs.Adds.{Adds, InRow, AnyIn, RestFirst}
-use Rattle.closure.specs.Kernel.{BeforeNonterminal, FollowsNonterminal, OfLine}
+use Rattle.closure.specs.Kernel.{BeforeNonterminal, FollowsNonterminal, OfLine, LineBefore, LineFollows}
 use Rattle.closure.proofs.AddLaws.{adds-none, adds-map, adds-then, adds-one}
 
 -- ---- one line: item i with dot k
@@ -97,6 +97,14 @@ module _ (m : List ℕ) (i k : ℕ) where
               w .every ((x - 64) * 64 + p .next) (record { code = p .code; low = p .low; on = p .on; is = ap (λ (n : ℕ). (x - 64) * 64 + n) (q .1) })
 
 -- ---- lines of q, one by one
+
+module _ (m kernels : List ℕ) (l : ℕ) {fs fs′ : List ℕ} {i k : ℕ} (ei : i ≡ itemAt kernels l) (ek : k ≡ dotAt kernels l) where
+  pub line-before : Adds (BeforeNonterminal m i k) fs fs′ → Adds (LineBefore m kernels l) fs fs′
+  line-before a = subst₂ (λ (j n : ℕ). Adds (BeforeNonterminal m j n) fs fs′) ei ek a
+
+  pub line-follows : (codes : ℕ) (nul fst lookaheads : List ℕ) → Adds (FollowsNonterminal m codes nul fst lookaheads (l * 64) i k) fs fs′
+      → Adds (LineFollows m codes nul fst kernels lookaheads l) fs fs′
+  line-follows codes nul fst lookaheads a = subst₂ (λ (j n : ℕ). Adds (FollowsNonterminal m codes nul fst lookaheads (l * 64) j n) fs fs′) ei ek a
 
 module _ (P : ℕ → ℕ → Type 0) (kernels : List ℕ) (q : ℕ) where
   no-line : (y : ℕ) → OfLine P kernels 0 q y → ⊥

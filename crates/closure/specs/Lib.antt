@@ -4,3 +4,4 @@ pub mod Rests
 pub mod Adds
 pub mod Prepared
 pub mod Kernel
+pub mod Steps

@@ -8,6 +8,7 @@ ghost use Rattle.closure.specs.Rests.{Before, restAt};
 ghost use Rattle.closure.specs.Adds.{Adds, InRow, AnyIn, RestFirst};
 ghost use Rattle.closure.specs.Prepared.{Prepared};
 ghost use Rattle.closure.specs.Kernel.{BeforeNonterminal, FollowsNonterminal, KernelBefore, KernelFollows};
+ghost use Rattle.closure.specs.Steps.{expansions, followings, LeftIn, FirstIs, Fires, Covered};
 ghost use Rattle.memory.specs.Memory.{stateAt, itemAt, dotAt};
 
 // Whether item i's dot k stands before a symbol, and not at its recognition point.
@@ -160,4 +161,60 @@ fn add_item(m: &[u8], items: usize, i: usize, k: usize, lookaheads: &[u8], start
         return;
     }
     add_codes(lookaheads, start, codes, follow, b * 64);
+}
+
+// What the kernel lines of state q add to its closure.
+fn add_kernel(m: &[u8], items: usize, kernels: &[u8], lookaheads: &[u8], lines: usize, q: usize, codes: usize, nul: &[u8], fst: &[u8], present: &mut [u8], follow: &mut [u8])
+    requires { ⌜ Shaped (now m) items ⌝ }
+    requires { ⌜ (lines * 4 ≤ length (now kernels)) × (lines * 64 ≤ length (now lookaheads)) × (codes ≤ 64) ⌝ }
+    requires { ⌜ ((l : ℕ) → l < lines → itemAt (now kernels) l ≤ items) ⌝ }
+    requires { ⌜ (length (now nul) ≡ 128) × (length (now fst) ≡ 8192) ⌝ }
+    requires { ⌜ (length (now present) ≡ 64) × (length (now follow) ≡ 4096) ⌝ }
+    ensures { λ _. ⌜ Adds (KernelBefore (now (m .entry)) (now (kernels .entry)) lines q) (now (present .entry)) (now (present .exit)) ⌝ }
+    ensures { λ _. ⌜ Adds (KernelFollows (now (m .entry)) codes (now (nul .entry)) (now (fst .entry)) (now (kernels .entry)) (now (lookaheads .entry)) lines q) (now (follow .entry)) (now (follow .exit)) ⌝ }
+{
+    let mut l = 0;
+    while l < lines {
+        if state_of(kernels, lines, l) != q {
+            l += 1;
+            continue;
+        }
+        let i = item_of(kernels, lines, l);
+        let k = dot_of(kernels, lines, l);
+        add_item(m, items, i, k, lookaheads, l * 64, codes, nul, fst, present, follow);
+        l += 1;
+    }
+}
+
+// Whether the left side of rule i is a nonterminal that is flagged.
+fn left_in(m: &[u8], items: usize, i: usize, present: &[u8]) -> bool
+    requires { ⌜ Shaped (now m) items ⌝ }
+    requires { ⌜ i ≤ items ⌝ }
+    requires { ⌜ length (now present) ≡ 64 ⌝ }
+    ensures { λ b. ⌜ Decides (LeftIn (now (m .entry)) i (now (present .entry))) b ⌝ }
+{
+    let x = items::left_of(m, items, i);
+    if x < 64 {
+        return false;
+    }
+    if present[x - 64] == 0 {
+        return false;
+    }
+    true
+}
+
+// The nonterminal, less 64, that rule i begins with before its recognition point; 64 for none.
+fn first_nonterminal(m: &[u8], items: usize, i: usize) -> usize
+    requires { ⌜ Shaped (now m) items ⌝ }
+    requires { ⌜ i ≤ items ⌝ }
+    ensures { λ r. ⌜ FirstIs (now (m .entry)) i r ⌝ }
+{
+    if !stands_before(m, items, i, 0) {
+        return 64;
+    }
+    let x = items::symbol_of(m, items, i, 0);
+    if x < 64 {
+        return 64;
+    }
+    x - 64
 }
