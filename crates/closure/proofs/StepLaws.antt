@@ -17,6 +17,9 @@ same-first p r = omega (arith, p .symbol, r .symbol)
 same-left : {n a x : ℕ} → n ≡ 64 + a → n ≡ 64 + x → a ≡ x
 same-left e f = omega arith
 
+pub any-kept : {fs₀ fs : List ℕ} (start codes : ℕ) → ((y : ℕ) → On fs₀ y → On fs y) → AnyIn fs₀ start codes → AnyIn fs start codes
+any-kept start codes kept a = record { code = a .code; low = a .low; on = kept (start + a .code) (a .on) }
+
 -- ---- what is expanded
 
 module _ (m : List ℕ) (rules : ℕ) where

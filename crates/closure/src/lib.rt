@@ -3,7 +3,8 @@ ghost use mathlib.Core.Path.{_≡_};
 ghost use Prim.Native.Nat.{ℕ, _+_, _*_, _<_, _≤_};
 ghost use lib.ListN.{length};
 ghost use Rattle.items.specs.Layout.{Shaped};
-ghost use Rattle.fixpoint.specs.Flags.{Decides};
+ghost use Rattle.fixpoint.specs.Flags.{On, Marks, Decides};
+ghost use Rattle.fixpoint.specs.Least.{Least};
 ghost use Rattle.closure.specs.Rests.{Before, restAt};
 ghost use Rattle.closure.specs.Adds.{Adds, InRow, AnyIn, RestFirst};
 ghost use Rattle.closure.specs.Prepared.{Prepared};
@@ -217,4 +218,99 @@ fn first_nonterminal(m: &[u8], items: usize, i: usize) -> usize
         return 64;
     }
     x - 64
+}
+
+// Flags what the rules of flagged nonterminals begin with, until a pass adds nothing.
+fn close_present(m: &[u8], items: usize, rules: usize, present: &mut [u8])
+    requires { ⌜ Shaped (now m) items ⌝ }
+    requires { ⌜ rules ≤ items ⌝ }
+    requires { ⌜ length (now present) ≡ 64 ⌝ }
+    ensures { λ _. ⌜ Marks (Least (expansions (now (m .entry)) rules) (On (now (present .entry)))) (now (present .exit)) ⌝ }
+{
+    'passes: loop {
+        let mut added: usize = 0;
+        let mut i = 1;
+        'rules: while i <= rules {
+            if !left_in(m, items, i, present) {
+                i += 1;
+                continue 'rules;
+            }
+            let b = first_nonterminal(m, items, i);
+            if b >= 64 {
+                i += 1;
+                continue 'rules;
+            }
+            if present[b] == 0 {
+                present[b] = 1;
+                added += 1;
+            }
+            i += 1;
+        }
+        if added == 0 {
+            break 'passes;
+        }
+    }
+}
+
+// Whether code c can follow what rule i begins with, where something can follow its left side, 64 + a.
+fn fires(starts: &[u8], through: &[u8], follow: &[u8], i: usize, a: usize, c: usize) -> bool
+    requires { ⌜ (length (now starts) ≡ 8192) × (length (now through) ≡ 128) × (length (now follow) ≡ 4096) ⌝ }
+    requires { ⌜ (i ≤ 127) × (a < 64) × (c < 64) ⌝ }
+    ensures { λ r. ⌜ Decides (Fires (now (starts .entry)) (now (through .entry)) (now (follow .entry)) i a c) r ⌝ }
+{
+    if starts[i * 64 + c] != 0 {
+        return true;
+    }
+    if through[i] == 0 {
+        return false;
+    }
+    if follow[a * 64 + c] == 0 {
+        return false;
+    }
+    true
+}
+
+// Flags what can follow the nonterminals that rules begin with, until a pass adds nothing.
+fn close_follow(m: &[u8], items: usize, rules: usize, codes: usize, starts: &[u8], through: &[u8], present: &[u8], follow: &mut [u8])
+    requires { ⌜ Shaped (now m) items ⌝ }
+    requires { ⌜ (rules ≤ items) × (rules ≤ 127) × (codes ≤ 64) ⌝ }
+    requires { ⌜ (length (now starts) ≡ 8192) × (length (now through) ≡ 128) ⌝ }
+    requires { ⌜ (length (now present) ≡ 64) × (length (now follow) ≡ 4096) ⌝ }
+    requires { ⌜ Covered (now m) rules codes (now present) (now follow) ⌝ }
+    ensures { λ _. ⌜ Marks (Least (followings (now (m .entry)) rules codes (now (starts .entry)) (now (through .entry))) (On (now (follow .entry)))) (now (follow .exit)) ⌝ }
+{
+    'passes: loop {
+        let mut added: usize = 0;
+        let mut i = 1;
+        'rules: while i <= rules {
+            if !left_in(m, items, i, present) {
+                i += 1;
+                continue 'rules;
+            }
+            let b = first_nonterminal(m, items, i);
+            if b >= 64 {
+                i += 1;
+                continue 'rules;
+            }
+            let a = items::left_of(m, items, i) - 64;
+            if !any_code(follow, a * 64, codes) {
+                i += 1;
+                continue 'rules;
+            }
+            let mut c = 0;
+            'codes: while c < codes {
+                if follow[b * 64 + c] == 0 {
+                    if fires(starts, through, follow, i, a, c) {
+                        follow[b * 64 + c] = 1;
+                        added += 1;
+                    }
+                }
+                c += 1;
+            }
+            i += 1;
+        }
+        if added == 0 {
+            break 'passes;
+        }
+    }
 }
