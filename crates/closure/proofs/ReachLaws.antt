@@ -42,7 +42,7 @@ marks-least {k = k} s w = record {
   only = λ y on. least-join k (λ x o. seed (s .only x o)) (w .only y on);
   every = λ y p. w .every y (least-join k (λ x q. seed (s .every x q)) p) }
 
-module _ (m kernels lookaheads nul fst starts through : List ℕ) (items rules lines codes q : ℕ) where
+module _ (m kernels lookaheads nul fst : List ℕ) (rules lines codes q : ℕ) where
   -- what can be followed in the kernel is expanded, and stays so
   pub covered : {present₀ present follow : List ℕ} → codes ≤ 64 → Marks (KernelBefore m kernels lines q) present₀
       → Marks (Least (expansions m rules) (On present₀)) present → Marks (KernelFollows m codes nul fst kernels lookaheads lines q) follow
@@ -59,6 +59,7 @@ module _ (m kernels lookaheads nul fst starts through : List ℕ) (items rules l
           subst (On present) e
             (b .every (f .base) (seed (a .every (f .base) (record { line = p .line; within = p .within; state = p .state; holds = f .stands }))))
 
+module _ (m kernels lookaheads nul fst starts through : List ℕ) (items rules lines codes q : ℕ) where
   module _ (shaped : Shaped m items) (low : (l : ℕ) → l < lines → itemAt kernels l ≤ items) (fit : rules ≤ items) (few : codes ≤ 64)
       (g : Grammar) (t : Table) (H : InMemory m kernels lookaheads rules lines codes g t) where
     -- ---- rules and lines
