@@ -4,3 +4,4 @@ pub mod KernelLaws
 pub mod StepLaws
 pub mod ItemLaws
 pub mod ReachLaws
+pub mod UseLaws

@@ -27,6 +27,14 @@ use Rattle.closure.specs.InMemory.{DeclaredItem, InMemory, LineIs}
 use Rattle.closure.proofs.ItemLaws.{ItemHeld, item-held, goes-before, before-goes, line-of, line-at}
 use Rattle.closure.proofs.StepLaws.{next-low}
 
+-- lookaheads stay below `codes` where those of kernel lines do
+module _ (g : Grammar) (t : Table) (F : List ℕ → ℕ → ℕ → Type 0) (codes : ℕ)
+    (kernel-low : (q i k d : ℕ) (σ : List ℕ) → KernelAt g t q i k σ → In d σ → d < codes)
+    (first-below : (β : List ℕ) (d c : ℕ) → d < codes → F β d c → c < codes) where
+  pub carries-low : {q i k d : ℕ} → Carries g t F q i k d → d < codes
+  carries-low {q = q} {i = i} {k = k} {d = d} (Carries.in-kernel {σ = σ} h n) = kernel-low q i k d σ h n
+  carries-low {d = c} (Carries.in-closure {d = d} j {β = β} h go e x f) = first-below β d c (carries-low h) f
+
 -- ---- flags that are closed after seeds were put in
 
 -- flags added to none
@@ -134,9 +142,8 @@ module _ (m kernels lookaheads nul fst starts through : List ℕ) (items rules l
     abbrev Follow : ℕ → Type 0
     Follow = Least (followings m rules codes starts through) (KernelFollows m codes nul fst kernels lookaheads lines q)
 
-    pub carries-low : {i k d : ℕ} → Carries g t First q i k d → d < codes
-    carries-low {i = i} {k = k} {d = d} (Carries.in-kernel {σ = σ} h n) = H .code-low q i k d σ h n
-    carries-low (Carries.in-closure j h go e f p) = first-low codes nul fst (carries-low h) p
+    code-low : {i k d : ℕ} → Carries g t First q i k d → d < codes
+    code-low h = carries-low g t First codes (H .code-low) (λ β d c l f. first-low codes nul fst l f) h
 
     module _ (P : Prepared m (rules + 1) codes nul fst starts through) where
       gives : (i d c : ℕ) → 1 ≤ i → i ≤ rules → d < codes → First (restAt m i 1) d c → Gives codes starts through i d c
@@ -163,7 +170,7 @@ module _ (m kernels lookaheads nul fst starts through : List ℕ) (items rules l
           let u = rule-in j e in
           let z : X ≡ 64 + (r .left - 64) = omega (arith, H .left-kind j e, x) in
           let v = goes-before m g t (held-rule j e) go in
-          let ld = first-low codes nul fst (carries-low h) y in
+          let ld = first-low codes nul fst (code-low h) y in
           by (record { rule = j; left = r .left - 64; first = b; code = d; next = c })
             ( record { above = u .0; below = u .1; left = u .2; stands = record { before = v .0; symbol = v .1 } }
             , ld
@@ -205,7 +212,7 @@ module _ (m kernels lookaheads nul fst starts through : List ℕ) (items rules l
                   first = given (s .rule) (s .code) (s .next) (ok .0 .above) (ok .0 .below) (ok .2) })
 
       follows-low : {X c : ℕ} → Follows g t First q X c → c < codes
-      follows-low w = first-low codes nul fst (carries-low (w .carries)) (w .first)
+      follows-low w = first-low codes nul fst (code-low (w .carries)) (w .first)
 
       pub holds-closure : {present follow : List ℕ} → Marks Present present → Marks Follow follow → HoldsClosure g t First q present follow
       holds-closure {follow = follow} a w = record {
