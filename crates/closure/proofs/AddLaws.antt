@@ -4,15 +4,19 @@ use native.Mathlib.Decide.{decLt}
 use native.Mathlib.Omega.{arith}
 use mathlib.Core.Path.{_≡_, refl, sym, ap, subst, _∙_}
 use mathlib.Core.Logic.{_⊎_, inl, inr}
-use mathlib.Core.Bool.{Bool, true, false, false≢true}
+use mathlib.Core.Bool.{true, false, false≢true}
 use mathlib.Core.List.{List, [], _∷_}
-use lib.ListN.{length, getD, set, length-set}
+use lib.ListN.{length, set, length-set, replicate, length-replicate}
+use Rattle.items.specs.Layout.{lengthAt, symbolAt}
 use Rattle.fixpoint.specs.Flags.{On, Off}
 use Rattle.fixpoint.proofs.CountLaws.{on-set, only-set, keep-set}
 use Rattle.closure.specs.FirstBy.{FirstBy, follows, begins, skips, first-nil, first-cons, BeginsAt}
-use Rattle.items.specs.Layout.{lengthAt, symbolAt}
 use Rattle.closure.specs.Rests.{restAt, rest-none, rest-more}
 use Rattle.closure.specs.Adds.{Adds, InRow, RestFirst}
+
+-- the length of a slice that was cleared
+pub zeroed : {xs : List ℕ} {n k : ℕ} → xs ≡ replicate n 0 → n ≡ k → length xs ≡ k
+zeroed {n = n} e l = ap length e ∙ length-replicate {A = ℕ} n 0 ∙ l
 
 pub adds-none : {P : ℕ → Type 0} (fs : List ℕ) → ((y : ℕ) → P y → ⊥) → Adds P fs fs
 adds-none fs f = record { long = refl; only = λ y on. inl on; kept = λ y on. on; every = λ y p. absurd (f y p) }
@@ -30,14 +34,17 @@ adds-then {P = P} {Q = Q} {fs₀ = fs₀} {fs = fs} {fs′ = fs′} a b = record
   long = b .long ∙ a .long;
   only = λ y on. late y (b .only y on);
   kept = λ y on. b .kept y (a .kept y on);
-  every = λ y p. here y p }
+  every = λ y p. here y p;
+}
   where
     early : (y : ℕ) → On fs₀ y ⊎ P y → On fs₀ y ⊎ (P y ⊎ Q y)
     early y (inl on) = inl on
     early y (inr p) = inr (inl p)
+
     late : (y : ℕ) → On fs y ⊎ Q y → On fs₀ y ⊎ (P y ⊎ Q y)
     late y (inl on) = early y (a .only y on)
     late y (inr q) = inr (inr q)
+
     here : (y : ℕ) → P y ⊎ Q y → On fs′ y
     here y (inl p) = b .kept y (a .every y p)
     here y (inr q) = b .every y q
@@ -48,7 +55,8 @@ adds-one {fs = fs} {fs′ = fs′} x e l = subst (λ (xs : List ℕ). Adds (λ (
   long = length-set fs x 1;
   only = only-set (λ (y : ℕ). On fs y ⊎ (y ≡ x)) fs x (λ y on. inl on) (inr refl);
   kept = keep-set fs x l;
-  every = λ y q. subst (On (set fs x 1)) (sym q) (on-set fs x l) })
+  every = λ y q. subst (On (set fs x 1)) (sym q) (on-set fs x l);
+})
 
 -- ---- rows
 
@@ -78,9 +86,11 @@ row-set from start at c e l on a = adds-map up down (adds-then a (adds-one (at +
     up : (y : ℕ) → InRow from start c at y ⊎ (y ≡ at + c) → InRow from start (c + 1) at y
     up y (inl r) = row-wider from start at c y r
     up y (inr q) = record { code = c; low = omega arith; on = on; is = q }
+
     pick : (y : ℕ) → InRow from start c at y ⊎ ((y ≡ at + c) × On from (start + c)) → InRow from start c at y ⊎ (y ≡ at + c)
     pick y (inl r) = inl r
     pick y (inr q) = inr (q .0)
+
     down : (y : ℕ) → InRow from start (c + 1) at y → InRow from start c at y ⊎ (y ≡ at + c)
     down y r = pick y (row-split from start at c y r)
 
@@ -92,6 +102,7 @@ row-skip from start at c {fs₀ = fs₀} e off a =
     pick : (y : ℕ) → InRow from start c at y ⊎ ((y ≡ at + c) × On from (start + c)) → InRow from start c at y
     pick y (inl r) = r
     pick y (inr q) = absurd (q .1 .nonzero off)
+
     down : (y : ℕ) → InRow from start (c + 1) at y → InRow from start c at y
     down y r = pick y (row-split from start at c y r)
 
@@ -141,7 +152,8 @@ module _ (codes : ℕ) (nul fst β : List ℕ) (at : ℕ) where
       only = λ y on. old y (a .only y on);
       kept = λ y on. a .kept y (p .kept y on);
       every = λ d c f. go d c (new d c (p .every d c f));
-      through = λ e. absurd (false≢true e) }
+      through = λ e. absurd (false≢true e);
+    }
       where
         go : (d c : ℕ) → On fs′ (at + c) ⊎ (On nul X × FirstBy codes nul fst γ d c) → On fs′ (at + c) ⊎ ((false ≡ true) × (c ≡ d))
         go d c (inl on) = inl on
@@ -154,7 +166,8 @@ module _ (codes : ℕ) (nul fst β : List ℕ) (at : ℕ) where
       only = λ y on. old y (a .only y on);
       kept = λ y on. a .kept y (p .kept y on);
       every = λ d c f. go d c (new d c (p .every d c f));
-      past = λ d c f. p .past d c (skips on-nul f) }
+      past = λ d c f. p .past d c (skips on-nul f);
+    }
       where
         go : (d c : ℕ) → On fs′ (at + c) ⊎ (On nul X × FirstBy codes nul fst γ d c) → On fs′ (at + c) ⊎ FirstBy codes nul fst γ d c
         go d c (inl on) = inl on
@@ -167,7 +180,8 @@ module _ (codes : ℕ) (nul fst β : List ℕ) (at : ℕ) where
     only = p .only;
     kept = p .kept;
     every = λ d c f. go d c (p .every d c f);
-    through = λ _ d. p .past d d follows }
+    through = λ _ d. p .past d d follows;
+  }
     where
       go : (d c : ℕ) → On fs (at + c) ⊎ FirstBy codes nul fst [] d c → On fs (at + c) ⊎ ((true ≡ true) × (c ≡ d))
       go d c (inl on) = inl on

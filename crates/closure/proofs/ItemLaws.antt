@@ -1,12 +1,12 @@
 -- Items and kernel lines in memory are those of the grammar and the table.
-use Prim.Native.Nat.{ℕ, zero, suc, _+_, _*_, _-_, _≤_, _<_}
+use Prim.Native.Nat.{ℕ, zero, suc, _+_, _-_, _≤_, _<_}
 use native.Mathlib.Decide.{decLt}
 use native.Mathlib.Numerals.{add-one}
 use native.Mathlib.Omega.{arith}
 use mathlib.Core.Path.{_≡_, refl, sym, ap, ap₂, subst, _∙_}
-use mathlib.Core.Logic.{_⊎_, inl, inr}
+use mathlib.Core.Logic.{inl, inr}
 use mathlib.Core.List.{List, [], _∷_}
-use mathlib.Core.Option.{Option, some, none}
+use mathlib.Core.Option.{some}
 use lib.ListN.{length, getD, drop, drop-of-length-le}
 use lib.Seq.{drop-cons}
 use Rattle.language.specs.Grammar.{Grammar, Rule, right, at, ruleAt}
@@ -16,7 +16,7 @@ use Rattle.leftcorner.specs.Table.{KernelLine, K, Table, stringOf, symbolsOf, r
 use Rattle.leftcorner.specs.Construction.{entryItem, EntryAt, KernelAt}
 use Rattle.leftcorner.specs.Sources.{symbols-rule, point-rule, symbols-entry, point-entry}
 use Rattle.items.specs.Layout.{lengthAt, markAt, symbolAt, RuleIn, EntryIn}
-use Rattle.memory.specs.Memory.{HoldsItems, HoldsKernels, stateAt, itemAt, dotAt}
+use Rattle.memory.specs.Memory.{HoldsItems, HoldsKernels}
 use Rattle.closure.specs.Rests.{Before, restAt, rest-none, rest-more}
 use Rattle.closure.specs.InMemory.{DeclaredItem, LineIs}
 
@@ -44,7 +44,8 @@ module _ (m : List ℕ) (g : Grammar) (t : Table) where
     short = s;
     symbols = λ k. ap (drop k) (symbols-rule g t i r e) ∙ rest-string m i (right r) (w .length-is) (omega (arith, w .length-is)) (w .symbol-is) (length (right r) - k) k refl;
     mark-is = λ k h. let z : some (length (r .before)) ≡ some k = sym (point-rule g t i r e) ∙ h in let y : length (r .before) ≡ k = cc in w .mark-is ∙ y;
-    is-mark = λ k l h. point-rule g t i r e ∙ ap (λ (n : ℕ). some n) (sym (w .mark-is) ∙ h) }
+    is-mark = λ k l h. point-rule g t i r e ∙ ap (λ (n : ℕ). some n) (sym (w .mark-is) ∙ h);
+  }
 
   held-entry : (j s : ℕ) (γ : List ℕ) → EntryAt g t j s γ → EntryIn m (entryItem g t j) γ → lengthAt m (entryItem g t j) ≤ 15 → ItemHeld (entryItem g t j)
   held-entry j s γ e w l = record {
@@ -52,7 +53,8 @@ module _ (m : List ℕ) (g : Grammar) (t : Table) where
     symbols = λ k. ap (drop k) (symbols-entry g t j s γ e ∙ ap stringOf e)
         ∙ rest-string m (entryItem g t j) γ (w .length-is) (omega (arith, w .length-is)) (w .symbol-is) (length γ - k) k refl;
     mark-is = λ k h. not-there (sym (point-entry g t j s γ e) ∙ h);
-    is-mark = λ k u h. absurd (omega (arith, w .mark-is, h, u)) }
+    is-mark = λ k u h. absurd (omega (arith, w .mark-is, h, u));
+  }
 
   pub item-held : HoldsItems m g t → (i : ℕ) → DeclaredItem g t i → lengthAt m i ≤ 15 → ItemHeld i
   item-held h i (inl (r, e)) l = held-rule i r e (h .rule-row i e) l
@@ -65,6 +67,7 @@ module _ (m : List ℕ) (g : Grammar) (t : Table) where
     where
       rest-is : restAt m i k ≡ X ∷ β
       rest-is = sym (h .symbols k) ∙ go .before
+
       pick : Dec (k < lengthAt m i) → Before m i k × (symbolAt m i k ≡ X) × (restAt m i (k + 1) ≡ β)
       pick (yes l) =
           let e : symbolAt m i k ∷ restAt m i (k + 1) ≡ X ∷ β = sym (rest-more m i k l) ∙ rest-is in
@@ -90,10 +93,11 @@ at-in (y ∷ l) (suc n) e = there (at-in l n e)
 module _ (g : Grammar) (t : Table) {kernels lookaheads : List ℕ} {lines : ℕ} (h : HoldsKernels kernels lookaheads t) (count : length (t .kernels) ≡ lines) where
   pub line-of : {q i k : ℕ} {σ : List ℕ} → KernelAt g t q i k σ → (l : ℕ) × LineIs kernels lines q i k l × (at (t .kernels) l ≡ some (K q i k σ))
   line-of {q = q} {i = i} {k = k} p =
-      let r = in-at p in
-      ( r .0
-      , record { within = omega (arith, r .1); state = h .line-state (r .0) q i k (r .2); item = h .line-item (r .0) q i k (r .2); dot = h .line-dot (r .0) q i k (r .2) }
-      , r .2 )
+      let r = in-at p in (
+        r .0,
+        record { within = omega (arith, r .1); state = h .line-state (r .0) q i k (r .2); item = h .line-item (r .0) q i k (r .2); dot = h .line-dot (r .0) q i k (r .2) },
+        r .2,
+      )
 
   pub line-at : {q i k l : ℕ} → LineIs kernels lines q i k l → (σ : List ℕ) × KernelAt g t q i k σ × (at (t .kernels) l ≡ some (K q i k σ))
   line-at {q = q} {i = i} {k = k} {l = l} d = go (at-below (t .kernels) l (omega (arith, d .within)))

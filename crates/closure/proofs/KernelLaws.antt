@@ -2,15 +2,15 @@
 use Prim.Native.Nat.{ℕ, _+_, _*_, _-_, _≤_, _<_}
 use native.Mathlib.Decide.{decLt}
 use native.Mathlib.Omega.{arith}
-use mathlib.Core.Path.{_≡_, refl, sym, ap, subst, subst₂, _∙_}
+use mathlib.Core.Path.{_≡_, sym, ap, subst, subst₂, _∙_}
 use mathlib.Core.Logic.{_⊎_, inl, inr}
 use mathlib.Core.Bool.{Bool, true, false, false≢true}
 use mathlib.Core.List.{List}
 use lib.ListN.{length, set}
 use Rattle.items.specs.Layout.{symbolAt}
 use Rattle.memory.specs.Memory.{stateAt, itemAt, dotAt}
-use Rattle.fixpoint.specs.Flags.{On, Off}
-use Rattle.closure.specs.FirstBy.{FirstBy, BeginsAt}
+use Rattle.fixpoint.specs.Flags.{On}
+use Rattle.closure.specs.FirstBy.{BeginsAt}
 use Rattle.closure.specs.Rests.{Before, restAt}
 use Rattle.closure.specs.Adds.{Adds, InRow, AnyIn, RestFirst}
 use Rattle.closure.specs.Kernel.{BeforeNonterminal, FollowsNonterminal, OfLine, LineBefore, LineFollows}
@@ -35,6 +35,7 @@ module _ (m : List ℕ) (i k : ℕ) where
     where
       up : (y : ℕ) → y ≡ x - 64 → BeforeNonterminal m i k y
       up y q = record { before = h; symbol = omega arith }
+
       down : (y : ℕ) → BeforeNonterminal m i k y → y ≡ x - 64
       down y p = omega (arith, p .symbol)
 
@@ -56,7 +57,15 @@ module _ (m : List ℕ) (i k : ℕ) where
 
       begun : (y : ℕ) → BeginsAt codes nul fst (restAt m i (k + 1)) ((x - 64) * 64) y → FollowsNonterminal m codes nul fst lookaheads start i k y
       begun y q = record {
-        base = x - 64; stands = stands-here; code = a .code; low = a .low; on = a .on; next = q .code; first = q .first (a .code); is = q .is }
+        base = x - 64;
+        stands = stands-here;
+        code = a .code;
+        low = a .low;
+        on = a .on;
+        next = q .code;
+        first = q .first (a .code);
+        is = q .is;
+      }
 
       old : (y : ℕ) → On fs₀ y ⊎ BeginsAt codes nul fst (restAt m i (k + 1)) ((x - 64) * 64) y
           → On fs₀ y ⊎ FollowsNonterminal m codes nul fst lookaheads start i k y
@@ -71,7 +80,8 @@ module _ (m : List ℕ) (i k : ℕ) where
         long = r .long;
         only = λ y on. old y (r .only y on);
         kept = r .kept;
-        every = λ y p. subst (On fs) (place y p) (set-on y p (r .every (p .code) (p .next) (p .first))) }
+        every = λ y p. subst (On fs) (place y p) (set-on y p (r .every (p .code) (p .next) (p .first)));
+      }
         where
           set-on : (y : ℕ) (p : FollowsNonterminal m codes nul fst lookaheads start i k y) → On fs ((x - 64) * 64 + p .next) ⊎ ((b ≡ true) × (p .next ≡ p .code))
               → On fs ((x - 64) * 64 + p .next)
@@ -84,12 +94,22 @@ module _ (m : List ℕ) (i k : ℕ) where
         long = w .long ∙ r .long;
         only = λ y on. late y (w .only y on);
         kept = λ y on. w .kept y (r .kept y on);
-        every = λ y p. subst (On fs′) (place y p) (set-on y p (r .every (p .code) (p .next) (p .first))) }
+        every = λ y p. subst (On fs′) (place y p) (set-on y p (r .every (p .code) (p .next) (p .first)));
+      }
         where
           late : (y : ℕ) → On fs y ⊎ InRow lookaheads start codes ((x - 64) * 64) y → On fs₀ y ⊎ FollowsNonterminal m codes nul fst lookaheads start i k y
           late y (inl on) = old y (r .only y on)
           late y (inr q) = inr (record {
-            base = x - 64; stands = stands-here; code = q .code; low = q .low; on = q .on; next = q .code; first = r .through t (q .code); is = q .is })
+            base = x - 64;
+            stands = stands-here;
+            code = q .code;
+            low = q .low;
+            on = q .on;
+            next = q .code;
+            first = r .through t (q .code);
+            is = q .is;
+          })
+
           set-on : (y : ℕ) (p : FollowsNonterminal m codes nul fst lookaheads start i k y) → On fs ((x - 64) * 64 + p .next) ⊎ ((b ≡ true) × (p .next ≡ p .code))
               → On fs′ ((x - 64) * 64 + p .next)
           set-on y p (inl on) = w .kept ((x - 64) * 64 + p .next) on
@@ -139,6 +159,7 @@ module _ (P : ℕ → ℕ → Type 0) (kernels : List ℕ) (q : ℕ) where
       up : (y : ℕ) → OfLine P kernels l q y ⊎ P l y → OfLine P kernels (l + 1) q y
       up y (inl p) = line-wider l y p
       up y (inr h) = record { line = l; within = omega arith; state = s; holds = h }
+
       down : (y : ℕ) → OfLine P kernels l q y ⊎ ((stateAt kernels l ≡ q) × P l y) → OfLine P kernels l q y ⊎ P l y
       down y (inl p) = inl p
       down y (inr h) = inr (h .1)

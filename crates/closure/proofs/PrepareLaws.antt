@@ -2,14 +2,14 @@
 use Prim.Native.Nat.{ℕ, _+_, _*_, _≤_, _<_}
 use native.Mathlib.Decide.{decLt}
 use native.Mathlib.Omega.{arith}
-use mathlib.Core.Path.{_≡_, refl, sym, ap, subst, _∙_}
+use mathlib.Core.Path.{_≡_, sym, subst}
 use mathlib.Core.Logic.{_⊎_, inl, inr}
-use mathlib.Core.Bool.{Bool, true, false}
+use mathlib.Core.Bool.{Bool, true}
 use mathlib.Core.List.{List}
 use lib.ListN.{length, set, replicate}
-use Rattle.fixpoint.specs.Flags.{On, Off}
+use Rattle.fixpoint.specs.Flags.{On}
 use Rattle.fixpoint.proofs.PassLaws.{all-off, no-gap}
-use Rattle.closure.specs.FirstBy.{FirstBy, first-low, BeginsAt}
+use Rattle.closure.specs.FirstBy.{FirstBy, BeginsAt}
 use Rattle.closure.specs.Rests.{restAt}
 use Rattle.closure.specs.Adds.{Adds, RestFirst}
 use Rattle.closure.specs.Prepared.{Prepared}
@@ -37,9 +37,11 @@ module _ (m : List ℕ) (codes : ℕ) (nul fst : List ℕ) where
     prepared = record {
       starts-only = λ i c l u. absurd (no-gap l u);
       through-only = λ i l u. absurd (no-gap l u);
-      every = λ i d c l u. absurd (no-gap l u) };
+      every = λ i d c l u. absurd (no-gap l u);
+    };
     starts-low = λ y on. all-off n es on;
-    through-low = λ y on. all-off k et on }
+    through-low = λ y on. all-off k et on;
+  }
 
   module _ (few : codes ≤ 64) {starts starts′ through through′ : List ℕ} {b : Bool} (i : ℕ) (f : Filled i starts through)
       (r : RestFirst codes nul fst (restAt m i 1) (i * 64) starts starts′ b) (a : Adds (λ (y : ℕ). (b ≡ true) × (y ≡ i)) through through′) where
@@ -99,9 +101,11 @@ module _ (m : List ℕ) (codes : ℕ) (nul fst : List ℕ) where
         low : On starts (j * 64 + c) ⊎ (On through j × (c ≡ d)) → On starts′ (j * 64 + c) ⊎ (On through′ j × (c ≡ d))
         low (inl on) = inl (r .kept (j * 64 + c) on)
         low (inr q) = inr (a .kept j (q .0), q .1)
+
         high : i ≡ j → On starts′ (i * 64 + c) ⊎ ((b ≡ true) × (c ≡ d)) → On starts′ (j * 64 + c) ⊎ (On through′ j × (c ≡ d))
         high e (inl on) = inl (subst (λ (k : ℕ). On starts′ (k * 64 + c)) e on)
         high e (inr q) = inr (a .every j (q .0, sym e), q .1)
+
         go : Dec (j < i) → On starts′ (j * 64 + c) ⊎ (On through′ j × (c ≡ d))
         go (yes k) = low (f .prepared .every j d c l k h)
         go (no n) =
@@ -126,7 +130,8 @@ module _ (m : List ℕ) (codes : ℕ) (nul fst : List ℕ) where
     filled-more = record {
       prepared = record { starts-only = starts-only; through-only = through-only; every = every };
       starts-low = low-starts;
-      through-low = low-through }
+      through-low = low-through;
+    }
 
   pub filled-all : {limit i : ℕ} {starts through : List ℕ} → i ≤ limit → limit ≤ i → Filled i starts through → Prepared m limit codes nul fst starts through
   filled-all {limit = limit} {i = i} {starts = starts} {through = through} l u f =

@@ -1,29 +1,29 @@
 -- Closures in memory are those of the construction.
-use Prim.Native.Nat.{ℕ, zero, suc, _+_, _*_, _-_, _≤_, _<_}
+use Prim.Native.Nat.{ℕ, zero, _+_, _*_, _-_, _≤_, _<_}
 use native.Mathlib.Omega.{arith}
-use mathlib.Core.Path.{_≡_, refl, sym, ap, subst, subst₂, _∙_}
+use mathlib.Core.Path.{_≡_, refl, sym, subst, subst₂, _∙_}
 use mathlib.Core.Logic.{_⊎_, inl, inr}
 use mathlib.Core.List.{List}
-use mathlib.Core.Option.{Option, some}
-use lib.ListN.{length, replicate}
+use mathlib.Core.Option.{some}
+use lib.ListN.{replicate}
 use Rattle.language.specs.Grammar.{Grammar, Rule, ruleAt}
 use Rattle.language.specs.GrammarLaws.{rule-range, range-rule}
 use Rattle.language.specs.Sentence.{In}
-use Rattle.leftcorner.specs.Table.{K, Table, Goes}
+use Rattle.leftcorner.specs.Table.{Table, Goes}
 use Rattle.leftcorner.specs.Construction.{KernelAt, Has, in-kernel, in-closure, Carries}
-use Rattle.items.specs.Layout.{Shaped, leftAt, symbolAt}
-use Rattle.memory.specs.Memory.{stateAt, itemAt, dotAt}
+use Rattle.items.specs.Layout.{Shaped, leftAt}
+use Rattle.memory.specs.Memory.{itemAt, dotAt}
 use Rattle.fixpoint.specs.Flags.{On, Marks}
 use Rattle.fixpoint.specs.Least.{Clauses, Least, seed, by, Met, least-every, least-join}
 use Rattle.fixpoint.proofs.PassLaws.{all-off}
 use Rattle.closure.specs.Expansion.{Expanded, Follows, HoldsClosure}
 use Rattle.closure.specs.FirstBy.{FirstBy, first-low}
-use Rattle.closure.specs.Rests.{Before, restAt}
+use Rattle.closure.specs.Rests.{restAt}
 use Rattle.closure.specs.Adds.{Adds}
 use Rattle.closure.specs.Prepared.{Prepared}
-use Rattle.closure.specs.Kernel.{BeforeNonterminal, FollowsNonterminal, OfLine, KernelBefore, KernelFollows}
-use Rattle.closure.specs.Steps.{Expands, Expansion, expansions, Gives, Following, followings, Covered}
-use Rattle.closure.specs.InMemory.{DeclaredItem, InMemory, LineIs}
+use Rattle.closure.specs.Kernel.{BeforeNonterminal, FollowsNonterminal, KernelBefore, KernelFollows}
+use Rattle.closure.specs.Steps.{Expansion, expansions, Gives, Following, followings, Covered}
+use Rattle.closure.specs.InMemory.{InMemory, LineIs}
 use Rattle.closure.proofs.ItemLaws.{ItemHeld, item-held, goes-before, before-goes, line-of, line-at}
 use Rattle.closure.proofs.StepLaws.{next-low}
 
@@ -48,7 +48,8 @@ adds-marks {P = P} {fs₀ = fs₀} n e a = record { only = λ y on. go y (a .onl
 pub marks-least : {C : Type 0} {k : Clauses C ℕ} {S : ℕ → Type 0} {fs₀ fs : List ℕ} → Marks S fs₀ → Marks (Least k (On fs₀)) fs → Marks (Least k S) fs
 marks-least {k = k} s w = record {
   only = λ y on. least-join k (λ x o. seed (s .only x o)) (w .only y on);
-  every = λ y p. w .every y (least-join k (λ x q. seed (s .every x q)) p) }
+  every = λ y p. w .every y (least-join k (λ x q. seed (s .every x q)) p);
+}
 
 module _ (m kernels lookaheads nul fst : List ℕ) (rules lines codes q : ℕ) where
   -- what can be followed in the kernel is expanded, and stays so
@@ -57,7 +58,8 @@ module _ (m kernels lookaheads nul fst : List ℕ) (rules lines codes q : ℕ) w
       → Covered m rules codes present follow
   covered {present₀ = present₀} {present = present} {follow = follow} few a b w = record {
     closed = λ s ok ns. b .every (s .first) (by s ok (λ x e. b .only x (ns x e)));
-    seeded = λ n c l on. go n c l (w .only (n * 64 + c) on) }
+    seeded = λ n c l on. go n c l (w .only (n * 64 + c) on);
+  }
     where
       go : (n c : ℕ) → c < codes → KernelFollows m codes nul fst kernels lookaheads lines q (n * 64 + c) → On present n
       go n c l p =
@@ -65,7 +67,7 @@ module _ (m kernels lookaheads nul fst : List ℕ) (rules lines codes q : ℕ) w
           let h = first-low codes nul fst (f .low) (f .first) in
           let e : f .base ≡ n = omega (arith, f .is, h, l, few) in
           subst (On present) e
-            (b .every (f .base) (seed (a .every (f .base) (record { line = p .line; within = p .within; state = p .state; holds = f .stands }))))
+          (b .every (f .base) (seed (a .every (f .base) (record { line = p .line; within = p .within; state = p .state; holds = f .stands }))))
 
 module _ (m kernels lookaheads nul fst starts through : List ℕ) (items rules lines codes q : ℕ) where
   module _ (shaped : Shaped m items) (low : (l : ℕ) → l < lines → itemAt kernels l ≤ items) (fit : rules ≤ items) (few : codes ≤ 64)
@@ -109,13 +111,17 @@ module _ (m kernels lookaheads nul fst starts through : List ℕ) (items rules l
         let l = line-of g t (H .holds-kernels) (H .line-count) h in
         let d = l .1 in
         let s = stands-at (held-line d) go in
-        seed (record { line = l .0; within = d .within; state = d .state;
-          holds = subst₂ (λ (j n : ℕ). BeforeNonterminal m j n b) (sym (d .item)) (sym (d .dot)) s })
+        seed (record {
+          line = l .0;
+          within = d .within;
+          state = d .state;
+          holds = subst₂ (λ (j n : ℕ). BeforeNonterminal m j n b) (sym (d .item)) (sym (d .dot)) s;
+        })
     has-least (in-closure {X = X} j {β = α} {r = r} h up e f) b β go =
         let u = rule-in j e in
         let z : X ≡ 64 + (r .left - 64) = omega (arith, H .left-kind j e, f) in
         by (record { rule = j; left = r .left - 64; first = b }) (record { above = u .0; below = u .1; left = u .2; stands = stands-at (held-rule j e) go })
-          (λ x q. subst Present (sym q) (has-least h (r .left - 64) α (goes-to z up)))
+        (λ x q. subst Present (sym q) (has-least h (r .left - 64) α (goes-to z up)))
 
     least-expanded : {b : ℕ} → Present b → Expanded g t q (64 + b)
     least-expanded p = least-every (expansions m rules) (λ (b : ℕ). Expanded g t q (64 + b)) seeds step p
@@ -123,16 +129,27 @@ module _ (m kernels lookaheads nul fst starts through : List ℕ) (items rules l
         seeds : (b : ℕ) → KernelBefore m kernels lines q b → Expanded g t q (64 + b)
         seeds b w =
             let d : LineIs kernels lines q (itemAt kernels (w .line)) (dotAt kernels (w .line)) (w .line)
-                = record { within = w .within; state = w .state; item = refl; dot = refl } in
+            = record { within = w .within; state = w .state; item = refl; dot = refl } in
             let r = line-at g t (H .holds-kernels) (H .line-count) d in
-            record { item = itemAt kernels (w .line); dot = dotAt kernels (w .line); rest = restAt m (itemAt kernels (w .line)) (dotAt kernels (w .line) + 1);
-              has = in-kernel (r .1); goes = goes-at (held-line d) (w .holds) }
+            record {
+              item = itemAt kernels (w .line);
+              dot = dotAt kernels (w .line);
+              rest = restAt m (itemAt kernels (w .line)) (dotAt kernels (w .line) + 1);
+              has = in-kernel (r .1);
+              goes = goes-at (held-line d) (w .holds);
+            }
+
         step : (s : Expansion) → Met (expansions m rules) (λ (b : ℕ). Expanded g t q (64 + b)) s
         step s ok ns =
             let r = in-rule (s .rule) (ok .above) (ok .below) in
             let x = ns (s .left) refl in
-            record { item = s .rule; dot = zero; rest = restAt m (s .rule) 1;
-              has = in-closure (s .rule) (x .has) (x .goes) (r .1) (sym (r .2) ∙ ok .left); goes = goes-at (held-rule (s .rule) (r .1)) (ok .stands) }
+            record {
+              item = s .rule;
+              dot = zero;
+              rest = restAt m (s .rule) 1;
+              has = in-closure (s .rule) (x .has) (x .goes) (r .1) (sym (r .2) ∙ ok .left);
+              goes = goes-at (held-rule (s .rule) (r .1)) (ok .stands);
+            }
 
     -- ---- what can follow
 
@@ -162,20 +179,33 @@ module _ (m kernels lookaheads nul fst starts through : List ℕ) (items rules l
           let l = line-of g t (H .holds-kernels) (H .line-count) h in
           let w = l .1 in
           let v = goes-before m g t (held-line w) go in
-          seed (record { line = l .0; within = w .within; state = w .state;
+          seed (record {
+            line = l .0;
+            within = w .within;
+            state = w .state;
             holds = subst₂ (λ (j a : ℕ). FollowsNonterminal m codes nul fst lookaheads (l .0 * 64) j a (b * 64 + c)) (sym (w .item)) (sym (w .dot))
-              (record { base = b; stands = record { before = v .0; symbol = v .1 }; code = d; low = H .code-low q i k d σ h n;
-                on = H .holds-kernels .code-on (l .0) q i k d (l .2) n; next = c; first = subst (λ (α : List ℕ). First α d c) (sym (v .2)) f; is = refl }) })
+                (record {
+                  base = b;
+                  stands = record { before = v .0; symbol = v .1 };
+                  code = d;
+                  low = H .code-low q i k d σ h n;
+                  on = H .holds-kernels .code-on (l .0) q i k d (l .2) n;
+                  next = c;
+                  first = subst (λ (α : List ℕ). First α d c) (sym (v .2)) f;
+                  is = refl;
+                });
+          })
       carries-least {d = d} (Carries.in-closure {d = a} {X = X} j {β = α} {r = r} h up e x y) b c β go f =
           let u = rule-in j e in
           let z : X ≡ 64 + (r .left - 64) = omega (arith, H .left-kind j e, x) in
           let v = goes-before m g t (held-rule j e) go in
           let ld = first-low codes nul fst (code-low h) y in
-          by (record { rule = j; left = r .left - 64; first = b; code = d; next = c })
-            ( record { above = u .0; below = u .1; left = u .2; stands = record { before = v .0; symbol = v .1 } }
-            , ld
-            , gives j d c (u .0) (u .1) ld (subst (λ (γ : List ℕ). First γ d c) (sym (v .2)) f) )
-            (λ s q. subst Follow (sym q) (carries-least h (r .left - 64) d α (goes-to z up) y))
+          by (record { rule = j; left = r .left - 64; first = b; code = d; next = c }) (
+            record { above = u .0; below = u .1; left = u .2; stands = record { before = v .0; symbol = v .1 } },
+            ld,
+            gives j d c (u .0) (u .1) ld (subst (λ (γ : List ℕ). First γ d c) (sym (v .2)) f),
+          )
+          (λ s q. subst Follow (sym q) (carries-least h (r .left - 64) d α (goes-to z up) y))
 
       -- a place, and the nonterminal and code that stand there
       abbrev Placed : ℕ → Type 0
@@ -191,13 +221,20 @@ module _ (m kernels lookaheads nul fst starts through : List ℕ) (items rules l
               let eb : f .base ≡ b = omega (arith, f .is) in
               let ec : f .next ≡ c = omega (arith, f .is) in
               let d : LineIs kernels lines q (itemAt kernels (w .line)) (dotAt kernels (w .line)) (w .line)
-                  = record { within = w .within; state = w .state; item = refl; dot = refl } in
+              = record { within = w .within; state = w .state; item = refl; dot = refl } in
               let r = line-at g t (H .holds-kernels) (H .line-count) d in
               subst₂ (λ (x z : ℕ). Follows g t First q (64 + x) z) eb ec
-                (record { item = itemAt kernels (w .line); dot = dotAt kernels (w .line); code = f .code; rest = restAt m (itemAt kernels (w .line)) (dotAt kernels (w .line) + 1);
-                  carries = Carries.in-kernel (r .1)
-                      (H .holds-kernels .on-code (w .line) q (itemAt kernels (w .line)) (dotAt kernels (w .line)) (f .code) (r .2) (omega (arith, f .low)) (f .on));
-                  goes = goes-at (held-line d) (f .stands); first = f .first })
+              (record {
+                item = itemAt kernels (w .line);
+                dot = dotAt kernels (w .line);
+                code = f .code;
+                rest = restAt m (itemAt kernels (w .line)) (dotAt kernels (w .line) + 1);
+                carries = Carries.in-kernel (r .1)
+                    (H .holds-kernels .on-code (w .line) q (itemAt kernels (w .line)) (dotAt kernels (w .line)) (f .code) (r .2) (omega (arith, f .low)) (f .on));
+                goes = goes-at (held-line d) (f .stands);
+                first = f .first;
+              })
+
           step : (s : Following) → Met (followings m rules codes starts through) Placed s
           step s ok ns b c l e =
               let n = next-low m rules codes starts through s (ok .1) (ok .2) in
@@ -206,10 +243,15 @@ module _ (m kernels lookaheads nul fst starts through : List ℕ) (items rules l
               let r = in-rule (s .rule) (ok .0 .above) (ok .0 .below) in
               let x = ns (s .left * 64 + s .code) refl (s .left) (s .code) (ok .1) refl in
               subst₂ (λ (a z : ℕ). Follows g t First q (64 + a) z) eb ec
-                (record { item = s .rule; dot = zero; code = s .code; rest = restAt m (s .rule) 1;
-                  carries = Carries.in-closure (s .rule) (x .carries) (x .goes) (r .1) (sym (r .2) ∙ ok .0 .left) (x .first);
-                  goes = goes-at (held-rule (s .rule) (r .1)) (ok .0 .stands);
-                  first = given (s .rule) (s .code) (s .next) (ok .0 .above) (ok .0 .below) (ok .2) })
+              (record {
+                item = s .rule;
+                dot = zero;
+                code = s .code;
+                rest = restAt m (s .rule) 1;
+                carries = Carries.in-closure (s .rule) (x .carries) (x .goes) (r .1) (sym (r .2) ∙ ok .0 .left) (x .first);
+                goes = goes-at (held-rule (s .rule) (r .1)) (ok .0 .stands);
+                first = given (s .rule) (s .code) (s .next) (ok .0 .above) (ok .0 .below) (ok .2);
+              })
 
       follows-low : {X c : ℕ} → Follows g t First q X c → c < codes
       follows-low w = first-low codes nul fst (code-low (w .carries)) (w .first)
@@ -219,11 +261,13 @@ module _ (m kernels lookaheads nul fst starts through : List ℕ) (items rules l
         present-only = λ b l on. least-expanded (a .only b on);
         present-every = λ b l x. a .every b (has-least (x .has) b (x .rest) (x .goes));
         follow-only = λ b c lb lc on. least-follows (w .only (b * 64 + c) on) b c (low-code b c lc on) refl;
-        follow-every = λ b c lb lc x. w .every (b * 64 + c) (carries-least (x .carries) b c (x .rest) (x .goes) (x .first)) }
+        follow-every = λ b c lb lc x. w .every (b * 64 + c) (carries-least (x .carries) b c (x .rest) (x .goes) (x .first));
+      }
         where
           low-place : {y : ℕ} → Follow y → (b c : ℕ) → c < 64 → y ≡ b * 64 + c → c < codes
           low-place p = least-every (followings m rules codes starts through) (λ (y : ℕ). (b c : ℕ) → c < 64 → y ≡ b * 64 + c → c < codes)
               (λ y v b c l e. let n = first-low codes nul fst (v .holds .low) (v .holds .first) in omega (arith, v .holds .is))
               (λ s ok ns b c l e. let n = next-low m rules codes starts through s (ok .1) (ok .2) in omega arith) p
+
           low-code : (b c : ℕ) → c < 64 → On follow (b * 64 + c) → c < codes
           low-code b c l on = low-place (w .only (b * 64 + c) on) b c l refl

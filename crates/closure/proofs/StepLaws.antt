@@ -1,12 +1,12 @@
 -- Passes over the rules: when a rule's clauses are met, and what they add.
-use Prim.Native.Nat.{ℕ, _+_, _*_, _-_, _≤_, _<_}
+use Prim.Native.Nat.{ℕ, _+_, _*_, _≤_, _<_}
 use native.Mathlib.Omega.{arith}
-use mathlib.Core.Path.{_≡_, refl, sym, ap, subst, _∙_}
-use mathlib.Core.Logic.{_⊎_, inl, inr}
+use mathlib.Core.Path.{_≡_, refl, sym, subst}
+use mathlib.Core.Logic.{inl, inr}
 use mathlib.Core.List.{List}
-use Rattle.items.specs.Layout.{leftAt, symbolAt}
-use Rattle.fixpoint.specs.Flags.{On, Off}
-use Rattle.fixpoint.specs.Least.{Clauses, Least, seed, by, Met, least-every}
+use Rattle.items.specs.Layout.{leftAt}
+use Rattle.fixpoint.specs.Flags.{On}
+use Rattle.fixpoint.specs.Least.{Least, by, Met, least-every}
 use Rattle.closure.specs.Adds.{AnyIn}
 use Rattle.closure.specs.Kernel.{BeforeNonterminal}
 use Rattle.closure.specs.Steps.{Expands, Expansion, expansions, Gives, Following, followings, LeftIn, FirstIs, Fires, Covered}
@@ -44,7 +44,7 @@ module _ (m : List ℕ) (rules : ℕ) where
       → ((y : ℕ) → On fs y → Least (expansions m rules) S y) → Least (expansions m rules) S r
   expand {i = i} {r = r} {S = S} l u h p only =
       by (record { rule = i; left = h .left; first = r }) (record { above = l; below = u; left = h .is; stands = p })
-        (λ a e. subst (Least (expansions m rules) S) (sym e) (only (h .left) (h .on)))
+      (λ a e. subst (Least (expansions m rules) S) (sym e) (only (h .left) (h .on)))
 
   pub all-expanded : {fs : List ℕ} → ((j : ℕ) → 1 ≤ j → j ≤ rules → ExpansionMet j fs) → (s : Expansion) → Met (expansions m rules) (On fs) s
   all-expanded h s ok ns = h (s .rule) (ok .above) (ok .below) s refl ok ns
@@ -68,15 +68,15 @@ module _ (m : List ℕ) (rules codes : ℕ) (starts through : List ℕ) where
       → (b c : ℕ) → c < codes → y ≡ b * 64 + c → On present b
   covered-least {present = present} {fs = fs} few v p =
       least-every (followings m rules codes starts through) (λ (y : ℕ). (b c : ℕ) → c < codes → y ≡ b * 64 + c → On present b)
-        (λ y on b c l e. v .seeded b c l (subst (On fs) e on)) step p
+      (λ y on b c l e. v .seeded b c l (subst (On fs) e on)) step p
     where
       step : (s : Following) → Met (followings m rules codes starts through) (λ (y : ℕ). (b c : ℕ) → c < codes → y ≡ b * 64 + c → On present b) s
       step s ok ns b c l e =
           let n = next-low s (ok .1) (ok .2) in
           let q : s .first ≡ b = omega arith in
           subst (On present) q
-            (v .closed (record { rule = s .rule; left = s .left; first = s .first }) (ok .0)
-              (λ a h. subst (On present) (sym h) (ns (s .left * 64 + s .code) refl (s .left) (s .code) (ok .1) refl)))
+          (v .closed (record { rule = s .rule; left = s .left; first = s .first }) (ok .0)
+          (λ a h. subst (On present) (sym h) (ns (s .left * 64 + s .code) refl (s .left) (s .code) (ok .1) refl)))
 
   left-of : {i : ℕ} (s : Following) → s .rule ≡ i → Expands m rules (s .rule) (s .left) (s .first) → leftAt m i ≡ 64 + s .left
   left-of s e ok = subst (λ (j : ℕ). leftAt m j ≡ 64 + s .left) e (ok .left)
@@ -128,10 +128,12 @@ module _ (m : List ℕ) (rules codes : ℕ) (starts through : List ℕ) where
           where
             ex′ : Expands m rules i a r
             ex′ = record { above = l; below = u; left = el; stands = p }
+
             fire : (d : ℕ) → d < codes → On fs (a * 64 + d) → Gives codes starts through i d c → Least (followings m rules codes starts through) S (r * 64 + c)
             fire d ld on g =
                 by (record { rule = i; left = a; first = r; code = d; next = c }) (ex′, ld, g)
-                  (λ y q. subst (Least (followings m rules codes starts through) S) (sym q) (only (a * 64 + d) on))
+                (λ y q. subst (Least (followings m rules codes starts through) S) (sym q) (only (a * 64 + d) on))
+
             go : Fires starts through fs i a c → Least (followings m rules codes starts through) S (r * 64 + c)
             go (inl on) = fire (any .code) (any .low) (any .on) (inl (lc, on))
             go (inr h) = fire c lc (h .1) (inr (h .0, refl))

@@ -1,7 +1,7 @@
 -- All the items of a state, and their lookaheads, from its kernel lines and its closure in memory.
-use Prim.Native.Nat.{ℕ, zero, _+_, _*_, _-_, _≤_, _<_}
+use Prim.Native.Nat.{ℕ, _+_, _-_, _≤_, _<_}
 use native.Mathlib.Omega.{arith}
-use mathlib.Core.Path.{_≡_, refl, sym, subst, _∙_}
+use mathlib.Core.Path.{_≡_, sym, subst, _∙_}
 use mathlib.Core.List.{List}
 use mathlib.Core.Option.{some}
 use lib.ListN.{length}
@@ -13,7 +13,6 @@ use Rattle.leftcorner.specs.Construction.{Has, Carries}
 use Rattle.items.specs.Layout.{Shaped, leftAt}
 use Rattle.memory.specs.Memory.{HoldsItems, HoldsKernels}
 use Rattle.memory.specs.Fits.{Fits}
-use Rattle.fixpoint.specs.Flags.{On}
 use Rattle.closure.specs.Expansion.{Expanded, Follows, HasBy, of-kernel, of-rule, has-by, by-has, CarriesBy, carries-by, by-carries, HoldsClosure}
 use Rattle.closure.specs.InMemory.{InMemory, HasIn, CarriesIn}
 use Rattle.closure.proofs.ItemLaws.{line-of, line-at}
@@ -29,7 +28,8 @@ in-memory w f i k er el lc = record {
   line-count = el;
   left-kind = λ j e. w .formed j e .left-declared .0;
   item-declared = f .form .item-declared;
-  code-low = λ q j n d σ h p. omega (arith, f .code-declared q j n d σ h p) }
+  code-low = λ q j n d σ h p. omega (arith, f .code-declared q j n d σ h p);
+}
 
 module _ (m kernels lookaheads : List ℕ) (items rules lines codes q : ℕ) (shaped : Shaped m items) (fit : rules ≤ items) (few : codes ≤ 64)
     (g : Grammar) (t : Table) (H : InMemory m kernels lookaheads rules lines codes g t) where
@@ -76,7 +76,7 @@ module _ (m kernels lookaheads : List ℕ) (items rules lines codes q : ℕ) (sh
           go {i = i} {d = d} (CarriesBy.of-rule {r = r} e x) ld =
               let u = rule-in i e in
               CarriesIn.by-rule (r .left - 64) (u .0) (u .1) (u .2) ld
-                (C .follow-every (r .left - 64) d (u .3) (omega arith) (subst (λ (X : ℕ). Follows g t F q X d) (u .4) x))
+              (C .follow-every (r .left - 64) d (u .3) (omega arith) (subst (λ (X : ℕ). Follows g t F q X d) (u .4) x))
 
     pub in-carries : {i k d : ℕ} → CarriesIn m kernels lookaheads follow rules lines codes q i k d → Carries g t F q i k d
     in-carries {i = i} {k = k} {d = d} (CarriesIn.by-line l w ld on) =

@@ -1,6 +1,6 @@
 -- first(β, {d}) by flags: those of the symbols that derive the empty string, and for each symbol those of the codes that can begin it.
 use Prim.Native.Nat.{ℕ, _+_, _*_, _<_}
-use mathlib.Core.Path.{_≡_, refl, subst}
+use mathlib.Core.Path.{_≡_, refl}
 use mathlib.Core.Logic.{_⊎_, inl, inr}
 use mathlib.Core.List.{List, [], _∷_}
 use Rattle.fixpoint.specs.Flags.{On}

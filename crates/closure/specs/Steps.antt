@@ -25,7 +25,8 @@ abbrev pub expansions : List ℕ → ℕ → Clauses Expansion ℕ
 expansions m rules = record {
   ok = λ s. Expands m rules (s .rule) (s .left) (s .first);
   needs = λ s x. x ≡ s .left;
-  head = λ s. s .first }
+  head = λ s. s .first;
+}
 
 -- `next` can begin what follows the first symbol of rule i, where `code` can follow the rule
 abbrev pub Gives : ℕ → List ℕ → List ℕ → ℕ → ℕ → ℕ → Type 0
@@ -43,7 +44,8 @@ abbrev pub followings : List ℕ → ℕ → ℕ → List ℕ → List ℕ → C
 followings m rules codes starts through = record {
   ok = λ s. Expands m rules (s .rule) (s .left) (s .first) × (s .code < codes) × Gives codes starts through (s .rule) (s .code) (s .next);
   needs = λ s y. y ≡ s .left * 64 + s .code;
-  head = λ s. s .first * 64 + s .next }
+  head = λ s. s .first * 64 + s .next;
+}
 
 -- the left side of rule i is a nonterminal that is flagged
 pub record LeftIn (m : List ℕ) (i : ℕ) (present : List ℕ) : Type 0 where

@@ -94,7 +94,16 @@ pub fn rest_first(
 }
 
 // Fills in, for each rule, what can begin after its first symbol: once, for the closures of all states.
-pub fn prepare_rules(m: &[u8], items: usize, rules: usize, codes: usize, nul: &[u8], fst: &[u8], starts: &mut [u8], through: &mut [u8])
+pub fn prepare_rules(
+    m: &[u8],
+    items: usize,
+    rules: usize,
+    codes: usize,
+    nul: &[u8],
+    fst: &[u8],
+    starts: &mut [u8],
+    through: &mut [u8],
+)
     requires { ⌜ Shaped (now m) items ⌝ }
     requires { ⌜ (rules ≤ items) × (rules ≤ 127) × (codes ≤ 64) ⌝ }
     requires { ⌜ (length (now nul) ≡ 128) × (length (now fst) ≡ 8192) ⌝ }
@@ -143,7 +152,19 @@ pub fn dot_of(kernels: &[u8], lines: usize, l: usize) -> usize
 }
 
 // What item i with dot k adds to its state's closure, where its lookaheads stand from `start` on.
-fn add_item(m: &[u8], items: usize, i: usize, k: usize, lookaheads: &[u8], start: usize, codes: usize, nul: &[u8], fst: &[u8], present: &mut [u8], follow: &mut [u8])
+fn add_item(
+    m: &[u8],
+    items: usize,
+    i: usize,
+    k: usize,
+    lookaheads: &[u8],
+    start: usize,
+    codes: usize,
+    nul: &[u8],
+    fst: &[u8],
+    present: &mut [u8],
+    follow: &mut [u8],
+)
     requires { ⌜ Shaped (now m) items ⌝ }
     requires { ⌜ (i ≤ items) × (codes ≤ 64) × (start + 64 ≤ length (now lookaheads)) ⌝ }
     requires { ⌜ (length (now nul) ≡ 128) × (length (now fst) ≡ 8192) ⌝ }
@@ -170,7 +191,19 @@ fn add_item(m: &[u8], items: usize, i: usize, k: usize, lookaheads: &[u8], start
 }
 
 // What the kernel lines of state q add to its closure.
-fn add_kernel(m: &[u8], items: usize, kernels: &[u8], lookaheads: &[u8], lines: usize, q: usize, codes: usize, nul: &[u8], fst: &[u8], present: &mut [u8], follow: &mut [u8])
+fn add_kernel(
+    m: &[u8],
+    items: usize,
+    kernels: &[u8],
+    lookaheads: &[u8],
+    lines: usize,
+    q: usize,
+    codes: usize,
+    nul: &[u8],
+    fst: &[u8],
+    present: &mut [u8],
+    follow: &mut [u8],
+)
     requires { ⌜ Shaped (now m) items ⌝ }
     requires { ⌜ (lines * 4 ≤ length (now kernels)) × (lines * 64 ≤ length (now lookaheads)) × (codes ≤ 64) ⌝ }
     requires { ⌜ ((l : ℕ) → l < lines → itemAt (now kernels) l ≤ items) ⌝ }
@@ -187,7 +220,19 @@ fn add_kernel(m: &[u8], items: usize, kernels: &[u8], lookaheads: &[u8], lines: 
         }
         let i = item_of(kernels, lines, l);
         let k = dot_of(kernels, lines, l);
-        add_item(m, items, i, k, lookaheads, l * 64, codes, nul, fst, present, follow);
+        add_item(
+            m,
+            items,
+            i,
+            k,
+            lookaheads,
+            l * 64,
+            codes,
+            nul,
+            fst,
+            present,
+            follow,
+        );
         l += 1;
     }
 }
@@ -276,7 +321,16 @@ fn fires(starts: &[u8], through: &[u8], follow: &[u8], i: usize, a: usize, c: us
 }
 
 // Flags what can follow the nonterminals that rules begin with, until a pass adds nothing.
-fn close_follow(m: &[u8], items: usize, rules: usize, codes: usize, starts: &[u8], through: &[u8], present: &[u8], follow: &mut [u8])
+fn close_follow(
+    m: &[u8],
+    items: usize,
+    rules: usize,
+    codes: usize,
+    starts: &[u8],
+    through: &[u8],
+    present: &[u8],
+    follow: &mut [u8],
+)
     requires { ⌜ Shaped (now m) items ⌝ }
     requires { ⌜ (rules ≤ items) × (rules ≤ 127) × (codes ≤ 64) ⌝ }
     requires { ⌜ (length (now starts) ≡ 8192) × (length (now through) ≡ 128) ⌝ }
@@ -321,7 +375,22 @@ fn close_follow(m: &[u8], items: usize, rules: usize, codes: usize, starts: &[u8
 }
 
 // The closure of state q: which nonterminals are expanded in it, and which codes can follow each.
-pub fn close_state(m: &[u8], items: usize, rules: usize, kernels: &[u8], lookaheads: &[u8], lines: usize, q: usize, codes: usize, nul: &[u8], fst: &[u8], starts: &[u8], through: &[u8], present: &mut [u8], follow: &mut [u8])
+pub fn close_state(
+    m: &[u8],
+    items: usize,
+    rules: usize,
+    kernels: &[u8],
+    lookaheads: &[u8],
+    lines: usize,
+    q: usize,
+    codes: usize,
+    nul: &[u8],
+    fst: &[u8],
+    starts: &[u8],
+    through: &[u8],
+    present: &mut [u8],
+    follow: &mut [u8],
+)
     requires { ⌜ Shaped (now m) items ⌝ }
     requires { ⌜ (rules ≤ items) × (rules ≤ 127) × (codes ≤ 64) ⌝ }
     requires { ⌜ (lines * 4 ≤ length (now kernels)) × (lines * 64 ≤ length (now lookaheads)) ⌝ }
@@ -333,7 +402,19 @@ pub fn close_state(m: &[u8], items: usize, rules: usize, kernels: &[u8], lookahe
 {
     reply::clear(present);
     reply::clear(follow);
-    add_kernel(m, items, kernels, lookaheads, lines, q, codes, nul, fst, present, follow);
+    add_kernel(
+        m,
+        items,
+        kernels,
+        lookaheads,
+        lines,
+        q,
+        codes,
+        nul,
+        fst,
+        present,
+        follow,
+    );
     close_present(m, items, rules, present);
     close_follow(m, items, rules, codes, starts, through, present, follow);
 }

@@ -1,17 +1,13 @@
-use Rattle.closure.specs.Adds.{Adds, InRow}
-use Rattle.fixpoint.proofs.PassLaws.{set-on}
-use Rattle.closure.proofs.AddLaws.{row-start, row-set, row-skip, row-all}
-use mathlib.Core.Path.{_≡_, refl, sym, ap, subst, _∙_}
-use mathlib.Core.Logic.{⊎-elim}
-use Prim.Native.Nat.{ℕ, zero, suc, _+_, _*_, _≤_, _<_, _-_}
+-- The row up to a code is that up to the code before, and the code where it is set.
+use Prim.Native.Nat.{_≤_, _-_}
 use native.Mathlib.Omega.{arith}
-use borrow.Author.Count.{below-more, below-none}
-use lib.ListN.{length, getD, set, length-set, replicate}
+use mathlib.Core.Logic.{⊎-elim}
 use borrow.Author.Needs.{needs}
+use Rattle.fixpoint.proofs.PassLaws.{set-on}
+use Rattle.closure.specs.Adds.{Adds, InRow}
+use Rattle.closure.proofs.AddLaws.{row-start, row-set, row-skip, row-all}
 use Rattle.closure.proofs.add_codes.Statement.{statement}
 use Rattle.closure.proofs.add_codes.Tie as tie
-use Rattle.closure.proofs.add_codes.Reads as reads
-use Rattle.closure.proofs.add_codes.Lts as lts
 
 abbrev Inv-loop : tie.InvT-loop
 Inv-loop from start codes flags₀ at c₀ flags c = (c ≤ codes) × Adds (InRow from start c at) flags₀ flags

@@ -1,21 +1,11 @@
-use borrow.Author.Tests.{not-true, not-false}
-use Rattle.closure.proofs.KernelLaws.{none-before, none-follows, terminal-before, terminal-follows, one-before, codeless-follows, first-follows, all-follows}
-use mathlib.Core.Path.{_≡_, refl, sym, ap, subst, _∙_}
-use mathlib.Core.Logic.{⊎-elim}
-use Prim.Native.Nat.{ℕ, zero, suc, _+_, _*_, _≤_, _<_, _-_}
+-- The ways out, in the order of the code.
 use native.Mathlib.Omega.{arith}
-use borrow.Author.Count.{below-more, below-none}
-use lib.ListN.{length, getD, set, length-set, replicate}
+use mathlib.Core.Path.{refl, _∙_}
+use borrow.Author.Tests.{not-true, not-false}
 use borrow.Author.Needs.{needs}
+use Rattle.closure.proofs.KernelLaws.{none-before, none-follows, terminal-before, terminal-follows, one-before, codeless-follows, first-follows, all-follows}
 use Rattle.closure.proofs.add_item.Statement.{statement}
 use Rattle.closure.proofs.add_item.Tie as tie
-use Rattle.closure.proofs.add_item.Reads as reads
-use Rattle.closure.proofs.add_item.Lts as lts
-use Rattle.closure.proofs.add_codes.Reads as add-codes-reads
-use Rattle.closure.proofs.any_code.Reads as any-code-reads
-use Rattle.closure.proofs.rest_first.Reads as rest-first-reads
-use Rattle.closure.proofs.stands_before.Reads as stands-before-reads
-use Rattle.items.proofs.symbol_of.Reads as symbol-of-reads
 
 stands-before-requires : tie.Need-stands-before-requires
 stands-before-requires c κs = search needs

@@ -1,21 +1,13 @@
+-- The lines below l have added what they say.
+use Prim.Native.Nat.{_≤_, _<_, _-_}
+use native.Mathlib.Omega.{arith}
+use mathlib.Core.Path.{sym, _∙_}
+use borrow.Author.Needs.{needs}
 use Rattle.closure.specs.Adds.{Adds}
 use Rattle.closure.specs.Kernel.{KernelBefore, KernelFollows}
 use Rattle.closure.proofs.KernelLaws.{lines-none, lines-skip, lines-more, lines-all, line-before, line-follows}
-use mathlib.Core.Path.{_≡_, refl, sym, ap, subst, _∙_}
-use mathlib.Core.Logic.{⊎-elim}
-use Prim.Native.Nat.{ℕ, zero, suc, _+_, _*_, _≤_, _<_, _-_}
-use native.Mathlib.Omega.{arith}
-use borrow.Author.Count.{below-more, below-none}
-use lib.ListN.{length, getD, set, length-set, replicate}
-use borrow.Author.Needs.{needs}
 use Rattle.closure.proofs.add_kernel.Statement.{statement}
 use Rattle.closure.proofs.add_kernel.Tie as tie
-use Rattle.closure.proofs.add_kernel.Reads as reads
-use Rattle.closure.proofs.add_kernel.Lts as lts
-use Rattle.closure.proofs.add_item.Reads as add-item-reads
-use Rattle.closure.proofs.dot_of.Reads as dot-of-reads
-use Rattle.closure.proofs.item_of.Reads as item-of-reads
-use Rattle.closure.proofs.state_of.Reads as state-of-reads
 
 abbrev Inv-loop : tie.InvT-loop
 Inv-loop m items kernels lookaheads lines q codes nul fst present₀ follow₀ l₀ present follow l = (l ≤ lines) × Adds (KernelBefore m kernels l q) present₀ present × Adds (KernelFollows m codes nul fst kernels lookaheads l q) follow₀ follow

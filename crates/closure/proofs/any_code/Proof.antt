@@ -1,17 +1,12 @@
-use Rattle.closure.specs.Adds.{AnyIn}
-use Rattle.fixpoint.specs.Flags.{On, Off}
-use Rattle.fixpoint.proofs.PassLaws.{set-on, is-yes, is-no}
-use mathlib.Core.Path.{_≡_, refl, sym, ap, subst, _∙_}
-use mathlib.Core.Logic.{⊎-elim}
-use Prim.Native.Nat.{ℕ, zero, suc, _+_, _*_, _≤_, _<_, _-_}
+-- No code that was passed is set.
+use Prim.Native.Nat.{ℕ, _+_, _≤_, _<_, _-_}
 use native.Mathlib.Omega.{arith}
 use borrow.Author.Count.{below-more, below-none}
-use lib.ListN.{length, getD, set, length-set, replicate}
 use borrow.Author.Needs.{needs}
+use Rattle.fixpoint.specs.Flags.{Off}
+use Rattle.fixpoint.proofs.PassLaws.{set-on, is-yes, is-no}
 use Rattle.closure.proofs.any_code.Statement.{statement}
 use Rattle.closure.proofs.any_code.Tie as tie
-use Rattle.closure.proofs.any_code.Reads as reads
-use Rattle.closure.proofs.any_code.Lts as lts
 
 abbrev Inv-loop : tie.InvT-loop
 Inv-loop from start codes c₀ c = (c ≤ codes) × ((k : ℕ) → k < c → Off from (start + k))

@@ -1,4 +1,12 @@
+-- Passes over the rules and the codes: what is set is in the least set, and a pass that adds nothing meets every clause.
+use Prim.Native.Nat.{ℕ, _+_, _*_, _≤_, _<_, _-_}
+use native.Mathlib.Omega.{arith}
+use mathlib.Core.Path.{_≡_, refl}
+use mathlib.Core.Logic.{⊎-elim}
 use borrow.Author.Tests.{not-true, not-false}
+use borrow.Author.Count.{below-more, below-none}
+use borrow.Author.Needs.{needs}
+use lib.ListN.{length}
 use Rattle.items.specs.Layout.{leftAt}
 use Rattle.fixpoint.specs.Flags.{On}
 use Rattle.fixpoint.specs.Least.{Least, seed, least-join, least-marks}
@@ -7,22 +15,8 @@ use Rattle.fixpoint.proofs.CountLaws.{zeros-le}
 use Rattle.fixpoint.proofs.PassLaws.{pass-start, pass-more, pass-add, pass-join, set-on, no-gap, from-more}
 use Rattle.closure.specs.Steps.{followings, Covered}
 use Rattle.closure.proofs.StepLaws.{any-kept, FollowingMet, CodeMet, covered-least, absent, first-none, codeless, code-in, code-out, code-fired, all-codes, all-follow}
-use mathlib.Core.Path.{_≡_, refl, sym, ap, subst, _∙_}
-use mathlib.Core.Logic.{⊎-elim}
-use Prim.Native.Nat.{ℕ, zero, suc, _+_, _*_, _≤_, _<_, _-_}
-use native.Mathlib.Omega.{arith}
-use borrow.Author.Count.{below-more, below-none}
-use lib.ListN.{length, getD, set, length-set, replicate}
-use borrow.Author.Needs.{needs}
 use Rattle.closure.proofs.close_follow.Statement.{statement}
 use Rattle.closure.proofs.close_follow.Tie as tie
-use Rattle.closure.proofs.close_follow.Reads as reads
-use Rattle.closure.proofs.close_follow.Lts as lts
-use Rattle.closure.proofs.any_code.Reads as any-code-reads
-use Rattle.closure.proofs.fires.Reads as fires-reads
-use Rattle.closure.proofs.first_nonterminal.Reads as first-nonterminal-reads
-use Rattle.closure.proofs.left_in.Reads as left-in-reads
-use Rattle.items.proofs.left_of.Reads as left-of-reads
 
 abbrev Inv-codes : tie.InvT-codes
 Inv-codes m items rules codes starts through present follow₀ added₀ i b a c₀ follow added c = (c ≤ codes) × Pass 4096 (Least (followings m rules codes starts through) (On follow₀)) follow₀ follow added₀ added
@@ -62,13 +56,13 @@ rules-less c = search needs
 
 rules-again : tie.Need-rules-again Inv-codes μ-codes Inv-rules μ-rules Inv-passes μ-passes
 rules-again c = let p = c .before .before .before .rules .inv .2 in (
-      omega arith,
-      omega arith,
-      pass-more _ _ refl refl p
-          (λ d. from-more _ 1 (c .before .before .before .rules .i) d (absent _ _ _ _ _
-          (λ b k l on. covered-least _ _ _ _ _ (c .before .before .before .before .before .before .before .before .before .before .pre .1 .0 .2) (c .before .before .before .before .passes .inv .3) (p .only (b * 64 + k) on) b k l refl)
-          (c .before .left-in .ensures .no (not-true _ (c .if1 .taken))))),
-    )
+  omega arith,
+  omega arith,
+  pass-more _ _ refl refl p
+      (λ d. from-more _ 1 (c .before .before .before .rules .i) d (absent _ _ _ _ _
+      (λ b k l on. covered-least _ _ _ _ _ (c .before .before .before .before .before .before .before .before .before .before .pre .1 .0 .2) (c .before .before .before .before .passes .inv .3) (p .only (b * 64 + k) on) b k l refl)
+      (c .before .left-in .ensures .no (not-true _ (c .if1 .taken))))),
+)
 
 first-nonterminal-requires :
     tie.Need-first-nonterminal-requires Inv-codes μ-codes Inv-rules μ-rules Inv-passes μ-passes
@@ -196,7 +190,8 @@ passes-again c = let p = c .before .before .rules .inv .2 in
       λ y on. p .kept y (o .2 y on),
       record {
         closed = o .3 .closed;
-        seeded = λ b k l on. covered-least _ _ _ _ _ (c .before .before .before .before .before .before .before .before .before .pre .1 .0 .2) (o .3) (p .only (b * 64 + k) on) b k l refl },
+        seeded = λ b k l on. covered-least _ _ _ _ _ (c .before .before .before .before .before .before .before .before .before .pre .1 .0 .2) (o .3) (p .only (b * 64 + k) on) b k l refl;
+      },
     )
 
 same-length : tie.Need-same-length Inv-codes μ-codes Inv-rules μ-rules Inv-passes μ-passes

@@ -1,4 +1,11 @@
+-- Passes over the rules: what is set is in the least set, and a pass that adds nothing meets every clause.
+use Prim.Native.Nat.{ℕ, _+_, _≤_, _<_, _-_}
+use native.Mathlib.Omega.{arith}
+use mathlib.Core.Path.{_≡_, refl}
+use mathlib.Core.Logic.{⊎-elim}
 use borrow.Author.Tests.{not-true, not-false}
+use borrow.Author.Needs.{needs}
+use lib.ListN.{length}
 use Rattle.fixpoint.specs.Flags.{On}
 use Rattle.fixpoint.specs.Least.{Least, seed, least-join, least-marks}
 use Rattle.fixpoint.specs.Pass.{zeros, Pass}
@@ -6,19 +13,8 @@ use Rattle.fixpoint.proofs.CountLaws.{zeros-le}
 use Rattle.fixpoint.proofs.PassLaws.{pass-start, pass-more, pass-add, set-on, no-gap, from-more}
 use Rattle.closure.specs.Steps.{expansions}
 use Rattle.closure.proofs.StepLaws.{ExpansionMet, left-out, first-out, first-in, expand, all-expanded}
-use mathlib.Core.Path.{_≡_, refl, sym, ap, subst, _∙_}
-use mathlib.Core.Logic.{⊎-elim}
-use Prim.Native.Nat.{ℕ, zero, suc, _+_, _*_, _≤_, _<_, _-_}
-use native.Mathlib.Omega.{arith}
-use borrow.Author.Count.{below-more, below-none}
-use lib.ListN.{length, getD, set, length-set, replicate}
-use borrow.Author.Needs.{needs}
 use Rattle.closure.proofs.close_present.Statement.{statement}
 use Rattle.closure.proofs.close_present.Tie as tie
-use Rattle.closure.proofs.close_present.Reads as reads
-use Rattle.closure.proofs.close_present.Lts as lts
-use Rattle.closure.proofs.first_nonterminal.Reads as first-nonterminal-reads
-use Rattle.closure.proofs.left_in.Reads as left-in-reads
 
 abbrev Inv-rules : tie.InvT-rules
 Inv-rules m items rules present₀ added₀ i₀ present added i = (1 ≤ i) × (i ≤ rules + 1) × Pass 64 (Least (expansions m rules) (On present₀)) present₀ present added₀ added (λ fs. (j : ℕ) → 1 ≤ j → j < i → ExpansionMet m rules j fs)

@@ -1,16 +1,9 @@
-use mathlib.Core.Logic.{inl, inr}
-use Rattle.fixpoint.proofs.PassLaws.{set-on, is-yes, is-no}
-use mathlib.Core.Path.{_≡_, refl, sym, ap, subst, _∙_}
-use mathlib.Core.Logic.{⊎-elim}
-use Prim.Native.Nat.{ℕ, zero, suc, _+_, _*_, _≤_, _<_, _-_}
-use native.Mathlib.Omega.{arith}
-use borrow.Author.Count.{below-more, below-none}
-use lib.ListN.{length, getD, set, length-set, replicate}
+-- The clauses that give code c.
+use mathlib.Core.Logic.{inl, inr, ⊎-elim}
 use borrow.Author.Needs.{needs}
+use Rattle.fixpoint.proofs.PassLaws.{set-on, is-yes, is-no}
 use Rattle.closure.proofs.fires.Statement.{statement}
 use Rattle.closure.proofs.fires.Tie as tie
-use Rattle.closure.proofs.fires.Reads as reads
-use Rattle.closure.proofs.fires.Lts as lts
 
 mul-if1 : tie.Need-mul-if1
 mul-if1 c = search needs

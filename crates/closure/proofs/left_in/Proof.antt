@@ -1,16 +1,10 @@
-use Rattle.fixpoint.proofs.PassLaws.{set-on, off-at, is-yes, is-no}
-use mathlib.Core.Path.{_≡_, refl, sym, ap, subst, _∙_}
-use mathlib.Core.Logic.{⊎-elim}
-use Prim.Native.Nat.{ℕ, zero, suc, _+_, _*_, _≤_, _<_, _-_}
+-- The left side of the row, and its flag.
+use Prim.Native.Nat.{_-_}
 use native.Mathlib.Omega.{arith}
-use borrow.Author.Count.{below-more, below-none}
-use lib.ListN.{length, getD, set, length-set, replicate}
 use borrow.Author.Needs.{needs}
+use Rattle.fixpoint.proofs.PassLaws.{set-on, off-at, is-yes, is-no}
 use Rattle.closure.proofs.left_in.Statement.{statement}
 use Rattle.closure.proofs.left_in.Tie as tie
-use Rattle.closure.proofs.left_in.Reads as reads
-use Rattle.closure.proofs.left_in.Lts as lts
-use Rattle.items.proofs.left_of.Reads as left-of-reads
 
 left-of-requires : tie.Need-left-of-requires
 left-of-requires c κs = search needs

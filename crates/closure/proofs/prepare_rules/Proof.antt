@@ -1,20 +1,16 @@
-use mathlib.Core.Bool.{true, false, true≢false}
-use Rattle.closure.specs.Adds.{Adds}
-use lib.ListN.{length-replicate}
-use Rattle.closure.proofs.PrepareLaws.{Filled, filled-none, through-set, through-kept, filled-more, filled-all}
-use mathlib.Core.Path.{_≡_, refl, sym, ap, subst, _∙_}
-use mathlib.Core.Logic.{⊎-elim}
-use Prim.Native.Nat.{ℕ, zero, suc, _+_, _*_, _≤_, _<_, _-_}
+-- The rules below i are prepared.
+use Prim.Native.Nat.{ℕ, _+_, _≤_, _-_}
 use native.Mathlib.Omega.{arith}
-use borrow.Author.Count.{below-more, below-none}
-use lib.ListN.{length, getD, set, length-set, replicate}
+use mathlib.Core.Bool.{true, true≢false}
+use mathlib.Core.Path.{_≡_, sym, _∙_}
+use mathlib.Core.Logic.{⊎-elim}
 use borrow.Author.Needs.{needs}
+use lib.ListN.{length}
+use Rattle.closure.specs.Adds.{Adds}
+use Rattle.closure.proofs.AddLaws.{zeroed}
+use Rattle.closure.proofs.PrepareLaws.{Filled, filled-none, through-set, through-kept, filled-more, filled-all}
 use Rattle.closure.proofs.prepare_rules.Statement.{statement}
 use Rattle.closure.proofs.prepare_rules.Tie as tie
-use Rattle.closure.proofs.prepare_rules.Reads as reads
-use Rattle.closure.proofs.prepare_rules.Lts as lts
-use Rattle.closure.proofs.rest_first.Reads as rest-first-reads
-use Rattle.reply.proofs.clear.Reads as clear-reads
 
 abbrev Inv-loop : tie.InvT-loop
 Inv-loop m items rules codes nul fst starts₀ through₀ i₀ starts through i = (1 ≤ i) × (i ≤ rules + 1) × (length starts ≡ 8192) × (length through ≡ 128) × Filled m codes nul fst i starts through
@@ -32,8 +28,8 @@ loop-holds : tie.Need-loop-holds Inv-loop μ-loop
 loop-holds c = (
   omega arith,
   omega arith,
-  ap length (c .before .before .before .before .before .before .clear .ensures) ∙ length-replicate {A = ℕ} _ 0 ∙ c .before .before .before .before .before .before .before .before .before .before .before .before .before .pre .1 .1 .1 .0,
-  ap length (c .before .before .clear2 .ensures) ∙ length-replicate {A = ℕ} _ 0 ∙ c .before .before .before .before .before .before .before .before .before .before .before .before .before .pre .1 .1 .1 .1,
+  zeroed (c .before .before .before .before .before .before .clear .ensures) (c .before .before .before .before .before .before .before .before .before .before .before .before .before .pre .1 .1 .1 .0),
+  zeroed (c .before .before .clear2 .ensures) (c .before .before .before .before .before .before .before .before .before .before .before .before .before .pre .1 .1 .1 .1),
   filled-none _ _ _ _ (length (c .before .before .before .before .before .before .before .before .before .before .before .before .before .args .starts .now)) (length (c .before .before .before .before .before .before .before .before .before .before .before .before .before .args .through .now)) (c .before .before .before .before .before .before .clear .ensures) (c .before .before .clear2 .ensures),
 )
 
@@ -60,8 +56,8 @@ loop-again c = let p = c .before .before .before .before .before .before .before
     let r = c .before .before .before .rest-first .ensures in
     let i = c .before .before .before .before .before .before .loop .i in
     let a : Adds (λ (y : ℕ). (c .before .before .before .rest-first .result ≡ true) × (y ≡ i)) (c .before .before .before .before .before .before .loop .through) (c .if1 .through)
-        = ⊎-elim (λ w. through-set i (w .0 .taken) (w .1) (omega (arith, v .3, p .1 .0 .1, c .before .before .before .before .before .loop-test)))
-          (λ w. through-kept i (λ e. true≢false (sym e ∙ w .0 .left)) (w .1)) (c .if1 .came) in
+    = ⊎-elim (λ w. through-set i (w .0 .taken) (w .1) (omega (arith, v .3, p .1 .0 .1, c .before .before .before .before .before .loop-test)))
+    (λ w. through-kept i (λ e. true≢false (sym e ∙ w .0 .left)) (w .1)) (c .if1 .came) in
     (omega arith, omega arith, r .long ∙ v .2, a .long ∙ v .3, filled-more _ _ _ _ (p .1 .0 .2) i (v .4) r a)
 
 same-length : tie.Need-same-length Inv-loop μ-loop

@@ -1,21 +1,14 @@
-use Rattle.items.specs.Layout.{lengthAt}
-use Rattle.closure.specs.Rests.{restAt}
-use Rattle.fixpoint.proofs.PassLaws.{set-on}
-use Rattle.closure.proofs.AddLaws.{Passed, passed-none, dot-stop, dot-more, dot-end}
-use mathlib.Core.Path.{_≡_, refl, sym, ap, subst, _∙_}
-use mathlib.Core.Logic.{⊎-elim}
-use Prim.Native.Nat.{ℕ, zero, suc, _+_, _*_, _≤_, _<_, _-_}
+-- Symbol by symbol: what can begin with it is set, and the next is looked at where it can be empty.
+use Prim.Native.Nat.{_≤_, _-_}
 use native.Mathlib.Omega.{arith}
-use borrow.Author.Count.{below-more, below-none}
-use lib.ListN.{length, getD, set, length-set, replicate}
+use mathlib.Core.Path.{_≡_, _∙_}
 use borrow.Author.Needs.{needs}
+use Rattle.items.specs.Layout.{lengthAt}
+use Rattle.fixpoint.proofs.PassLaws.{set-on}
+use Rattle.closure.specs.Rests.{restAt}
+use Rattle.closure.proofs.AddLaws.{Passed, passed-none, dot-stop, dot-more, dot-end}
 use Rattle.closure.proofs.rest_first.Statement.{statement}
 use Rattle.closure.proofs.rest_first.Tie as tie
-use Rattle.closure.proofs.rest_first.Reads as reads
-use Rattle.closure.proofs.rest_first.Lts as lts
-use Rattle.closure.proofs.add_codes.Reads as add-codes-reads
-use Rattle.items.proofs.length_of.Reads as length-of-reads
-use Rattle.items.proofs.symbol_of.Reads as symbol-of-reads
 
 abbrev Inv-loop : tie.InvT-loop
 Inv-loop m items i k codes nul fst flags₀ at n j₀ flags j = (n ≡ lengthAt m i) × (n ≤ 15) × Passed codes nul fst (restAt m i k) (restAt m i j) at flags₀ flags

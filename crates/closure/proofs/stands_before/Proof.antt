@@ -1,17 +1,10 @@
-use Rattle.fixpoint.proofs.PassLaws.{is-yes, is-no}
-use mathlib.Core.Path.{_≡_, refl, sym, ap, subst, _∙_}
-use mathlib.Core.Logic.{⊎-elim}
-use Prim.Native.Nat.{ℕ, zero, suc, _+_, _*_, _≤_, _<_, _-_}
+-- Length and recognition point, as the row has them.
 use native.Mathlib.Omega.{arith}
-use borrow.Author.Count.{below-more, below-none}
-use lib.ListN.{length, getD, set, length-set, replicate}
+use mathlib.Core.Path.{sym, _∙_}
 use borrow.Author.Needs.{needs}
+use Rattle.fixpoint.proofs.PassLaws.{is-yes, is-no}
 use Rattle.closure.proofs.stands_before.Statement.{statement}
 use Rattle.closure.proofs.stands_before.Tie as tie
-use Rattle.closure.proofs.stands_before.Reads as reads
-use Rattle.closure.proofs.stands_before.Lts as lts
-use Rattle.items.proofs.length_of.Reads as length-of-reads
-use Rattle.items.proofs.mark_of.Reads as mark-of-reads
 
 length-of-requires : tie.Need-length-of-requires
 length-of-requires c κs = search needs
