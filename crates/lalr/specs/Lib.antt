@@ -1,5 +1,9 @@
 pub mod Strings
+pub mod Distinct
+pub mod EntryLaws
 pub mod States
+pub mod Lists
+pub mod Discovery
 pub mod Lookaheads
 pub mod Built
 pub mod Text

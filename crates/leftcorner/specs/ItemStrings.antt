@@ -26,7 +26,7 @@ module _ (g : Grammar) (t : Table) (D : Declared g) where
     string-declared k none e X m = elim m [ ]
     string-declared k (some (E s γ)) e X m = wanted-declared γ (M .only-wanted k s γ e) X m
 
-    symbols-declared : (i : ℕ) → AllDeclared g (symbolsOf g t i)
+    pub symbols-declared : (i : ℕ) → AllDeclared g (symbolsOf g t i)
     symbols-declared i = go (leb i (ruleCount g t))
       where
         go : (b : Bool) → AllDeclared g (cond b (rightOf (ruleAt g i)) (stringOf (entryAt t (i - ruleCount g t))))
