@@ -4,6 +4,9 @@ pub mod EntryLaws
 pub mod States
 pub mod Lists
 pub mod Discovery
+pub mod Over
+pub mod Limits
+pub mod MoveLaws
 pub mod Lookaheads
 pub mod Built
 pub mod Text
