@@ -7,6 +7,8 @@ pub mod Discovery
 pub mod Over
 pub mod Limits
 pub mod MoveLaws
+pub mod StateLaws
 pub mod Lookaheads
+pub mod LookaheadDecided
 pub mod Built
 pub mod Text
