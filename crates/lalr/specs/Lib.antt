@@ -11,4 +11,6 @@ pub mod StateLaws
 pub mod Lookaheads
 pub mod LookaheadDecided
 pub mod Built
+pub mod LineLaws
+pub mod Carried
 pub mod Text

@@ -131,16 +131,16 @@ module _ (g : Grammar) (F : List ℕ → ℕ → ℕ → Type 0) (F? : (β : Lis
     dot : k ≤ length (symbolsOf g (bare g) i)
     code : In d (0 ∷ first-codes)
 
+  code-in : {c d : ℕ} → (c ≡ d) ⊎ In c first-codes → In d (0 ∷ first-codes) → In c (0 ∷ first-codes)
+  code-in (inl z) m = subst (λ (x : ℕ). In x (0 ∷ first-codes)) (sym z) m
+  code-in (inr n) m = there n
+
   inside : {q i k d : ℕ} → Lookahead g F q i k d → Inside q i k d
   unfolding goto
   inside of-goal = record { state = omega arith; item = omega arith; dot = omega arith; code = here }
   inside (of-closure {d = d} j {c = c} {β = β} {r = r} h go e l f) =
       let b = inside h in
-      record { state = b .state; item = omega (arith, rule-less g (bare g) j r e); dot = omega arith; code = at (F-in β d c f) (b .code) }
-    where
-      at : (c ≡ d) ⊎ In c first-codes → In d (0 ∷ first-codes) → In c (0 ∷ first-codes)
-      at (inl z) m = subst (λ (x : ℕ). In x (0 ∷ first-codes)) (sym z) m
-      at (inr n) m = there n
+      record { state = b .state; item = omega (arith, rule-less g (bare g) j r e); dot = omega arith; code = code-in (F-in β d c f) (b .code) }
   inside (of-move {q = q} {i = i} {k = k} {X = X} {β = β} h go) =
       let b = inside h in
       record { state = omega (arith, find-low (move g (kernelOf g q) X) (states g)); item = b .item
@@ -148,11 +148,7 @@ module _ (g : Grammar) (F : List ℕ → ℕ → ℕ → Type 0) (F? : (β : Lis
   inside (of-group {d = d} {c = c} i {r = r} δs γ εs e h p f) =
       let b = inside h in
       let n = entry-low 0 (bare g .entries) γ in
-      record { state = omega (arith, n, lines-length 1 (entryStrings g)); item = omega (arith, n, lines-length 1 (entryStrings g)); dot = omega arith; code = at (F-in (concat εs) d c f) (b .code) }
-    where
-      at : (c ≡ d) ⊎ In c first-codes → In d (0 ∷ first-codes) → In c (0 ∷ first-codes)
-      at (inl z) m = subst (λ (x : ℕ). In x (0 ∷ first-codes)) (sym z) m
-      at (inr n) m = there n
+      record { state = omega (arith, n, lines-length 1 (entryStrings g)); item = omega (arith, n, lines-length 1 (entryStrings g)); dot = omega arith; code = code-in (F-in (concat εs) d c f) (b .code) }
 
   unfoldable pub spotsOf : ℕ → List Spot
   spotsOf i = map (spot i) (upto (suc (length (symbolsOf g (bare g) i))))
