@@ -13,4 +13,5 @@ pub mod LookaheadDecided
 pub mod Built
 pub mod LineLaws
 pub mod Carried
+pub mod Live
 pub mod Text
