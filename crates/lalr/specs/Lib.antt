@@ -14,4 +14,5 @@ pub mod Built
 pub mod LineLaws
 pub mod Carried
 pub mod Live
+pub mod CellLaws
 pub mod Text
