@@ -54,7 +54,7 @@ module _ (g : Grammar) (F : List ℕ → ℕ → ℕ → Type 0) (F? : (β : Lis
   abbrev finish : ℕ → ℕ → List EntryLine → Option Action
   finish q X l = finished g F F? first-codes F-in q X l
 
-  abbrev goesTo : ℕ → ℕ → Action
+  abbrev pub goesTo : ℕ → ℕ → Action
   goesTo q X = moveTo g F F? first-codes F-in q X
 
   abbrev first : Option Action → Option Action → Option Action
@@ -121,7 +121,7 @@ module _ (g : Grammar) (F : List ℕ → ℕ → ℕ → Type 0) (F? : (β : Lis
       go true = refl
       go false = refl
 
-  move-next : (q X : ℕ) → nextState (goesTo q X) ≡ some (goto g q X)
+  pub move-next : (q X : ℕ) → nextState (goesTo q X) ≡ some (goto g q X)
   move-next q X = go (ltb X 64)
     where
       go : (b : Bool) → nextState (cond b (S (goto g q X)) (N (goto g q X))) ≡ some (goto g q X)
@@ -188,6 +188,15 @@ module _ (g : Grammar) (F : List ℕ → ℕ → ℕ → Type 0) (F? : (β : Lis
       first-there (orElse (test q X (S 0)) (goesTo q X) none) _ (first-here (announce q X (length (g .rules))) (finish q X (t .entries)) (announced-some q X (length (g .rules)) i (n .0) (n .1) (to-announce i e h f)))
   cell-some {q = q} {X = X} (to-pop k {s = s} {γ = γ} e h) =
       first-there (orElse (test q X (S 0)) (goesTo q X) none) _ (first-there (announce q X (length (g .rules))) (finish q X (t .entries)) (entry-some q X k s γ e (to-pop k e h)))
+
+  -- a move's cell
+  pub cell-move : (q X : ℕ) → Asks q X (S 0) → cell q X ≡ some (goesTo q X)
+  unfolding cellAction
+  cell-move q X h = go (test q X (S 0))
+    where
+      go : (d : Dec (Asks q X (S 0))) → first (orElse d (goesTo q X) none) (first (announce q X (length (g .rules))) (finish q X (t .entries))) ≡ some (goesTo q X)
+      go (yes p) = refl
+      go (no f) = absurd (f h)
 
   -- ---- the action lines
 

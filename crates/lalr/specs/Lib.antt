@@ -15,4 +15,5 @@ pub mod LineLaws
 pub mod Carried
 pub mod Live
 pub mod CellLaws
+pub mod BuiltForm
 pub mod Text

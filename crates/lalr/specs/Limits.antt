@@ -6,7 +6,7 @@ use mathlib.Core.Logic.{_⊎_, inl, inr}
 use mathlib.Core.Bool.{Bool, true, false, cond}
 use mathlib.Core.List.{List, [], _∷_, _++_}
 use mathlib.Core.Option.{Option, some, none}
-use borrow.Author.Tests.{leb-true, leb-false}
+use borrow.Author.Tests.{leb-false}
 use lib.Dec.{leb}
 use lib.ListN.{length, drop, length-append, length-drop}
 use Rattle.language.specs.Grammar.{Grammar, Rule, at, ruleAt, right, concat, IsTerminal, IsNonterminal}
@@ -14,7 +14,7 @@ use Rattle.language.specs.Sentence.{In, here, there, Declared}
 use Rattle.language.specs.WellFormed as grammar
 use Rattle.language.specs.Member.{in-drop}
 use Rattle.leftcorner.specs.Table.{EntryLine, E, Table, entryAt, stringOf, rightOf, symbolsOf, Goes}
-use Rattle.leftcorner.specs.Construction.{Wanted, of-goal, of-group, EntryAt}
+use Rattle.leftcorner.specs.Construction.{Wanted, of-goal, of-group, entryItem, EntryAt}
 use Rattle.leftcorner.specs.ReadOff.{clash}
 use Rattle.leftcorner.specs.ItemStrings.{symbols-declared}
 use Rattle.lalr.specs.Strings.{entryStrings, entryLines}
@@ -66,15 +66,27 @@ module _ (g : Grammar) (W : grammar.WellFormed g) (t : Table) (same : t .entries
       go false = string-short (i - length (g .rules)) (entryAt t (i - length (g .rules))) refl
 
   -- an item that has a symbol is a rule or an entry
-  symbols-low : (i : ℕ) → 1 ≤ length (symbolsOf g t i) → i ≤ length (g .rules) + length (entryStrings g)
-  symbols-low i = go (leb i (length (g .rules))) refl
+  pub symbols-item : (i : ℕ) → 1 ≤ length (symbolsOf g t i) → ((r : Rule) × (ruleAt g i ≡ some r)) ⊎ ((j : ℕ) × (s : ℕ) × (γ : List ℕ) × (i ≡ entryItem g t j) × EntryAt g t j s γ)
+  symbols-item i = go (leb i (length (g .rules))) refl
     where
-      one : (o : Option EntryLine) → entryAt t (i - length (g .rules)) ≡ o → 1 ≤ length (stringOf o) → i ≤ length (g .rules) + length (entryStrings g)
-      one none e l = absurd (omega (arith, l))
-      one (some (E s γ)) e l = omega (arith, entry-line g t same (i - length (g .rules)) e .2)
-      go : (b : Bool) → leb i (length (g .rules)) ≡ b → 1 ≤ length (cond b (rightOf (ruleAt g i)) (stringOf (entryAt t (i - length (g .rules))))) → i ≤ length (g .rules) + length (entryStrings g)
-      go true e l = omega (arith, leb-true i (length (g .rules)) e)
-      go false e l = one (entryAt t (i - length (g .rules))) refl l
+      Known : Type 0
+      Known = ((r : Rule) × (ruleAt g i ≡ some r)) ⊎ ((j : ℕ) × (s : ℕ) × (γ : List ℕ) × (i ≡ entryItem g t j) × EntryAt g t j s γ)
+      of-rule : (o : Option Rule) → ruleAt g i ≡ o → 1 ≤ length (rightOf o) → Known
+      of-rule none e l = absurd (omega (arith, l))
+      of-rule (some r) e l = inl (r, e)
+      of-entry : (o : Option EntryLine) → length (g .rules) < i → entryAt t (i - length (g .rules)) ≡ o → 1 ≤ length (stringOf o) → Known
+      of-entry none h e l = absurd (omega (arith, l))
+      of-entry (some (E s γ)) h e l = inr (i - length (g .rules), s, γ, omega (arith, h), e)
+      go : (b : Bool) → leb i (length (g .rules)) ≡ b → 1 ≤ length (cond b (rightOf (ruleAt g i)) (stringOf (entryAt t (i - length (g .rules))))) → Known
+      go true e l = of-rule (ruleAt g i) refl l
+      go false e l = of-entry (entryAt t (i - length (g .rules))) (leb-false i (length (g .rules)) e) refl l
+
+  symbols-low : (i : ℕ) → 1 ≤ length (symbolsOf g t i) → i ≤ length (g .rules) + length (entryStrings g)
+  symbols-low i l = go (symbols-item i l)
+    where
+      go : ((r : Rule) × (ruleAt g i ≡ some r)) ⊎ ((j : ℕ) × (s : ℕ) × (γ : List ℕ) × (i ≡ entryItem g t j) × EntryAt g t j s γ) → i ≤ length (g .rules) + length (entryStrings g)
+      go (inl h) = omega (arith, rule-low g i (h .0) (h .1))
+      go (inr h) = omega (arith, h .3, entry-line g t same (h .0) (h .4) .2)
 
   -- an item whose dot goes over X
   pub record Bounded (i k X : ℕ) : Type 0 where

@@ -54,11 +54,11 @@ split-at : {γ : List ℕ} {γs : List (List ℕ)} → In γ γs → (δs : List
 split-at (here {l = l}) = ([], l, refl)
 split-at (there {y = δ} n) = let r = split-at n in (δ ∷ (r .0), r .1, ap (λ (l : List (List ℕ)). δ ∷ l) (r .2))
 
-in-one : {x y : ℕ} → In x (y ∷ []) → x ≡ y
+pub in-one : {x y : ℕ} → In x (y ∷ []) → x ≡ y
 in-one here = refl
 in-one (there m) = elim m [ ]
 
-at-some : {A : Type 0} (l : List A) (j : ℕ) → j < length l → (x : A) × (at l j ≡ some x)
+pub at-some : {A : Type 0} (l : List A) (j : ℕ) → j < length l → (x : A) × (at l j ≡ some x)
 at-some [] j h = absurd (omega (arith, h))
 at-some (x ∷ l) zero h = (x, refl)
 at-some (x ∷ l) (suc j) h = at-some l j (omega (arith, h))
