@@ -57,7 +57,7 @@ module _ (g : Grammar) (F : List ℕ → ℕ → ℕ → Type 0) (F? : (β : Lis
   unfolding built
   from-built q i k σ m = m
 
-  states-both : b .states ≡ length (states g)
+  pub states-both : b .states ≡ length (states g)
   unfolding built items
   states-both = refl
 

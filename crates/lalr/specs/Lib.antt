@@ -16,4 +16,5 @@ pub mod Carried
 pub mod Live
 pub mod CellLaws
 pub mod BuiltForm
+pub mod MeetsBuilt
 pub mod Text
