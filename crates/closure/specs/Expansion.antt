@@ -1,11 +1,12 @@
 -- The closure of a state by its nonterminals: all rules of a nonterminal come in together, with the same lookaheads.
-use Prim.Native.Nat.{ℕ, zero, suc}
+use Prim.Native.Nat.{ℕ, zero, suc, _+_, _*_, _<_}
 use mathlib.Core.Path.{_≡_, refl, sym, subst}
 use mathlib.Core.Logic.{_⊎_, inl, inr}
 use mathlib.Core.List.{List, [], _∷_}
 use mathlib.Core.Option.{Option, some}
 use Rattle.language.specs.Grammar.{Grammar, Rule, ruleAt}
 use Rattle.language.specs.Sentence.{In}
+use Rattle.fixpoint.specs.Flags.{On}
 use Rattle.leftcorner.specs.Table.{Table, Goes}
 use Rattle.leftcorner.specs.Construction.{KernelAt, Has, in-kernel, in-closure, Carries}
 
@@ -55,3 +56,10 @@ module _ (g : Grammar) (t : Table) where
     pub by-carries : {q i k d : ℕ} → CarriesBy q i k d → Carries g t F q i k d
     by-carries (of-kernel h m) = in-kernel h m
     by-carries {i = i} (of-rule e x) = in-closure i (x .carries) (x .goes) e refl (x .first)
+
+    -- flags of what is expanded in q, by nonterminal - 64, and of what can follow it, 64 flags each
+    pub record HoldsClosure (q : ℕ) (present follow : List ℕ) : Type 0 where
+      pub present-only : (b : ℕ) → b < 64 → On present b → Expanded q (64 + b)
+      pub present-every : (b : ℕ) → b < 64 → Expanded q (64 + b) → On present b
+      pub follow-only : (b c : ℕ) → b < 64 → c < 64 → On follow (b * 64 + c) → Follows q (64 + b) c
+      pub follow-every : (b c : ℕ) → b < 64 → c < 64 → Follows q (64 + b) c → On follow (b * 64 + c)

@@ -2,7 +2,7 @@
 use Prim.Native.Nat.{ℕ, zero, suc}
 use native.Mathlib.Omega.{arith}
 use mathlib.Core.Path.{_≡_, refl, sym, ap, _∙_, subst}
-use mathlib.Core.List.{List, [], _∷_, _++_, map}
+use mathlib.Core.List.{List, [], _∷_, _++_, map, map-append}
 use mathlib.Core.Option.{Option, some, none}
 use lib.ListN.{length, drop}
 use Rattle.language.specs.Grammar.{Grammar, Rule, ruleAt, right, concat, IsTerminal}
@@ -17,10 +17,6 @@ use Rattle.leftcorner.specs.Adequate.{Source, rule, entry, track, behind
 use Rattle.leftcorner.specs.ReadOff.{clash, stringAt, shift-line, pop-line, announce-line, action-is, found-entry, found-strings}
 use Rattle.leftcorner.specs.Sources.{IsItem, rule-item, entry-item, KernelCode, one-source, rule-number, entry-number, goes-of, moves-at}
 use Rattle.leftcorner.specs.Closure.{has-of, source-of, line-moves, not-past, carries-of}
-
-map-append : {A B : Type 0} (f : A → B) (l m : List A) → map f (l ++ m) ≡ map f l ++ map f m
-map-append f [] m = refl
-map-append {B = B} f (x ∷ l) m = ap (λ (k : List B). f x ∷ k) (map-append f l m)
 
 -- an action without a next state is not forgotten
 forget-same : (y x : Action) → nextState x ≡ none → forget y ≡ x → y ≡ x
@@ -83,7 +79,9 @@ module _ (g : Grammar) (t : Table) (D : Declared g) (M : Meets g t) where
   the-move q X i n m =
       let f = M .cells q .filled X (S 0) (to-move m) in
       let s = forget-next (f .0) (f .2) in
-      record { action = f .0; state = s .0; line = f .1; next-is = s .1; goto-is = ap gotoState (action-is g t (M .form) q X (f .0) (f .1)) ∙ goto-next (f .0) (s .0) (s .1) }
+      record
+        { action = f .0; state = s .0; line = f .1; next-is = s .1
+        ; goto-is = ap gotoState (action-is g t (M .form) q X (f .0) (f .1)) ∙ goto-next (f .0) (s .0) (s .1) }
 
   -- an item that moves, by number
   record Going (q : ℕ) (ι : Source) (k d X : ℕ) (β : List ℕ) : Type 0 where
@@ -119,7 +117,8 @@ module _ (g : Grammar) (t : Table) (D : Declared g) (M : Meets g t) where
       → u .cell q a ≡ shift (u .goto q a)
   shifts {q = q} {a = a} h e w =
       let m = going h e .move in
-      ap (cellOf g t) (action-is g t (M .form) q a (m .action) (m .line)) ∙ shift-cell (m .action) q a (m .state) w (m .line) (m .next-is) ∙ ap shift (sym (m .goto-is))
+      ap (cellOf g t) (action-is g t (M .form) q a (m .action) (m .line)) ∙ shift-cell (m .action) q a (m .state) w (m .line) (m .next-is)
+      ∙ ap shift (sym (m .goto-is))
 
   -- ---- announces and pops
 
@@ -146,12 +145,14 @@ module _ (g : Grammar) (t : Table) (D : Declared g) (M : Meets g t) where
   group-strings : (i : ℕ) → map (stringAt t) (groupEntries g t i) ≡ groupsOf (ruleAt g i)
   group-strings i = found-strings g t (M .form) (groupsOf (ruleAt g i)) (group-wanted i (ruleAt g i) refl)
 
-  announced-entry : (q b i : ℕ) (es δs : List ℕ) (e : ℕ) (εs : List ℕ) → u .cell q b ≡ announce i es → es ≡ δs ++ e ∷ εs → (s : ℕ) × EntryAt g t e s (stringAt t e)
+  announced-entry : (q b i : ℕ) (es δs : List ℕ) (e : ℕ) (εs : List ℕ) → u .cell q b ≡ announce i es → es ≡ δs ++ e ∷ εs
+      → (s : ℕ) × EntryAt g t e s (stringAt t e)
   announced-entry q b i es δs e εs h p =
       found-entry g t (M .form) (groupsOf (ruleAt g i)) (group-wanted i (ruleAt g i) refl) e
         (subst (λ (l : List ℕ). In e l) (sym p ∙ announce-line g t q b i es h .1) (in-right δs here))
 
-  entry-code : (e s c : ℕ) (γ : List ℕ) → EntryAt g t e s γ → ((σ : List ℕ) → KernelAt g t s (entryItem g t e) zero σ → In c σ) → KernelCode g t (u .enter e) (entry e) zero c
+  entry-code : (e s c : ℕ) (γ : List ℕ) → EntryAt g t e s γ → ((σ : List ℕ) → KernelAt g t s (entryItem g t e) zero σ → In c σ)
+      → KernelCode g t (u .enter e) (entry e) zero c
   entry-code e s c γ h has =
       let k = M .items s .entry-has e γ h in
       subst (λ (p : ℕ). KernelCode g t p (entry e) zero c) (sym (ap stateOf h))
@@ -168,8 +169,10 @@ module _ (g : Grammar) (t : Table) (D : Declared g) (M : Meets g t) where
   group {q = q} {i = i} {d = d} {c = c} {r = r} b es δs e εs re h k p f =
       let x = announced-entry q b i es δs e εs k p in
       let y : r .groups ≡ map (stringAt t) δs ++ stringAt t e ∷ map (stringAt t) εs =
-            sym (ap groupsOf re) ∙ sym (group-strings i) ∙ ap (map (stringAt t)) (sym (announce-line g t q b i es k .1) ∙ p) ∙ map-append (stringAt t) δs (e ∷ εs) in
-      entry-code e (x .0) c (stringAt t e) (x .1) (λ σ l. M .lookaheads (x .0) .of-group e q i d c (stringAt t e) σ r (map (stringAt t) δs) (map (stringAt t) εs) (x .1) re y (rule-carried h) f l)
+            sym (ap groupsOf re) ∙ sym (group-strings i)
+            ∙ ap (map (stringAt t)) (sym (announce-line g t q b i es k .1) ∙ p) ∙ map-append (stringAt t) δs (e ∷ εs) in
+      entry-code e (x .0) c (stringAt t e) (x .1)
+        (λ σ l. M .lookaheads (x .0) .of-group e q i d c (stringAt t e) σ r (map (stringAt t) δs) (map (stringAt t) εs) (x .1) re y (rule-carried h) f l)
 
   pub complete : Complete g (stringAt t) (KernelCode g t) (automaton g t)
   complete = record { goal-string = ap stringOf (M .entries .goal-first .1); start = start; moves = moves; shifts = shifts; announces = announces
@@ -184,7 +187,8 @@ module _ (g : Grammar) (t : Table) (D : Declared g) (M : Meets g t) where
   entered : (e : ℕ) → Used g (stringAt t) (KernelCode g t) u e → (ι : Source) (k d : ℕ) → KernelCode g t (u .enter e) ι k d → (ι ≡ entry e) × (k ≡ zero)
   entered e w ι k d h =
       let x = used-entry w in
-      let z = M .items (x .0) .entry-only e (x .1) (x .2) (h .item) k (h .codes) (subst (λ (p : ℕ). KernelAt g t p (h .item) k (h .codes)) (ap stateOf (x .2)) (h .line)) in
+      let l = subst (λ (p : ℕ). KernelAt g t p (h .item) k (h .codes)) (ap stateOf (x .2)) (h .line) in
+      let z = M .items (x .0) .entry-only e (x .1) (x .2) (h .item) k (h .codes) l in
       (one-source g t (h .is) (entry-item e (x .0) (x .1) (x .2)) (z .0), z .1)
 
   announced-by : {q c i : ℕ} (es : List ℕ) → es ≡ groupEntries g t i → Asked g t (First g) q c (A i) → Announced g (stringAt t) (KernelCode g t) u q c i es
@@ -194,7 +198,10 @@ module _ (g : Grammar) (t : Table) (D : Declared g) (M : Meets g t) where
   popped-by : {q c n : ℕ} → Asked g t (First g) q c (P n) → Popped g (stringAt t) (KernelCode g t) u q c n
   popped-by {q = q} {c = c} (to-pop e {s = s} {γ = γ} h k) =
       let f : γ ≡ stringAt t e = sym (ap stringOf h) in
-      record { number = e; is = ap (λ (l : List ℕ). suc (length l)) f; holds = subst (λ (l : List ℕ). Held q (entry e) (length l) c) f (held (entry-item e s γ h) k) }
+      record
+        { number = e
+        ; is = ap (λ (l : List ℕ). suc (length l)) f
+        ; holds = subst (λ (l : List ℕ). Held q (entry e) (length l) c) f (held (entry-item e s γ h) k) }
 
   module _ (R : AllProductive g) where
     moved-by : {q X i n : ℕ} {ι : Source} → IsItem g t ι i → MovedBy g t q X i n → Moved g (stringAt t) (KernelCode g t) u q X ι n

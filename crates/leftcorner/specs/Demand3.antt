@@ -13,7 +13,8 @@ use Rattle.leftcorner.specs.Correct.{correct, pops-some}
 -- `Declared`: what a grammar book that is read says of its symbols. `AllProductive`: "Here a grammar has no barren [..] nonterminal."
 -- `Meets`: "Tables are accepted if and only if their items, contexts and cells meet the left-corner construction of document 01."
 -- The list may have any length, and each token is "1 to t". `Claim` holds the sentences of the demand, one by one.
-pub demand3 : (g : Grammar) (t : Table) → Declared g → AllProductive g → Meets g t → (w : List ℕ) → ((a : ℕ) → In a w → IsTerminal g a) → Claim g (automaton g t) w
+pub demand3 : (g : Grammar) (t : Table) → Declared g → AllProductive g → Meets g t
+    → (w : List ℕ) → ((a : ℕ) → In a w → IsTerminal g a) → Claim g (automaton g t) w
 demand3 g t D R M w tokens =
     let C = complete g t D M in
     let E = exact g t D M R in

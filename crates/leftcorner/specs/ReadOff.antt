@@ -72,7 +72,8 @@ action-back (L p Y z ∷ l) q X y e = go (eqb p q && eqb Y X) refl (λ h. action
 
 -- ---- entries
 
-pub entry-found : (l : List EntryLine) (γ : List ℕ) (k j s : ℕ) → at l j ≡ some (E s γ) → (i : ℕ) × (u : ℕ) × (at l i ≡ some (E u γ)) × (entryFrom (suc k) l γ ≡ suc (k + i))
+pub entry-found : (l : List EntryLine) (γ : List ℕ) (k j s : ℕ) → at l j ≡ some (E s γ)
+    → (i : ℕ) × (u : ℕ) × (at l i ≡ some (E u γ)) × (entryFrom (suc k) l γ ≡ suc (k + i))
 entry-found [] γ k j s e = clash cc
 entry-found (E p δ ∷ l) γ k j s e = go (sameString δ γ) refl j (λ i h. entry-found l γ (suc k) i s h) e
   where
@@ -80,7 +81,9 @@ entry-found (E p δ ∷ l) γ k j s e = go (sameString δ γ) refl j (λ i h. en
         → ((n : ℕ) → at l n ≡ some (E s γ) → (i : ℕ) × (u : ℕ) × (at l i ≡ some (E u γ)) × (entryFrom (suc (suc k)) l γ ≡ suc (suc k + i)))
         → at (E p δ ∷ l) i ≡ some (E s γ) → (i : ℕ) × (u : ℕ) × (at (E p δ ∷ l) i ≡ some (E u γ)) × (cond b (suc k) (entryFrom (suc (suc k)) l γ) ≡ suc (k + i))
     go true e i rec h = (0, p, ap (λ (m : List ℕ). some (E p m)) (same-string δ γ e), omega arith)
-    go false e zero rec h = let d : δ ≡ γ = cc in let f : sameString δ γ ≡ true = subst (λ (m : List ℕ). sameString m γ ≡ true) (sym d) (string-same γ) in clash cc
+    go false e zero rec h =
+        let d : δ ≡ γ = cc in
+        let f : sameString δ γ ≡ true = subst (λ (m : List ℕ). sameString m γ ≡ true) (sym d) (string-same γ) in clash cc
     go false e (suc i) rec h = let r = rec i h in (suc (r .0), r .1, r .2, omega (arith, r .3))
 
 -- ---- cells
@@ -143,8 +146,10 @@ module _ (g : Grammar) (t : Table) where
           let h : EntryAt g t e (k .1) (x .0) = subst (λ (i : ℕ). EntryAt g t i (k .1) (x .0)) n (k .2) in
           (k .1, h ∙ ap (λ (l : List ℕ). some (E (k .1) l)) (sym (ap stringOf h)))
 
-    pub found-strings : (γs : List (List ℕ)) → ((γ : List ℕ) → In γ γs → (k : ℕ) × (s : ℕ) × EntryAt g t k s γ) → map (stringAt t) (map (entryFrom 1 (t .entries)) γs) ≡ γs
+    pub found-strings : (γs : List (List ℕ)) → ((γ : List ℕ) → In γ γs → (k : ℕ) × (s : ℕ) × EntryAt g t k s γ)
+        → map (stringAt t) (map (entryFrom 1 (t .entries)) γs) ≡ γs
     found-strings [] all = refl
     found-strings (γ ∷ γs) all =
         let k = all γ here in
-        ap₂ (λ (δ : List ℕ) (δs : List (List ℕ)). δ ∷ δs) (ap (stringAt t) (entry-is (k .0) (k .1) γ (k .2)) ∙ ap stringOf (k .2)) (found-strings γs (λ δ m. all δ (there m)))
+        ap₂ (λ (δ : List ℕ) (δs : List (List ℕ)). δ ∷ δs) (ap (stringAt t) (entry-is (k .0) (k .1) γ (k .2)) ∙ ap stringOf (k .2))
+          (found-strings γs (λ δ m. all δ (there m)))

@@ -35,7 +35,8 @@ module _ (g : Grammar) (t : Table) (D : Declared g) (E : EntriesMeet g t) where
     pub lookaheads-over : (q : ℕ) → LookaheadsMeet g t F q → LookaheadsMeet g t G q
     lookaheads-over q M = record
       { of-move = λ p X i k d β σ x a n h. M .of-move p X i k d β σ x a n (carries h)
-      ; of-group = λ k p i d c γ σ r δs εs e re ge h f. M .of-group k p i d c γ σ r δs εs e re ge (carries h) (same (concat εs) (later-declared g D i r δs γ εs re ge) d c .from f)
+      ; of-group = λ k p i d c γ σ r δs εs e re ge h f. M .of-group k p i d c γ σ r δs εs e re ge (carries h)
+          (same (concat εs) (later-declared g D i r δs γ εs re ge) d c .from f)
       ; of-goal = M .of-goal }
 
     pub agree-over : (q : ℕ) → CellsAgree g t F q → CellsAgree g t G q
