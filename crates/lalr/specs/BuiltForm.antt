@@ -12,6 +12,7 @@ use lib.ListN.{length}
 use Rattle.language.specs.Grammar.{Grammar, Rule, at, ruleAt, concat, IsTerminal, IsNonterminal}
 use Rattle.language.specs.Sentence.{In, here, there, Reachable}
 use Rattle.language.specs.Strings.{AllDeclared}
+use Rattle.language.specs.GrammarLaws.{at-below}
 use Rattle.leftcorner.specs.Table.{EntryLine, E, Action, S, N, A, P, ActionLine, L, Table, nextState, Goes}
 use Rattle.leftcorner.specs.Construction.{entryItem, EntryAt, KernelAt, ActionAt, MovedBy, moved, WellFormed, Carries, Asked, to-move, to-announce, to-pop}
 use Rattle.leftcorner.specs.Closure.{has-of}
@@ -28,7 +29,7 @@ use Rattle.lalr.specs.Lookaheads.{Lookahead}
 use Rattle.lalr.specs.Built.{items, built}
 use Rattle.lalr.specs.LineLaws.{book, codes, same-entries, code-every, Line, line-of, has-state}
 use Rattle.lalr.specs.Carried.{looked, look-low}
-use Rattle.lalr.specs.Live.{in-one, at-some, every-live}
+use Rattle.lalr.specs.Live.{in-one, every-live}
 use Rattle.lalr.specs.CellLaws.{cell, cell-moves, Moves, of-in, in-of}
 
 module _ (g : Grammar) (F : List ℕ → ℕ → ℕ → Type 0) (F? : (β : List ℕ) (d c : ℕ) → Dec (F β d c)) (first-codes : List ℕ)
@@ -143,7 +144,7 @@ module _ (g : Grammar) (F : List ℕ → ℕ → ℕ → Type 0) (F? : (β : Lis
     -- entry q's line
     pub entry-of : (q : ℕ) → 1 ≤ q → q ≤ length (entryStrings g) → (γ : List ℕ) × EntryAt g b q q γ
     entry-of zero l h = absurd (omega (arith, l))
-    entry-of (suc j) l h = let a = at-some (entryStrings g) j h in (a .0, entry-at g b built-entries j (a .1))
+    entry-of (suc j) l h = let a = at-below (entryStrings g) j h in (a .0, entry-at g b built-entries j (a .1))
 
     moved-known : (k : Kernel) {X i n : ℕ} → MovedBy g (alone g k) 1 X i n → Known i
     moved-known k {i = i} (moved h go) = over (symbols-item g (L .formed) (alone g k) refl i (let w = bounded g (L .formed) (alone g k) refl go .within in omega (arith, w)))

@@ -12,10 +12,10 @@ use lib.ListN.{length}
 use Rattle.language.specs.Grammar.{Grammar, at}
 use Rattle.language.specs.Sentence.{In, here, there}
 use Rattle.language.specs.Member.{in-cons}
+use Rattle.language.specs.GrammarLaws.{rule-range}
 use Rattle.leftcorner.specs.Table.{EntryLine, E, Action, S, N, A, P, ActionLine, L, Table, nextState}
 use Rattle.leftcorner.specs.Construction.{forget, EntryAt, Asked, to-move, to-announce, to-pop}
 use Rattle.leftcorner.specs.ReadOff.{clash}
-use Rattle.verdict.specs.Closure.{rule-less}
 use Rattle.lalr.specs.States.{range, goto}
 use Rattle.lalr.specs.Built.{orElse, items, cellAsked?, moveTo, announced, finished, firstOf, cellAction, lineIf, actionsOn, actionsOf}
 use Rattle.lalr.specs.LineLaws.{book}
@@ -176,15 +176,11 @@ module _ (g : Grammar) (F : List ℕ → ℕ → ℕ → Type 0) (F? : (β : Lis
   entry-some q X zero s γ e h = clash cc
   entry-some q X (suc j) s γ e h = finished-some q X (t .entries) j s γ e h
 
-  rule-number : (i : ℕ) {q X : ℕ} → Asks q X (A i) → (1 ≤ i) × (i ≤ length (g .rules))
-  rule-number zero (to-announce i e h f) = clash cc
-  rule-number (suc j) (to-announce i {r = r} e h f) = (omega arith, let z = rule-less g t (suc j) r e in omega (arith, z))
-
   pub cell-some : {q X : ℕ} {x : Action} → Asks q X x → (y : Action) × (cell q X ≡ some y)
   unfolding cellAction
   cell-some {q = q} {X = X} (to-move m) = first-here (orElse (test q X (S 0)) (goesTo q X) none) _ (else-here (test q X (S 0)) (goesTo q X) none (to-move m))
   cell-some {q = q} {X = X} (to-announce i e h f) =
-      let n = rule-number i (to-announce i e h f) in
+      let n = rule-range g i e in
       first-there (orElse (test q X (S 0)) (goesTo q X) none) _ (first-here (announce q X (length (g .rules))) (finish q X (t .entries)) (announced-some q X (length (g .rules)) i (n .0) (n .1) (to-announce i e h f)))
   cell-some {q = q} {X = X} (to-pop k {s = s} {γ = γ} e h) =
       first-there (orElse (test q X (S 0)) (goesTo q X) none) _ (first-there (announce q X (length (g .rules))) (finish q X (t .entries)) (entry-some q X k s γ e (to-pop k e h)))

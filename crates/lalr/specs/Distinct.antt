@@ -57,11 +57,6 @@ pub in-at : {A : Type 0} {x : A} {l : List A} → In x l → (j : ℕ) × (at l 
 in-at here = (0, refl)
 in-at (there m) = let r = in-at m in (suc (r .0), r .1)
 
-pub at-low : {A : Type 0} (l : List A) (j : ℕ) (x : A) → at l j ≡ some x → j < length l
-at-low [] j x e = clash cc
-at-low (y ∷ l) zero x e = omega arith
-at-low (y ∷ l) (suc j) x e = omega (arith, at-low l j x e)
-
 pub distinct-at : (l : List (List ℕ)) (i j : ℕ) (γ : List ℕ) → Distinct l → at l i ≡ some γ → at l j ≡ some γ → i ≡ j
 distinct-at [] i j γ d e f = clash cc
 distinct-at (δ ∷ l) zero zero γ d e f = refl

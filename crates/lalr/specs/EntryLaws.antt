@@ -9,11 +9,12 @@ use lib.ListN.{length}
 use Rattle.language.specs.Grammar.{Grammar, Rule, at, ruleAt}
 use Rattle.language.specs.Sentence.{In, here, there}
 use Rattle.language.specs.Member.{in-cons}
+use Rattle.language.specs.GrammarLaws.{at-range}
 use Rattle.leftcorner.specs.Table.{EntryLine, E, Table, entryAt, entryFrom}
 use Rattle.leftcorner.specs.Construction.{Wanted, of-goal, of-group, EntryAt, EntriesMeet}
 use Rattle.leftcorner.specs.ReadOff.{clash, entry-found}
 use Rattle.lalr.specs.Strings.{addString, addGroups, addRules, entryStrings, entryLines}
-use Rattle.lalr.specs.Distinct.{Distinct, Extends, stays, extends-trans, longer, still-in, at-in, in-at, at-low, distinct-at, join-extends, join-distinct, join-in, join-only}
+use Rattle.lalr.specs.Distinct.{Distinct, Extends, stays, extends-trans, longer, still-in, at-in, in-at, distinct-at, join-extends, join-distinct, join-in, join-only}
 
 -- ---- the groups of one rule
 
@@ -134,7 +135,7 @@ module _ (g : Grammar) where
     entry-line zero e = clash cc
     entry-line (suc j) {s = s} {γ = γ} e =
         let r = line-at 1 (entryStrings g) j s γ (sym (ap (λ (l : List EntryLine). at l j) same) ∙ e) in
-        (omega (arith, r .0), omega arith, at-low (entryStrings g) j γ (r .1), strings-wanted γ (at-in (entryStrings g) j γ (r .1)))
+        (omega (arith, r .0), omega arith, at-range (entryStrings g) j (r .1), strings-wanted γ (at-in (entryStrings g) j γ (r .1)))
 
     pub entry-at : (j : ℕ) {γ : List ℕ} → at (entryStrings g) j ≡ some γ → EntryAt g t (suc j) (suc j) γ
     entry-at j {γ = γ} e =

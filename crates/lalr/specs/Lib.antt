@@ -17,4 +17,5 @@ pub mod Live
 pub mod CellLaws
 pub mod BuiltForm
 pub mod MeetsBuilt
+pub mod Least
 pub mod Text

@@ -13,12 +13,12 @@ use Rattle.language.specs.Grammar.{Grammar, Rule, at, ruleAt, right, concat, Is
 use Rattle.language.specs.Sentence.{In, here, there, Declared}
 use Rattle.language.specs.WellFormed as grammar
 use Rattle.language.specs.Member.{in-drop}
+use Rattle.language.specs.GrammarLaws.{rule-range}
 use Rattle.leftcorner.specs.Table.{EntryLine, E, Table, entryAt, stringOf, rightOf, symbolsOf, Goes}
 use Rattle.leftcorner.specs.Construction.{Wanted, of-goal, of-group, entryItem, EntryAt}
 use Rattle.leftcorner.specs.ReadOff.{clash}
 use Rattle.leftcorner.specs.ItemStrings.{symbols-declared}
 use Rattle.lalr.specs.Strings.{entryStrings, entryLines}
-use Rattle.lalr.specs.Distinct.{at-low}
 use Rattle.lalr.specs.EntryLaws.{entry-line, entries-meet}
 use Rattle.lalr.specs.States.{total, states}
 
@@ -35,10 +35,6 @@ declared g W = record
   ; goal-kind = W .goal-declared
   ; left-kind = λ i r e. W .formed i e .left-declared
   ; right-kind = λ i r X e m. W .formed i e .declared X m }
-
-rule-low : (g : Grammar) (i : ℕ) (r : Rule) → ruleAt g i ≡ some r → i ≤ length (g .rules)
-rule-low g zero r e = omega arith
-rule-low g (suc i) r e = at-low (g .rules) i r e
 
 group-short : (γ : List ℕ) (γs : List (List ℕ)) → In γ γs → length γ ≤ length (concat γs)
 group-short γ (δ ∷ γs) here = omega (arith, length-append γ (concat γs))
@@ -85,7 +81,7 @@ module _ (g : Grammar) (W : grammar.WellFormed g) (t : Table) (same : t .entries
   symbols-low i l = go (symbols-item i l)
     where
       go : ((r : Rule) × (ruleAt g i ≡ some r)) ⊎ ((j : ℕ) × (s : ℕ) × (γ : List ℕ) × (i ≡ entryItem g t j) × EntryAt g t j s γ) → i ≤ length (g .rules) + length (entryStrings g)
-      go (inl h) = omega (arith, rule-low g i (h .0) (h .1))
+      go (inl h) = omega (arith, rule-range g i (h .1) .1)
       go (inr h) = omega (arith, h .3, entry-line g t same (h .0) (h .4) .2)
 
   -- an item whose dot goes over X

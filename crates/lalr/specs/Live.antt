@@ -7,9 +7,10 @@ use mathlib.Core.Logic.{_⊎_, inl, inr}
 use mathlib.Core.List.{List, [], _∷_, _++_}
 use mathlib.Core.Option.{Option, some}
 use lib.ListN.{length, drop}
-use Rattle.language.specs.Grammar.{Grammar, Rule, at, ruleAt, concat, IsNonterminal}
+use Rattle.language.specs.Grammar.{Grammar, Rule, ruleAt, concat, IsNonterminal}
 use Rattle.language.specs.Sentence.{In, here, there, Reachable, from-goal, from-rule}
 use Rattle.language.specs.Strings.{AllDeclared, later-declared}
+use Rattle.language.specs.GrammarLaws.{at-below}
 use Rattle.language.specs.WellFormed as grammar
 use Rattle.leftcorner.specs.Table.{Table, stringOf}
 use Rattle.leftcorner.specs.Construction.{Wanted, of-goal, of-group, entryItem, EntryAt, Has, in-kernel, in-closure, MovedBy, moved}
@@ -57,11 +58,6 @@ split-at (there {y = δ} n) = let r = split-at n in (δ ∷ (r .0), r .1, ap (λ
 pub in-one : {x y : ℕ} → In x (y ∷ []) → x ≡ y
 in-one here = refl
 in-one (there m) = elim m [ ]
-
-pub at-some : {A : Type 0} (l : List A) (j : ℕ) → j < length l → (x : A) × (at l j ≡ some x)
-at-some [] j h = absurd (omega (arith, h))
-at-some (x ∷ l) zero h = (x, refl)
-at-some (x ∷ l) (suc j) h = at-some l j (omega (arith, h))
 
 module _ (g : Grammar) (F : List ℕ → ℕ → ℕ → Type 0) (W : grammar.WellFormed g) (F-some : (β : List ℕ) → AllDeclared g β → (d : ℕ) → (c : ℕ) × F β d c) where
   abbrev t : Table
@@ -155,7 +151,7 @@ module _ (g : Grammar) (F : List ℕ → ℕ → ℕ → Type 0) (W : grammar.We
       live-entry (suc j) l h x m =
           let k = entry-kernel g L (suc j) l h in
           let e = in-one (subst (λ (z : Kernel). In x z) k m) in
-          let a = at-some (entryStrings g) j h in
+          let a = at-below (entryStrings g) j h in
           let c = entry-live (suc j) (suc j) (a .0) (entry-at g t refl j (a .1)) in
           let u : entryItem g t (suc j) ≡ itemOf x = omega (arith, e) in
           let v : zero ≡ dotOf x = omega (arith, e) in

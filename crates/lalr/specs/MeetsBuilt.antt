@@ -45,7 +45,7 @@ module _ (g : Grammar) (F : List ℕ → ℕ → ℕ → Type 0) (F? : (β : Lis
       let σ = codes g F F? first-codes F-in q x in
       (σ, to-built g F F? first-codes F-in q i n σ (subst (λ (z : ℕ). KernelAt g t q i z σ) c (subst (λ (z : ℕ). KernelAt g t q z (dotOf x) σ) a (of-line g F F? first-codes F-in q x l h m))))
 
-  entry-has : (k q : ℕ) (γ : List ℕ) → EntryAt g u k q γ → (σ : List ℕ) × KernelAt g u q (entryItem g u k) zero σ
+  pub entry-has : (k q : ℕ) (γ : List ℕ) → EntryAt g u k q γ → (σ : List ℕ) × KernelAt g u q (entryItem g u k) zero σ
   entry-has k q γ e =
       let l = entry-line g u same k e in
       let w = entry-kernel g L k (l .1) (l .2) in
@@ -63,7 +63,7 @@ module _ (g : Grammar) (F : List ℕ → ℕ → ℕ → Type 0) (F? : (β : Lis
   to-items : {q X i n : ℕ} → MovedBy g u q X i n → MovedBy g t q X i n
   to-items {q = q} m = moved-over g u t (sym (entries-both g F F? first-codes F-in)) q q (λ i k σ h. (σ, from-built g F F? first-codes F-in q i k σ h)) m
 
-  from-items : {q X i n : ℕ} → MovedBy g t q X i n → MovedBy g u q X i n
+  pub from-items : {q X i n : ℕ} → MovedBy g t q X i n → MovedBy g u q X i n
   from-items {q = q} m = moved-over g t u (entries-both g F F? first-codes F-in) q q (λ i k σ h. (σ, to-built g F F? first-codes F-in q i k σ h)) m
 
   -- a line with a next state goes to the state that has the moved items
@@ -80,7 +80,7 @@ module _ (g : Grammar) (F : List ℕ → ℕ → ℕ → Type 0) (F? : (β : Lis
       let m = asked-moved g F F? first-codes F-in L codes-low (y .asked) in
       record { next-is = y .next-is; low = w .low; high = w .high; goes = goes-to g L q X (m .0) (m .1) (w .low) (w .high) (moved-alone g F F? first-codes F-in (m .2)) }
 
-  move-has : (q X s i n : ℕ) (x : Action) → ActionAt g u q X x → nextState x ≡ some s → MovedBy g u q X i n → (σ : List ℕ) × KernelAt g u s i n σ
+  pub move-has : (q X s i n : ℕ) (x : Action) → ActionAt g u q X x → nextState x ≡ some s → MovedBy g u q X i n → (σ : List ℕ) × KernelAt g u s i n σ
   move-has q X s i n x a e m =
       let y = target q X s x a e in
       let v = moved-alone g F F? first-codes F-in (to-items m) in
