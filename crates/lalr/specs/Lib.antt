@@ -18,4 +18,7 @@ pub mod CellLaws
 pub mod BuiltForm
 pub mod MeetsBuilt
 pub mod Least
+pub mod Conflicts
 pub mod Text
+pub mod Book
+pub mod BookLaws
