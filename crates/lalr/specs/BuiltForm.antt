@@ -158,11 +158,11 @@ module _ (g : Grammar) (F : List ℕ → ℕ → ℕ → Type 0) (F? : (β : Lis
             entry-over (suc j) e = ap (λ (l : List EntryLine). at l j) built-entries ∙ e
 
     kernel-known : (q x : ℕ) → 1 ≤ q → q ≤ length (states g) → In x (kernelOf g q) → Known (itemOf x)
-    kernel-known q x l h m = go (entry-or g L q h)
+    kernel-known q x l h m = go (entry-or g q h)
       where
-        go : (q ≤ length (entryStrings g)) ⊎ Reached g L q → Known (itemOf x)
+        go : (q ≤ length (entryStrings g)) ⊎ Reached g q → Known (itemOf x)
         go (inl e) =
-            let k = in-one (subst (λ (z : Kernel). In x z) (entry-kernel g L q l e) m) in
+            let k = in-one (subst (λ (z : Kernel). In x z) (entry-kernel g q l e) m) in
             let w = entry-of q l e in
             inr (q, q, w .0, omega (arith, k), w .1)
         go (inr r) = moved-known (kernelOf g (r .from)) (move-only g (kernelOf g (r .from)) (r .symbol) x (subst (λ (z : Kernel). In x z) (r .kernel) m))
@@ -181,7 +181,7 @@ module _ (g : Grammar) (F : List ℕ → ℕ → ℕ → Type 0) (F? : (β : Lis
         ; some-code = some-code
         ; item-declared = λ q i k σ m. let l = built-line q i k σ m in subst Known (sym (l .item)) (kernel-known q (l .number) (l .low) (l .high) (l .stands))
         ; kernel-state = λ q i k σ m. let l = built-line q i k σ m in (l .low, omega (arith, l .high, states-both))
-        ; entry-state = λ k s γ e. let l = entry-line g b built-entries k e in (omega (arith, l .0, l .1), omega (arith, l .0, l .2, more-states g L, states-both))
+        ; entry-state = λ k s γ e. let l = entry-line g b built-entries k e in (omega (arith, l .0, l .1), omega (arith, l .0, l .2, more-states g, states-both))
         ; action-state = λ q X x a. let w = action-is q X x a in (w .low, omega (arith, w .high, states-both))
         ; shift-kind = λ q a s m. let w = cell-moves g F F? first-codes F-in q a s (S s) (action-is q a (S s) m .holds) refl in kind-shift a s q (w .is) (asked-kind (w .asked))
         ; goto-kind = λ q X s m. let w = cell-moves g F F? first-codes F-in q X s (N s) (action-is q X (N s) m .holds) refl in kind-goto X s q (w .is) (asked-kind (w .asked)) }

@@ -66,8 +66,8 @@ module _ (g : Grammar) (F : List ℕ → ℕ → ℕ → Type 0) (F? : (β : Lis
     -- of an entry item
     on-entry : (e d : ℕ) → 1 ≤ e → e ≤ length (entryStrings g) → Lookahead g F e (entryItem g (bare g) e) zero d → Carries g t F e (entryItem g (bare g) e) zero d
     on-entry e d l h c =
-        let k = entry-kernel g L e l h in
-        on-kernel e ((length (g .rules) + e) * 16) (entryItem g (bare g) e) zero d l (omega (arith, h, more-states g L)) (subst (λ (z : Kernel). In ((length (g .rules) + e) * 16) z) (sym k) here) (omega arith) (omega arith) c
+        let k = entry-kernel g e l h in
+        on-kernel e ((length (g .rules) + e) * 16) (entryItem g (bare g) e) zero d l (omega (arith, h, more-states g)) (subst (λ (z : Kernel). In ((length (g .rules) + e) * 16) z) (sym k) here) (omega arith) (omega arith) c
 
     -- of an item that has moved
     after-move : {q i k d X : ℕ} → Carries g t F q i k d → MovedBy g t q X i (suc k) → Lookahead g F (goto g q X) i (suc k) d → Carries g t F (goto g q X) i (suc k) d

@@ -207,11 +207,11 @@ module _ (move : Kernel → ℕ → Kernel) where
       go f p true t lp s u = rw (kept x p (omega (arith, ltb-true p q t, l))) (target-kept x (F .closed (fits-back x f) p (ltb-true p q t) s u))
       go f p false t lp s u = let z : p ≡ q = omega (arith, ltb-false p q t, lp) in rw (z, kept x q l) (leave-target symbols k ks f u)
 
-  -- the states, where there are at most as many as were left
-  pub states-found : (e₀ : List Kernel) (f : ℕ) → Distinct e₀ → length (explore move f 0 e₀) ≤ f → Found e₀ (length (explore move f 0 e₀)) (explore move f 0 e₀)
-  states-found e₀ f d = explored (Found e₀) (leave-found e₀) f 0 e₀ start (λ (l : List Kernel). length l ≤ f → Found e₀ (length l) l) (λ r l c F le. record {
+  -- all states of a book that fits have been left
+  pub states-found : (e₀ : List Kernel) → Distinct e₀ → Found e₀ (length (explore move 255 0 e₀)) (explore move 255 0 e₀)
+  states-found e₀ d = explored (Found e₀) (leave-found e₀) 255 0 e₀ start (λ (l : List Kernel). Found e₀ (length l) l) (λ r l c F. record {
     from = F .from; distinct = F .distinct; origin = F .origin;
-    closed = λ f p lp. F .closed f p (⊎-elim (λ e. omega (arith, lp, le, e)) (λ e. omega (arith, lp, e)) c) })
+    closed = λ f p lp. F .closed f p (⊎-elim (λ e. omega (arith, lp, f .states, e)) (λ e. omega (arith, lp, e)) c) })
     where
       start : Found e₀ 0 e₀
       start = record { from = stays e₀; distinct = d; closed = λ _ p lp. absurd (not-suc-le-zero lp); origin = λ p ep lp. absurd (omega (arith, ep, lp)) }

@@ -54,14 +54,14 @@ module _ (g : Grammar) (F : List ℕ → ℕ → ℕ → Type 0) (F? : (β : Lis
 
   -- no rule stands in a kernel with its dot at 0
   no-rule : (q j : ℕ) (r : Rule) (σ : List ℕ) → ruleAt g j ≡ some r → KernelAt g u q j zero σ → ⊥
-  no-rule q j r σ e m = go (entry-or g L q (w .high))
+  no-rule q j r σ e m = go (entry-or g q (w .high))
     where
       w : Line g F F? first-codes F-in q j zero σ
       w = built-line g F F? first-codes F-in q j zero σ m
       not-moved : (k : Kernel) {X i n : ℕ} → MovedBy g (alone g k) 1 X i n → zero ≡ n → ⊥
       not-moved k (moved h go) z = omega (arith, z)
-      go : (q ≤ length (entryStrings g)) ⊎ Reached g L q → ⊥
-      go (inl h) = let x = in-one (subst (λ (z : Kernel). In (w .number) z) (entry-kernel g L q (w .low) h) (w .stands)) in omega (arith, x, w .item, rule-range g j e .1, w .low)
+      go : (q ≤ length (entryStrings g)) ⊎ Reached g q → ⊥
+      go (inl h) = let x = in-one (subst (λ (z : Kernel). In (w .number) z) (entry-kernel g q (w .low) h) (w .stands)) in omega (arith, x, w .item, rule-range g j e .1, w .low)
       go (inr c) = not-moved (kernelOf g (c .from)) (move-only g (kernelOf g (c .from)) (c .symbol) (w .number) (subst (λ (z : Kernel). In (w .number) z) (c .kernel) (w .stands))) (w .dot)
 
   -- another table with the book's entries, kernel sets and moves

@@ -149,7 +149,7 @@ module _ (g : Grammar) (F : List ℕ → ℕ → ℕ → Type 0) (W : grammar.We
       live-entry : (q : ℕ) → 1 ≤ q → q ≤ length (entryStrings g) → LiveAt q
       live-entry zero l h x m = absurd (omega (arith, l))
       live-entry (suc j) l h x m =
-          let k = entry-kernel g L (suc j) l h in
+          let k = entry-kernel g (suc j) l h in
           let e = in-one (subst (λ (z : Kernel). In x z) k m) in
           let a = at-below (entryStrings g) j h in
           let c = entry-live (suc j) (suc j) (a .0) (entry-at g t refl j (a .1)) in
@@ -157,7 +157,7 @@ module _ (g : Grammar) (F : List ℕ → ℕ → ℕ → Type 0) (W : grammar.We
           let v : zero ≡ dotOf x = omega (arith, e) in
           (c .0, subst (λ (z : ℕ). Lookahead g F (suc j) z (dotOf x) (c .0)) u (subst (λ (z : ℕ). Lookahead g F (suc j) (entryItem g t (suc j)) z (c .0)) v (c .1)))
 
-      live-reached : (q : ℕ) → Reached g L q → ((p : ℕ) → 1 ≤ p → p < q → LiveAt p) → LiveAt q
+      live-reached : (q : ℕ) → Reached g q → ((p : ℕ) → 1 ≤ p → p < q → LiveAt p) → LiveAt q
       live-reached q r rec x m =
           let v = move-only g (kernelOf g (r .from)) (r .symbol) x (subst (λ (z : Kernel). In x z) (r .kernel) m) in
           let c = moved-code (r .from) (rec (r .from) (r .low) (r .earlier)) v in
@@ -165,9 +165,9 @@ module _ (g : Grammar) (F : List ℕ → ℕ → ℕ → Type 0) (W : grammar.We
 
       below : (n q : ℕ) → q < n → 1 ≤ q → q ≤ length (states g) → LiveAt q
       below zero q l a h = absurd (omega (arith, l))
-      below (suc n) q l a h = go (entry-or g L q h) (λ p b c. below n p (omega (arith, c, l)) b (omega (arith, c, h)))
+      below (suc n) q l a h = go (entry-or g q h) (λ p b c. below n p (omega (arith, c, l)) b (omega (arith, c, h)))
         where
-          go : (q ≤ length (entryStrings g)) ⊎ Reached g L q → ((p : ℕ) → 1 ≤ p → p < q → LiveAt p) → LiveAt q
+          go : (q ≤ length (entryStrings g)) ⊎ Reached g q → ((p : ℕ) → 1 ≤ p → p < q → LiveAt p) → LiveAt q
           go (inl e) rec = live-entry q a e
           go (inr r) rec = live-reached q r rec
 

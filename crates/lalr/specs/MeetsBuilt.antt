@@ -48,8 +48,8 @@ module _ (g : Grammar) (F : List ℕ → ℕ → ℕ → Type 0) (F? : (β : Lis
   pub entry-has : (k q : ℕ) (γ : List ℕ) → EntryAt g u k q γ → (σ : List ℕ) × KernelAt g u q (entryItem g u k) zero σ
   entry-has k q γ e =
       let l = entry-line g u same k e in
-      let w = entry-kernel g L k (l .1) (l .2) in
-      let r = kernel-line k ((length (g .rules) + k) * 16) (entryItem g u k) zero (l .1) (omega (arith, l .2, more-states g L))
+      let w = entry-kernel g k (l .1) (l .2) in
+      let r = kernel-line k ((length (g .rules) + k) * 16) (entryItem g u k) zero (l .1) (omega (arith, l .2, more-states g))
                 (subst (λ (z : Kernel). In ((length (g .rules) + k) * 16) z) (sym w) here) (omega arith) (omega arith) in
       (r .0, subst (λ (z : ℕ). KernelAt g u z (entryItem g u k) zero (r .0)) (sym (l .0)) (r .1))
 
@@ -57,7 +57,7 @@ module _ (g : Grammar) (F : List ℕ → ℕ → ℕ → Type 0) (F? : (β : Lis
   entry-only k q γ e i n σ m =
       let l = entry-line g u same k e in
       let w = built-line g F F? first-codes F-in q i n σ m in
-      let x = in-one (subst (λ (z : Kernel). In (w .number) z) (ap (kernelOf g) (l .0) ∙ entry-kernel g L k (l .1) (l .2)) (w .stands)) in
+      let x = in-one (subst (λ (z : Kernel). In (w .number) z) (ap (kernelOf g) (l .0) ∙ entry-kernel g k (l .1) (l .2)) (w .stands)) in
       (omega (arith, w .item, x), omega (arith, w .dot, x))
 
   to-items : {q X i n : ℕ} → MovedBy g u q X i n → MovedBy g t q X i n
@@ -71,7 +71,7 @@ module _ (g : Grammar) (F : List ℕ → ℕ → ℕ → Type 0) (F? : (β : Lis
     next-is : s ≡ goto g q X
     low : 1 ≤ q
     high : q ≤ length (states g)
-    goes : Goto g L q X
+    goes : Goto g q X
 
   target : (q X s : ℕ) (x : Action) → ActionAt g u q X x → nextState x ≡ some s → Target q X s
   target q X s x a n =
@@ -98,9 +98,9 @@ module _ (g : Grammar) (F : List ℕ → ℕ → ℕ → Type 0) (F? : (β : Lis
         (subst (λ (z : ℕ). MovedBy g (alone g (kernelOf g q)) 1 X z m) (sym (w .item)) (subst (λ (z : ℕ). MovedBy g (alone g (kernelOf g q)) 1 X (itemOf (w .number)) z) (sym (w .dot)) v)))
 
   named : (q : ℕ) → 1 ≤ q → q ≤ u .states → ((k : ℕ) × (γ : List ℕ) × EntryAt g u k q γ) ⊎ ((p : ℕ) × (X : ℕ) × (x : Action) × ActionAt g u p X x × (nextState x ≡ some q))
-  named q l h = go (entry-or g L q (omega (arith, h, states-both g F F? first-codes F-in)))
+  named q l h = go (entry-or g q (omega (arith, h, states-both g F F? first-codes F-in)))
     where
-      go : (q ≤ length (entryStrings g)) ⊎ Reached g L q → ((k : ℕ) × (γ : List ℕ) × EntryAt g u k q γ) ⊎ ((p : ℕ) × (X : ℕ) × (x : Action) × ActionAt g u p X x × (nextState x ≡ some q))
+      go : (q ≤ length (entryStrings g)) ⊎ Reached g q → ((k : ℕ) × (γ : List ℕ) × EntryAt g u k q γ) ⊎ ((p : ℕ) × (X : ℕ) × (x : Action) × ActionAt g u p X x × (nextState x ≡ some q))
       go (inl e) = let r = entry-of g F F? first-codes F-in L codes-low q l e in inl (q, r .0, r .1)
       go (inr r) =
           let p = r .from in

@@ -45,31 +45,75 @@ module _ (g : Grammar) where
   abbrev pub firstKernels : List Kernel
   firstKernels = entryKernels g (suc (length (g .rules))) (entryStrings g)
 
+  pub found : Found (move g) firstKernels (length (states g)) (states g)
+  unfolding states
+  found = states-found (move g) firstKernels (kernels-distinct (suc (length (g .rules))) (entryStrings g))
+
+  pub states-distinct : Distinct (states g)
+  states-distinct = found .distinct
+
+  pub more-states : length (entryStrings g) ≤ length (states g)
+  more-states = omega (arith, longer (found .from), kernels-length (suc (length (g .rules))) (entryStrings g))
+
+  -- "Entry k's state [..] has the one kernel item r+k, dot 0"
+  pub entry-kernel : (k : ℕ) → 1 ≤ k → k ≤ length (entryStrings g) → kernelOf g k ≡ (length (g .rules) + k) * 16 ∷ []
+  entry-kernel zero l h = absurd (omega (arith, l))
+  entry-kernel (suc j) l h =
+      let z : suc (length (g .rules)) + j ≡ length (g .rules) + suc j = omega arith in
+      kept (found .from) j (omega (arith, h, kernels-length (suc (length (g .rules))) (entryStrings g)))
+      ∙ kernel-at (suc (length (g .rules))) (entryStrings g) j h ∙ ap (λ (n : ℕ). n * 16 ∷ []) z
+
+  -- a state after the entries is the target of an earlier one
+  pub record Reached (q : ℕ) : Type 0 where
+    pub from : ℕ
+    pub symbol : ℕ
+    pub low : 1 ≤ from
+    pub earlier : from < q
+    pub kernel : kernelOf g q ≡ move g (kernelOf g from) symbol
+    pub some-item : (x : ℕ) × In x (move g (kernelOf g from) symbol)
+    pub back : goto g from symbol ≡ q
+
+  some-in : (k : Kernel) → (k ≡ [] → ⊥) → (x : ℕ) × In x k
+  some-in [] f = absurd (f refl)
+  some-in (x ∷ k) f = (x, here)
+
+  pub reached : (q : ℕ) → length (entryStrings g) < q → q ≤ length (states g) → Reached q
+  unfolding goto
+  reached zero l h = absurd (omega (arith, l))
+  reached (suc p) l h =
+      let c = found .origin p (omega (arith, l, kernels-length (suc (length (g .rules))) (entryStrings g))) h in
+      record
+        { from = suc (c .from)
+        ; symbol = c .symbol
+        ; low = omega arith
+        ; earlier = omega (arith, c .earlier)
+        ; kernel = c .is
+        ; some-item = some-in (move g (kernelOf g (suc (c .from))) (c .symbol)) (λ e. c .filled (c .is ∙ e))
+        ; back = ap suc (ap (λ (k : Kernel). find k (states g)) (sym (c .is)) ∙ find-at (states g) p states-distinct h) }
+
+  -- every state is an entry's, or reached
+  pub entry-or : (q : ℕ) → q ≤ length (states g) → (q ≤ length (entryStrings g)) ⊎ Reached q
+  entry-or q h = go (decLe q (length (entryStrings g)))
+    where
+      go : Dec (q ≤ length (entryStrings g)) → (q ≤ length (entryStrings g)) ⊎ Reached q
+      go (yes l) = inl l
+      go (no f) = inr (reached q (omega (arith, f)) h)
+
+  -- "Its K lines rise by state, item, dot"
+  pub kernels-rising : (q : ℕ) → 1 ≤ q → q ≤ length (states g) → RisingFrom 0 (kernelOf g q)
+  kernels-rising q l h = go (entry-or q h)
+    where
+      go : (q ≤ length (entryStrings g)) ⊎ Reached q → RisingFrom 0 (kernelOf g q)
+      go (inl e) = subst (RisingFrom 0) (sym (entry-kernel q l e)) (omega arith, tt)
+      go (inr c) = subst (RisingFrom 0) (sym (c .kernel)) (move-rising g (kernelOf g (c .from)) (c .symbol))
+
+  -- a move of state q goes to a state whose kernel set is exactly the moved items
+  pub record Goto (q X : ℕ) : Type 0 where
+    pub low : 1 ≤ goto g q X
+    pub high : goto g q X ≤ length (states g)
+    pub kernel : kernelOf g (goto g q X) ≡ move g (kernelOf g q) X
+
   module _ (L : Limits g) where
-    pub found : Found (move g) firstKernels (length (states g)) (states g)
-    unfolding states
-    found = states-found (move g) firstKernels 255 (kernels-distinct (suc (length (g .rules))) (entryStrings g)) (L .few-states)
-
-    pub states-distinct : Distinct (states g)
-    states-distinct = found .distinct
-
-    pub more-states : length (entryStrings g) ≤ length (states g)
-    more-states = omega (arith, longer (found .from), kernels-length (suc (length (g .rules))) (entryStrings g))
-
-    -- "Entry k's state [..] has the one kernel item r+k, dot 0"
-    pub entry-kernel : (k : ℕ) → 1 ≤ k → k ≤ length (entryStrings g) → kernelOf g k ≡ (length (g .rules) + k) * 16 ∷ []
-    entry-kernel zero l h = absurd (omega (arith, l))
-    entry-kernel (suc j) l h =
-        let z : suc (length (g .rules)) + j ≡ length (g .rules) + suc j = omega arith in
-        kept (found .from) j (omega (arith, h, kernels-length (suc (length (g .rules))) (entryStrings g)))
-        ∙ kernel-at (suc (length (g .rules))) (entryStrings g) j h ∙ ap (λ (n : ℕ). n * 16 ∷ []) z
-
-    -- a move of state q goes to a state whose kernel set is exactly the moved items
-    pub record Goto (q X : ℕ) : Type 0 where
-      pub low : 1 ≤ goto g q X
-      pub high : goto g q X ≤ length (states g)
-      pub kernel : kernelOf g (goto g q X) ≡ move g (kernelOf g q) X
-
     pub goes-to : (q X i n : ℕ) → 1 ≤ q → q ≤ length (states g) → MovedBy g (alone g (kernelOf g q)) 1 X i n → Goto q X
     unfolding goto
     goes-to zero X i n l h m = absurd (omega (arith, l))
@@ -80,47 +124,3 @@ module _ (g : Grammar) where
         go : Target (move g (kernelOf g (suc p)) X) (states g) → Goto (suc p) X
         go (inl e) = elim (subst (λ (k : Kernel). In (i * 16 + n) k) e v) [ ]
         go (inr u) = let f = find-is u in record { low = omega arith; high = f .0; kernel = f .1 }
-
-    -- a state after the entries is the target of an earlier one
-    pub record Reached (q : ℕ) : Type 0 where
-      pub from : ℕ
-      pub symbol : ℕ
-      pub low : 1 ≤ from
-      pub earlier : from < q
-      pub kernel : kernelOf g q ≡ move g (kernelOf g from) symbol
-      pub some-item : (x : ℕ) × In x (move g (kernelOf g from) symbol)
-      pub back : goto g from symbol ≡ q
-
-    some-in : (k : Kernel) → (k ≡ [] → ⊥) → (x : ℕ) × In x k
-    some-in [] f = absurd (f refl)
-    some-in (x ∷ k) f = (x, here)
-
-    pub reached : (q : ℕ) → length (entryStrings g) < q → q ≤ length (states g) → Reached q
-    unfolding goto
-    reached zero l h = absurd (omega (arith, l))
-    reached (suc p) l h =
-        let c = found .origin p (omega (arith, l, kernels-length (suc (length (g .rules))) (entryStrings g))) h in
-        record
-          { from = suc (c .from)
-          ; symbol = c .symbol
-          ; low = omega arith
-          ; earlier = omega (arith, c .earlier)
-          ; kernel = c .is
-          ; some-item = some-in (move g (kernelOf g (suc (c .from))) (c .symbol)) (λ e. c .filled (c .is ∙ e))
-          ; back = ap suc (ap (λ (k : Kernel). find k (states g)) (sym (c .is)) ∙ find-at (states g) p states-distinct h) }
-
-    -- every state is an entry's, or reached
-    pub entry-or : (q : ℕ) → q ≤ length (states g) → (q ≤ length (entryStrings g)) ⊎ Reached q
-    entry-or q h = go (decLe q (length (entryStrings g)))
-      where
-        go : Dec (q ≤ length (entryStrings g)) → (q ≤ length (entryStrings g)) ⊎ Reached q
-        go (yes l) = inl l
-        go (no f) = inr (reached q (omega (arith, f)) h)
-
-    -- "Its K lines rise by state, item, dot"
-    pub kernels-rising : (q : ℕ) → 1 ≤ q → q ≤ length (states g) → RisingFrom 0 (kernelOf g q)
-    kernels-rising q l h = go (entry-or q h)
-      where
-        go : (q ≤ length (entryStrings g)) ⊎ Reached q → RisingFrom 0 (kernelOf g q)
-        go (inl e) = subst (RisingFrom 0) (sym (entry-kernel q l e)) (omega arith, tt)
-        go (inr c) = subst (RisingFrom 0) (sym (c .kernel)) (move-rising g (kernelOf g (c .from)) (c .symbol))
