@@ -22,3 +22,4 @@ pub mod Conflicts
 pub mod Text
 pub mod Book
 pub mod BookLaws
+pub mod Builder
