@@ -205,7 +205,7 @@ module _ (g : Grammar) (F : List ℕ → ℕ → ℕ → Type 0) (F? : (β : Lis
   abbrev put : ℕ → ℕ → Option Action → List ActionLine → List ActionLine
   put q X o l = lineIf g F F? first-codes F-in q X o l
 
-  put-in : (q X : ℕ) (o : Option Action) (l : List ActionLine) (p Y : ℕ) (y : Action) → In (L p Y y) (put q X o l) → ((p ≡ q) × (Y ≡ X) × (o ≡ some y)) ⊎ In (L p Y y) l
+  pub put-in : (q X : ℕ) (o : Option Action) (l : List ActionLine) (p Y : ℕ) (y : Action) → In (L p Y y) (put q X o l) → ((p ≡ q) × (Y ≡ X) × (o ≡ some y)) ⊎ In (L p Y y) l
   put-in q X none l p Y y m = inr m
   put-in q X (some x) l p Y y m = go (in-cons m)
     where
@@ -213,7 +213,7 @@ module _ (g : Grammar) (F : List ℕ → ℕ → ℕ → Type 0) (F? : (β : Lis
       go (inl e) = let a : p ≡ q = cc in let b : Y ≡ X = cc in let c : x ≡ y = cc in inl (a, b, ap (λ (z : Action). some z) c)
       go (inr n) = inr n
 
-  on-in : (q : ℕ) (xs : List ℕ) (l : List ActionLine) (p Y : ℕ) (y : Action) → In (L p Y y) (on q xs l) → ((p ≡ q) × In Y xs × (cell q Y ≡ some y)) ⊎ In (L p Y y) l
+  pub on-in : (q : ℕ) (xs : List ℕ) (l : List ActionLine) (p Y : ℕ) (y : Action) → In (L p Y y) (on q xs l) → ((p ≡ q) × In Y xs × (cell q Y ≡ some y)) ⊎ In (L p Y y) l
   on-in q [] l p Y y m = inr m
   on-in q (X ∷ xs) l p Y y m = go (put-in q X (cell q X) (on q xs l) p Y y m) (on-in q xs l p Y y)
     where

@@ -15,8 +15,10 @@ pub mod LineLaws
 pub mod Carried
 pub mod Live
 pub mod CellLaws
+pub mod Once
 pub mod BuiltForm
 pub mod MeetsBuilt
+pub mod Readable
 pub mod Least
 pub mod Conflicts
 pub mod Text

@@ -42,7 +42,7 @@ group-short γ (δ ∷ γs) (there m) = omega (arith, length-append δ (concat �
 group-short γ [] m = elim m [ ]
 
 module _ (g : Grammar) (W : grammar.WellFormed g) (t : Table) (same : t .entries ≡ entryLines 1 (entryStrings g)) where
-  wanted-short : {γ : List ℕ} → Wanted g γ → length γ ≤ 15
+  pub wanted-short : {γ : List ℕ} → Wanted g γ → length γ ≤ 15
   wanted-short (of-goal e) = omega (arith, ap length e)
   wanted-short {γ = γ} (of-group i {r = r} e m) = omega (arith, W .formed i e .short, length-append (r .before) (concat (r .groups)), group-short γ (r .groups) m)
 

@@ -36,10 +36,10 @@ module _ (g : Grammar) (F : List ℕ → ℕ → ℕ → Type 0) (F? : (β : Lis
   abbrev pub codes : ℕ → ℕ → List ℕ
   codes q x = codesAt g F F? first-codes F-in q x
 
-  abbrev lines : ℕ → Kernel → List KernelLine
+  abbrev pub lines : ℕ → Kernel → List KernelLine
   lines q k = linesOf g F F? first-codes F-in q k
 
-  abbrev allOf : ℕ → List Kernel → List KernelLine
+  abbrev pub allOf : ℕ → List Kernel → List KernelLine
   allOf q ks = allLines g F F? first-codes F-in q ks
 
   pub same-entries : book .entries ≡ entryLines 1 (entryStrings g)
@@ -66,14 +66,14 @@ module _ (g : Grammar) (F : List ℕ → ℕ → ℕ → Type 0) (F? : (β : Lis
 
   -- ---- lines
 
-  record Of (k : Kernel) (q i n : ℕ) (σ : List ℕ) : Type 0 where
-    number : ℕ
-    stands : In number k
-    item : i ≡ itemOf number
-    dot : n ≡ dotOf number
-    codes-are : σ ≡ codes q number
+  pub record Of (k : Kernel) (q i n : ℕ) (σ : List ℕ) : Type 0 where
+    pub number : ℕ
+    pub stands : In number k
+    pub item : i ≡ itemOf number
+    pub dot : n ≡ dotOf number
+    pub codes-are : σ ≡ codes q number
 
-  lines-in : (q : ℕ) (k : Kernel) (p i n : ℕ) (σ : List ℕ) → In (K p i n σ) (lines q k) → (p ≡ q) × Of k q i n σ
+  pub lines-in : (q : ℕ) (k : Kernel) (p i n : ℕ) (σ : List ℕ) → In (K p i n σ) (lines q k) → (p ≡ q) × Of k q i n σ
   lines-in q [] p i n σ m = elim m [ ]
   lines-in q (x ∷ k) p i n σ m = go (in-cons m) (lines-in q k p i n σ)
     where
@@ -88,7 +88,7 @@ module _ (g : Grammar) (F : List ℕ → ℕ → ℕ → Type 0) (F? : (β : Lis
           let r = rec u in
           (r .0, record { number = r .1 .number; stands = there (r .1 .stands); item = r .1 .item; dot = r .1 .dot; codes-are = r .1 .codes-are })
 
-  all-in : (a : ℕ) (ks : List Kernel) (p i n : ℕ) (σ : List ℕ) → In (K p i n σ) (allOf a ks) → (j : ℕ) × (p ≡ a + j) × (j < length ks) × Of (getD ks j []) p i n σ
+  pub all-in : (a : ℕ) (ks : List Kernel) (p i n : ℕ) (σ : List ℕ) → In (K p i n σ) (allOf a ks) → (j : ℕ) × (p ≡ a + j) × (j < length ks) × Of (getD ks j []) p i n σ
   all-in a [] p i n σ m = elim m [ ]
   all-in a (k ∷ ks) p i n σ m = go (in-either (lines a k) m) (all-in (suc a) ks p i n σ)
     where

@@ -67,13 +67,13 @@ module _ (g : Grammar) (F : List ℕ → ℕ → ℕ → Type 0) (F? : (β : Lis
   from-items {q = q} m = moved-over g t u (entries-both g F F? first-codes F-in) q q (λ i k σ h. (σ, to-built g F F? first-codes F-in q i k σ h)) m
 
   -- a line with a next state goes to the state that has the moved items
-  record Target (q X s : ℕ) : Type 0 where
-    next-is : s ≡ goto g q X
-    low : 1 ≤ q
-    high : q ≤ length (states g)
-    goes : Goto g q X
+  pub record Target (q X s : ℕ) : Type 0 where
+    pub next-is : s ≡ goto g q X
+    pub low : 1 ≤ q
+    pub high : q ≤ length (states g)
+    pub goes : Goto g q X
 
-  target : (q X s : ℕ) (x : Action) → ActionAt g u q X x → nextState x ≡ some s → Target q X s
+  pub target : (q X s : ℕ) (x : Action) → ActionAt g u q X x → nextState x ≡ some s → Target q X s
   target q X s x a n =
       let w = action-is g F F? first-codes F-in q X x a in
       let y = cell-moves g F F? first-codes F-in q X s x (w .holds) n in

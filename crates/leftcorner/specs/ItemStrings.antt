@@ -13,7 +13,7 @@ use Rattle.leftcorner.specs.Table.{EntryLine, E, Table, entryAt, stringO
 use Rattle.leftcorner.specs.Construction.{Wanted, of-goal, of-group, EntriesMeet}
 
 module _ (g : Grammar) (t : Table) (D : Declared g) where
-  wanted-declared : (γ : List ℕ) → Wanted g γ → AllDeclared g γ
+  pub wanted-declared : (γ : List ℕ) → Wanted g γ → AllDeclared g γ
   wanted-declared γ (of-goal e) = subst (AllDeclared g) (sym e) (goal-declared g D)
   wanted-declared γ (of-group i {r = r} e m) = group-declared g D i r γ e m
 
