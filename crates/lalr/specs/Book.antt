@@ -1,6 +1,6 @@
 -- What the builder replies and writes. Document 01, 'Replies': "The builder gives 2 for entries, states and kernel lines, then 9,
 -- then 2 for the book's bytes, then 11."
-use Prim.Native.Nat.{ℕ, zero, suc, _-_}
+use Prim.Native.Nat.{ℕ, suc, _-_}
 use mathlib.Core.Path.{_≡_}
 use mathlib.Core.Logic.{_⊎_}
 use mathlib.Core.Bool.{cond}
@@ -32,7 +32,8 @@ module _ (g : Grammar) (F : List ℕ → ℕ → ℕ → Type 0) (F? : (β : Lis
   -- "9 | clash | one cell would hold two different actions | state, lowest"
   abbrev pub afterLimits : ℕ → Reply
   afterLimits room =
-      first-of Conflict (lowest (CellsAgree g (items g F F? first-codes F-in) F) (agree? g (items g F F? first-codes F-in) F F? first-codes F-in) (suc (length (states g)))) (afterConflicts room)
+      first-of Conflict (lowest (CellsAgree g (items g F F? first-codes F-in) F) (agree? g (items g F F? first-codes F-in) F F? first-codes F-in)
+          (suc (length (states g)))) (afterConflicts room)
 
   unfoldable pub buildReply : ℕ → Reply
   buildReply room =

@@ -1,15 +1,15 @@
 -- The builder's reply: each refusal exactly where document 01 says, and a book that it writes is accepted.
-use Prim.Native.Nat.{ℕ, zero, suc, _+_, _-_, _≤_, _<_}
+use Prim.Native.Nat.{ℕ, zero, suc, _-_, _≤_, _<_}
 use native.Mathlib.Omega.{arith}
 use native.Mathlib.Decide.{decLe}
-use mathlib.Core.Path.{_≡_, refl, sym, ap, subst, _∙_}
-use mathlib.Core.Logic.{_⊎_, inl, inr}
+use mathlib.Core.Path.{_≡_, refl, ap, subst, _∙_}
+use mathlib.Core.Logic.{_⊎_}
 use mathlib.Core.Bool.{Bool, true, false, cond}
-use mathlib.Core.List.{List, [], _∷_, _++_}
+use mathlib.Core.List.{List, _++_}
 use mathlib.Core.Option.{Option, some, none}
 use borrow.Author.Tests.{ltb-true, ltb-false, lt-ltb, le-ltb}
 use lib.Dec.{ltb}
-use lib.ListN.{length, replicate, length-append, length-replicate}
+use lib.ListN.{length, replicate}
 use Rattle.language.specs.Grammar.{Grammar, IsNonterminal}
 use Rattle.language.specs.Sentence.{In, Reachable}
 use Rattle.language.specs.Strings.{AllDeclared}
@@ -21,14 +21,13 @@ use Rattle.leftcorner.specs.ReadOff.{clash}
 use Rattle.reply.specs.declared.Kind.{Kind}
 use Rattle.reply.specs.declared.Kind.the-variants.{LimitExceeded, Conflict, BufferTooSmall}
 use Rattle.reply.specs.declared.Reply.{Reply}
-use Rattle.reply.specs.declared.Reply.the-variants.{Accepted, Refused}
+use Rattle.reply.specs.declared.Reply.the-variants.{Accepted}
 use Rattle.reply.specs.Reply.{numberOf, placeOf}
 use Rattle.verdict.specs.CellsDecided.{agree?}
 use Rattle.verdict.specs.Verdict.{if-fails, lowest, none-fails, lowest-none, lowest-some, refused, first-of}
 use Rattle.lalr.specs.Strings.{entryStrings}
 use Rattle.lalr.specs.States.{total, states}
 use Rattle.lalr.specs.Limits.{Limits}
-use Rattle.lalr.specs.Built.{items, built}
 use Rattle.lalr.specs.LineLaws.{book, has-state}
 use Rattle.lalr.specs.BuiltForm.{b}
 use Rattle.lalr.specs.MeetsBuilt.{meets-built}
@@ -93,7 +92,10 @@ module _ (g : Grammar) (F : List ℕ → ℕ → ℕ → Type 0) (F? : (β : Lis
       go true y z a c d = out (λ w. omega (arith, w .few-entries, ltb-true 127 (length (entryStrings g)) a))
       go false true z a c d = out (λ w. omega (arith, w .few-states, ltb-true 255 (length (states g)) c))
       go false false true a c d = out (λ w. omega (arith, w .few-lines, ltb-true 1023 (total (states g)) d))
-      go false false false a c d = into (record { few-entries = ltb-false 127 (length (entryStrings g)) a; few-states = ltb-false 255 (length (states g)) c; few-lines = ltb-false 1023 (total (states g)) d })
+      go false false false a c d = into (record
+        { few-entries = ltb-false 127 (length (entryStrings g)) a
+        ; few-states = ltb-false 255 (length (states g)) c
+        ; few-lines = ltb-false 1023 (total (states g)) d })
 
   -- "2 for entries, states and kernel lines"
   pub refuses-many : (room : ℕ) → (Within g → ⊥) → reply room ≡ refused LimitExceeded 0
@@ -177,7 +179,8 @@ module _ (g : Grammar) (F : List ℕ → ℕ → ℕ → Type 0) (F? : (β : Lis
     pub below : (k : ℕ) → k < q → Agree k
 
   pub conflict-is : (room q : ℕ) → reply room ≡ refused Conflict q → Conflicts q
-  conflict-is room q = by-limits (λ (r : Reply). r ≡ refused Conflict q → Conflicts q) room (λ _ e. clash (let z : _≡_ {A = ℕ} 2 9 = ap numberOf e in omega (arith, z))) (λ w. go w (lowest Agree test (suc (length (states g)))) refl)
+  conflict-is room q = by-limits (λ (r : Reply). r ≡ refused Conflict q → Conflicts q) room
+      (λ _ e. clash (let z : _≡_ {A = ℕ} 2 9 = ap numberOf e in omega (arith, z))) (λ w. go w (lowest Agree test (suc (length (states g)))) refl)
     where
       go : Within g → (o : Option ℕ) → lowest Agree test (suc (length (states g))) ≡ o → first-of Conflict o (late room) ≡ refused Conflict q → Conflicts q
       go w (some p) h e =

@@ -1,23 +1,22 @@
 -- The builder: its table, reply and slice with first by rules; and that a book it writes is accepted.
-use Prim.Native.Nat.{ℕ, zero, suc, _+_, _≤_, _<_}
+use Prim.Native.Nat.{ℕ, _≤_}
 use native.Mathlib.Omega.{arith}
-use mathlib.Core.Path.{_≡_, refl, sym, ap, subst, _∙_}
+use mathlib.Core.Path.{_≡_, refl}
 use mathlib.Core.Logic.{_⊎_, inl, inr}
-use mathlib.Core.List.{List, [], _∷_, _++_}
-use lib.ListN.{length}
+use mathlib.Core.List.{List, [], _∷_}
 use Rattle.language.specs.Grammar.{Grammar, IsTerminal, IsNonterminal}
 use Rattle.language.specs.Derivation.{yields}
-use Rattle.language.specs.Sentence.{In, here, there, Reachable, Productive, AllProductive}
+use Rattle.language.specs.Sentence.{In, Reachable, Productive, AllProductive}
 use Rattle.language.specs.First.{First, next}
-use Rattle.language.specs.Nullable.{Nullable, AllIn, Starts}
+use Rattle.language.specs.Nullable.{Nullable, Starts}
 use Rattle.language.specs.FirstLaws.{right-productive, terminal-productive}
 use Rattle.language.specs.Strings.{AllDeclared, string-derives}
 use Rattle.language.specs.WellFormed as grammar
 use Rattle.leftcorner.specs.Table.{Table}
-use Rattle.leftcorner.specs.Construction.{CellsAgree, MeetsWith, Meets}
+use Rattle.leftcorner.specs.Construction.{MeetsWith, Meets}
 use Rattle.leftcorner.specs.Claim.{_↔_}
 use Rattle.leftcorner.specs.Swap.{swap}
-use Rattle.fixpoint.specs.Least.{Least, least-every}
+use Rattle.fixpoint.specs.Least.{least-every}
 use Rattle.analysis.specs.ByRules.{starting, BeginsByRules, FirstByRules, first-rules, rules-first}
 use Rattle.analysis.specs.Decided.{first?}
 use Rattle.reply.specs.declared.Kind.the-variants.{Conflict}
@@ -33,7 +32,8 @@ use Rattle.lalr.specs.Lists.{in-range, range-in}
 use Rattle.lalr.specs.Limits.{declared}
 use Rattle.lalr.specs.Built.{built}
 use Rattle.lalr.specs.Book.{buildReply, buildSlice}
-use Rattle.lalr.specs.BookLaws.{book-meets, conflict-actions}
+use Rattle.lalr.specs.Readable.{Readable, readable}
+use Rattle.lalr.specs.BookLaws.{limits, accepted-writes, book-meets, conflict-actions}
 use Rattle.lalr.specs.Conflicts.{TwoActions}
 
 module _ (g : Grammar) where
@@ -94,6 +94,13 @@ module _ (g : Grammar) where
       -- the book meets the construction
       pub writes-meets : Meets g builderTable
       writes-meets = swap g builderTable (declared g W) (FirstByRules g) (First g) same-first .to writes-by-rules
+
+      -- its lines are as a table reader asks
+      pub writes-readable : Readable g builderTable
+      unfolding builderTable builderReply
+      writes-readable =
+          readable g (FirstByRules g) (first? g) terminalCodes first-in
+            (limits g W (accepted-writes g (FirstByRules g) (first? g) terminalCodes first-in room written .within)) codes-low (writes-by-rules .form)
 
       -- "a book that it writes is accepted"
       pub writes-accepted : verdict g builderTable (FirstByRules g) (entries? g builderTable) (items? g builderTable)

@@ -1,14 +1,14 @@
 -- The table that the builder writes. Document 01, 'Construction': "The builder's kernels have the smallest contexts, with one
 -- state for each kernel set. [..] Its K lines rise by state, item, dot; its action lines by state, symbol."
-use Prim.Native.Nat.{ℕ, zero, suc, _+_}
+use Prim.Native.Nat.{ℕ, zero, suc}
 use mathlib.Core.Path.{_≡_}
 use mathlib.Core.Logic.{_⊎_}
-use mathlib.Core.Bool.{Bool, cond}
+use mathlib.Core.Bool.{cond}
 use mathlib.Core.List.{List, [], _∷_, _++_}
 use mathlib.Core.Option.{Option, some, none}
 use lib.Dec.{ltb}
 use lib.ListN.{length}
-use Rattle.language.specs.Grammar.{Grammar, Rule, ruleAt}
+use Rattle.language.specs.Grammar.{Grammar}
 use Rattle.language.specs.Sentence.{In}
 use Rattle.leftcorner.specs.Table.{EntryLine, E, KernelLine, K, Action, S, N, A, P, ActionLine, L, Table}
 use Rattle.leftcorner.specs.Construction.{Asked}

@@ -1,36 +1,35 @@
 -- The book as a table: its lines are well formed, and it has the entries of the construction.
-use Prim.Native.Nat.{ℕ, zero, suc, _+_, _*_, _≤_, _<_}
+use Prim.Native.Nat.{ℕ, zero, suc, _≤_, _<_}
 use native.Mathlib.Omega.{arith}
 use mathlib.Core.Path.{_≡_, refl, sym, ap, subst, _∙_}
 use mathlib.Core.Logic.{_⊎_, inl, inr}
 use mathlib.Core.Bool.{Bool, true, false, cond}
-use mathlib.Core.List.{List, [], _∷_}
-use mathlib.Core.Option.{Option, some, none}
+use mathlib.Core.List.{List}
+use mathlib.Core.Option.{some}
 use borrow.Author.Tests.{ltb-true, ltb-false}
 use lib.Dec.{ltb}
 use lib.ListN.{length}
 use Rattle.language.specs.Grammar.{Grammar, Rule, at, ruleAt, concat, IsTerminal, IsNonterminal}
-use Rattle.language.specs.Sentence.{In, here, there, Reachable}
+use Rattle.language.specs.Sentence.{In, Reachable}
 use Rattle.language.specs.Strings.{AllDeclared}
 use Rattle.language.specs.GrammarLaws.{at-below}
-use Rattle.leftcorner.specs.Table.{EntryLine, E, Action, S, N, A, P, ActionLine, L, Table, nextState, Goes}
-use Rattle.leftcorner.specs.Construction.{entryItem, EntryAt, KernelAt, ActionAt, MovedBy, moved, WellFormed, Carries, Asked, to-move, to-announce, to-pop}
+use Rattle.leftcorner.specs.Table.{EntryLine, Action, S, N, L, Table}
+use Rattle.leftcorner.specs.Construction.{entryItem, EntryAt, KernelAt, ActionAt, MovedBy, moved, WellFormed, Asked, to-move, to-announce, to-pop}
 use Rattle.leftcorner.specs.Closure.{has-of}
 use Rattle.leftcorner.specs.ReadOff.{clash}
 use Rattle.lalr.specs.Strings.{entryStrings, entryLines}
 use Rattle.lalr.specs.EntryLaws.{entry-at, entry-line, one-entry}
-use Rattle.lalr.specs.States.{Kernel, itemOf, dotOf, range, alone, states, kernelOf, goto, move}
+use Rattle.lalr.specs.States.{Kernel, itemOf, range, alone, states, kernelOf, goto}
 use Rattle.lalr.specs.Lists.{in-range, range-in}
 use Rattle.lalr.specs.Over.{asked-over}
 use Rattle.lalr.specs.Limits.{Limits, bounded, code-low, symbols-item}
 use Rattle.lalr.specs.MoveLaws.{move-only}
 use Rattle.lalr.specs.StateLaws.{more-states, entry-kernel, Reached, entry-or}
-use Rattle.lalr.specs.Lookaheads.{Lookahead}
 use Rattle.lalr.specs.Built.{items, built}
-use Rattle.lalr.specs.LineLaws.{book, codes, same-entries, code-every, Line, line-of, has-state}
+use Rattle.lalr.specs.LineLaws.{book, same-entries, code-every, Line, line-of, has-state}
 use Rattle.lalr.specs.Carried.{looked, look-low}
 use Rattle.lalr.specs.Live.{in-one, every-live}
-use Rattle.lalr.specs.CellLaws.{cell, cell-moves, Moves, of-in, in-of}
+use Rattle.lalr.specs.CellLaws.{cell, cell-moves, of-in, in-of}
 
 module _ (g : Grammar) (F : List ℕ → ℕ → ℕ → Type 0) (F? : (β : List ℕ) (d c : ℕ) → Dec (F β d c)) (first-codes : List ℕ)
     (F-in : (β : List ℕ) (d c : ℕ) → F β d c → (c ≡ d) ⊎ In c first-codes) where
@@ -86,7 +85,8 @@ module _ (g : Grammar) (F : List ℕ → ℕ → ℕ → Type 0) (F? : (β : Lis
 
   pub is-action : (q X : ℕ) (x : Action) → 1 ≤ q → q ≤ length (states g) → X < 128 → cell g F F? first-codes F-in q X ≡ some x → ActionAt g b q X x
   unfolding built
-  is-action q X x l h n e = in-of g F F? first-codes F-in q X (range 1 (length (states g))) x (in-range 1 (length (states g)) q l (omega (arith, h))) (in-range 0 128 X (omega arith) (omega (arith, n))) e
+  is-action q X x l h n e = in-of g F F? first-codes F-in q X (range 1 (length (states g))) x (in-range 1 (length (states g)) q l (omega (arith, h)))
+      (in-range 0 128 X (omega arith) (omega (arith, n))) e
 
   module _ (L : Limits g) (codes-low : (c : ℕ) → In c first-codes → c ≤ g .terminals) where
     -- ---- what is asked is asked of a state, on a symbol
@@ -172,7 +172,8 @@ module _ (g : Grammar) (F : List ℕ → ℕ → ℕ → Type 0) (F? : (β : Lis
       some-code q i k σ m =
           let l = built-line q i k σ m in
           let c = every-live g F (L .formed) F-some reach L q (l .number) (l .low) (l .high) (l .stands) in
-          (c .0, subst (λ (z : List ℕ). In (c .0) z) (sym (l .codes-are)) (code-every g F F? first-codes F-in q (l .number) (c .0) (look-low g F F? first-codes F-in L codes-low (c .1)) (c .1)))
+          (c .0, subst (λ (z : List ℕ). In (c .0) z) (sym (l .codes-are))
+              (code-every g F F? first-codes F-in q (l .number) (c .0) (look-low g F F? first-codes F-in L codes-low (c .1)) (c .1)))
 
       pub built-form : WellFormed g b
       built-form = record

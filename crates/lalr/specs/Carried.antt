@@ -1,24 +1,24 @@
 -- The closure's lookaheads in the book are the builder's.
-use Prim.Native.Nat.{ℕ, zero, suc, _+_, _*_, _≤_, _<_}
+use Prim.Native.Nat.{ℕ, zero, suc, _+_, _*_, _≤_}
 use native.Mathlib.Omega.{arith}
-use mathlib.Core.Path.{_≡_, refl, sym, ap, subst, _∙_}
+use mathlib.Core.Path.{_≡_, refl, sym, subst}
 use mathlib.Core.Logic.{_⊎_, inl, inr}
-use mathlib.Core.List.{List, [], _∷_, _++_}
+use mathlib.Core.List.{List, _∷_, _++_}
 use mathlib.Core.Option.{some}
 use lib.ListN.{length}
 use Rattle.language.specs.Grammar.{Grammar, Rule, ruleAt, concat}
-use Rattle.language.specs.Sentence.{In, here, there}
+use Rattle.language.specs.Sentence.{In, here}
 use Rattle.language.specs.Member.{in-right}
 use Rattle.leftcorner.specs.Table.{Table}
-use Rattle.leftcorner.specs.Construction.{Wanted, of-group, entryItem, EntryAt, KernelAt, Has, in-kernel, in-closure, MovedBy, moved, Carries}
+use Rattle.leftcorner.specs.Construction.{Wanted, of-group, entryItem, KernelAt, in-kernel, in-closure, MovedBy, moved, Carries}
 use Rattle.leftcorner.specs.Closure.{has-of}
 use Rattle.lalr.specs.Strings.{entryStrings}
 use Rattle.lalr.specs.EntryLaws.{entry-line, found-entry, some-entry}
-use Rattle.lalr.specs.States.{Kernel, itemOf, dotOf, states, kernelOf, goto, move}
+use Rattle.lalr.specs.States.{Kernel, itemOf, dotOf, states, kernelOf, goto}
 use Rattle.lalr.specs.Over.{goes-over}
 use Rattle.lalr.specs.Limits.{Limits}
 use Rattle.lalr.specs.MoveLaws.{item-of, dot-of, in-move, moved-dot}
-use Rattle.lalr.specs.StateLaws.{more-states, entry-kernel, Goto, goes-to}
+use Rattle.lalr.specs.StateLaws.{more-states, entry-kernel, goes-to}
 use Rattle.lalr.specs.Lookaheads as look
 use Rattle.lalr.specs.Lookaheads.{bare, entryOf, Lookahead}
 use Rattle.lalr.specs.LineLaws.{book, codes, same-entries, code-only, code-every, line-of, of-line, has-state, moved-alone}
@@ -67,7 +67,8 @@ module _ (g : Grammar) (F : List ℕ → ℕ → ℕ → Type 0) (F? : (β : Lis
     on-entry : (e d : ℕ) → 1 ≤ e → e ≤ length (entryStrings g) → Lookahead g F e (entryItem g (bare g) e) zero d → Carries g t F e (entryItem g (bare g) e) zero d
     on-entry e d l h c =
         let k = entry-kernel g e l h in
-        on-kernel e ((length (g .rules) + e) * 16) (entryItem g (bare g) e) zero d l (omega (arith, h, more-states g)) (subst (λ (z : Kernel). In ((length (g .rules) + e) * 16) z) (sym k) here) (omega arith) (omega arith) c
+        on-kernel e ((length (g .rules) + e) * 16) (entryItem g (bare g) e) zero d l (omega (arith, h, more-states g))
+            (subst (λ (z : Kernel). In ((length (g .rules) + e) * 16) z) (sym k) here) (omega arith) (omega arith) c
 
     -- of an item that has moved
     after-move : {q i k d X : ℕ} → Carries g t F q i k d → MovedBy g t q X i (suc k) → Lookahead g F (goto g q X) i (suc k) d → Carries g t F (goto g q X) i (suc k) d
@@ -76,7 +77,8 @@ module _ (g : Grammar) (F : List ℕ → ℕ → ℕ → Type 0) (F? : (β : Lis
         let a = moved-alone g F F? first-codes F-in m in
         let n = moved-dot g L (kernelOf g q) a in
         let y = goes-to g L q X i (suc k) (s .0) (s .1) a in
-        on-kernel (goto g q X) (i * 16 + suc k) i (suc k) d (y .low) (y .high) (subst (λ (z : Kernel). In (i * 16 + suc k) z) (sym (y .kernel)) (in-move g L (kernelOf g q) a)) (item-of i (suc k) n) (dot-of i (suc k) n) c
+        on-kernel (goto g q X) (i * 16 + suc k) i (suc k) d (y .low) (y .high)
+            (subst (λ (z : Kernel). In (i * 16 + suc k) z) (sym (y .kernel)) (in-move g L (kernelOf g q) a)) (item-of i (suc k) n) (dot-of i (suc k) n) c
 
     pub carried : {q i k d : ℕ} → Lookahead g F q i k d → Carries g t F q i k d
     carried look.of-goal = on-entry 1 zero (omega arith) (some-entry g) look.of-goal

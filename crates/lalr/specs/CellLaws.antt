@@ -1,5 +1,5 @@
 -- The cells of the book: each holds an action that is asked of it, and where one is asked it is filled.
-use Prim.Native.Nat.{ℕ, zero, suc, _+_, _≤_, _<_}
+use Prim.Native.Nat.{ℕ, zero, suc, _≤_}
 use native.Mathlib.Omega.{arith}
 use native.Mathlib.Decide.{ℕ-discrete}
 use mathlib.Core.Path.{_≡_, refl, sym, ap, subst, _∙_}
@@ -17,7 +17,7 @@ use Rattle.leftcorner.specs.Table.{EntryLine, E, Action, S, N, A, P, ActionLine
 use Rattle.leftcorner.specs.Construction.{forget, EntryAt, Asked, to-move, to-announce, to-pop}
 use Rattle.leftcorner.specs.ReadOff.{clash}
 use Rattle.lalr.specs.States.{range, goto}
-use Rattle.lalr.specs.Built.{orElse, items, cellAsked?, moveTo, announced, finished, firstOf, cellAction, lineIf, actionsOn, actionsOf}
+use Rattle.lalr.specs.Built.{orElse, cellAsked?, moveTo, announced, finished, firstOf, cellAction, lineIf, actionsOn, actionsOf}
 use Rattle.lalr.specs.LineLaws.{book}
 
 -- ---- the first that there is
@@ -86,7 +86,8 @@ module _ (g : Grammar) (F : List ℕ → ℕ → ℕ → Type 0) (F? : (β : Lis
   announced-is q X zero y e = clash cc
   announced-is q X (suc i) y e = go (or-else (test q X (A (suc i))) (A (suc i)) y (announce q X i) e) (announced-is q X i y)
     where
-      go : (Asks q X (A (suc i)) × (A (suc i) ≡ y)) ⊎ (announce q X i ≡ some y) → (announce q X i ≡ some y → (i : ℕ) × Asks q X (A i) × (A i ≡ y)) → (i : ℕ) × Asks q X (A i) × (A i ≡ y)
+      go : (Asks q X (A (suc i)) × (A (suc i) ≡ y)) ⊎ (announce q X i ≡ some y) → (announce q X i ≡ some y → (i : ℕ) × Asks q X (A i) × (A i ≡ y))
+          → (i : ℕ) × Asks q X (A i) × (A i ≡ y)
       go (inl h) rec = (suc i, h .0, h .1)
       go (inr h) rec = rec h
 
@@ -181,7 +182,8 @@ module _ (g : Grammar) (F : List ℕ → ℕ → ℕ → Type 0) (F? : (β : Lis
   cell-some {q = q} {X = X} (to-move m) = first-here (orElse (test q X (S 0)) (goesTo q X) none) _ (else-here (test q X (S 0)) (goesTo q X) none (to-move m))
   cell-some {q = q} {X = X} (to-announce i e h f) =
       let n = rule-range g i e in
-      first-there (orElse (test q X (S 0)) (goesTo q X) none) _ (first-here (announce q X (length (g .rules))) (finish q X (t .entries)) (announced-some q X (length (g .rules)) i (n .0) (n .1) (to-announce i e h f)))
+      first-there (orElse (test q X (S 0)) (goesTo q X) none) _ (first-here (announce q X (length (g .rules))) (finish q X (t .entries))
+          (announced-some q X (length (g .rules)) i (n .0) (n .1) (to-announce i e h f)))
   cell-some {q = q} {X = X} (to-pop k {s = s} {γ = γ} e h) =
       first-there (orElse (test q X (S 0)) (goesTo q X) none) _ (first-there (announce q X (length (g .rules))) (finish q X (t .entries)) (entry-some q X k s γ e (to-pop k e h)))
 

@@ -1,8 +1,8 @@
 -- Where the cells of a state do not agree, one of them would hold two different actions.
-use Prim.Native.Nat.{ℕ, zero, suc, _≤_, _<_}
+use Prim.Native.Nat.{ℕ, zero, suc, _≤_}
 use native.Mathlib.Omega.{arith}
-use mathlib.Core.Path.{_≡_, refl, sym, ap, subst, _∙_}
-use mathlib.Core.Logic.{_⊎_, inl, inr}
+use mathlib.Core.Path.{_≡_, subst}
+use mathlib.Core.Logic.{_⊎_}
 use mathlib.Core.List.{List, [], _∷_, _++_, map}
 use mathlib.Core.Option.{some}
 use lib.ListN.{length}
@@ -68,7 +68,8 @@ module _ (g : Grammar) (F : List ℕ → ℕ → ℕ → Type 0) (F? : (β : Lis
 
   found? : (q : ℕ) → Dec (Found q)
   found? q =
-      any? _ (λ X. any? _ (λ x. any? _ (λ y. both? (asked? g t F F? first-codes F-in q X x) (both? (asked? g t F F? first-codes F-in q X y) (implies? (act? x y) (no (λ z. z))))) actions) actions) (range 0 128)
+      any? _ (λ X. any? _ (λ x. any? _ (λ y. both? (asked? g t F F? first-codes F-in q X x)
+          (both? (asked? g t F F? first-codes F-in q X y) (implies? (act? x y) (no (λ z. z))))) actions) actions) (range 0 128)
 
   pub agree-where : (q : ℕ) → (TwoActions q → ⊥) → CellsAgree g t F q
   agree-where q f = record { one = λ X x y a c. go X x y a c (act? x y) }
@@ -93,7 +94,8 @@ module _ (g : Grammar) (F : List ℕ → ℕ → ℕ → Type 0) (F? : (β : Lis
         into : TwoActions q → Found q
         into w =
             let p = asked-place g F F? first-codes F-in L codes-low (w .asked-one) in
-            (w .symbol, in-range 0 128 (w .symbol) (omega arith) (omega (arith, p .2)), (w .one, in-actions (w .asked-one), (w .other, in-actions (w .asked-other), (w .asked-one, (w .asked-other, w .differ)))))
+            (w .symbol, in-range 0 128 (w .symbol) (omega arith) (omega (arith, p .2)),
+                (w .one, in-actions (w .asked-one), (w .other, in-actions (w .asked-other), (w .asked-one, (w .asked-other, w .differ)))))
 
     pub two-actions : (q : ℕ) → (CellsAgree g t F q → ⊥) → TwoActions q
     two-actions q f = go (two-actions? q)

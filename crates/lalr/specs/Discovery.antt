@@ -11,16 +11,15 @@ use borrow.Author.Tests.{ltb-true, ltb-false}
 use lib.Dec.{ltb}
 use lib.ListN.{length, getD, length-append}
 use Rattle.language.specs.Sentence.{In, here, there}
-use Rattle.language.specs.Member.{in-right}
 use Rattle.leftcorner.specs.ReadOff.{clash, same-string, string-same}
 use Rattle.leftcorner.specs.Table.{sameString}
-use Rattle.lalr.specs.Strings.{addString}
 use Rattle.lalr.specs.Distinct.{Distinct, Extends, stays, extends-trans, getD-end, kept, longer, still-in, joined, join-distinct, join-in}
 use Rattle.lalr.specs.States.{Kernel, find, note, noteIf, total, range, leave, explore}
 
 -- where a kernel set of the list is found, it stands
 pub find-is : {k : Kernel} {ks : List Kernel} → In k ks → (find k ks < length ks) × (getD ks (find k ks) [] ≡ k)
-find-is {k = k} (here {l = ks}) = subst (λ (t : Bool). (cond t 0 (suc (find k ks)) < suc (length ks)) × (getD (k ∷ ks) (cond t 0 (suc (find k ks))) [] ≡ k)) (sym (string-same k)) (omega arith, refl)
+find-is {k = k} (here {l = ks}) = subst (λ (t : Bool). (cond t 0 (suc (find k ks)) < suc (length ks)) × (getD (k ∷ ks) (cond t 0 (suc (find k ks))) [] ≡ k))
+    (sym (string-same k)) (omega arith, refl)
 find-is {k = k} (there {y = h} {l = ks} m) = go (sameString h k) refl (find-is m)
   where
     go : (t : Bool) → sameString h k ≡ t → (find k ks < length ks) × (getD ks (find k ks) [] ≡ k)
@@ -159,7 +158,8 @@ module _ (move : Kernel → ℕ → Kernel) where
   unfolding leave
   leave-origin [] e q k ks l is o = o
   leave-origin (x ∷ xs) e q k ks l is o =
-      leave-origin xs e q k (noteIf ks (move k x)) (omega (arith, l, longer (after-extends ks (move k x)))) (kept (after-extends ks (move k x)) q l ∙ is) (after-origin e q x k ks l is o)
+      leave-origin xs e q k (noteIf ks (move k x)) (omega (arith, l, longer (after-extends ks (move k x)))) (kept (after-extends ks (move k x)) q l ∙ is)
+          (after-origin e q x k ks l is o)
 
   -- "symbols by code"
   abbrev pub symbols : List ℕ

@@ -1,16 +1,16 @@
 -- The entries: each wanted string once, the goal alone first; entry k's state is k.
-use Prim.Native.Nat.{ℕ, zero, suc, _+_, _≤_, _<_}
+use Prim.Native.Nat.{ℕ, zero, suc, _+_, _≤_}
 use native.Mathlib.Omega.{arith}
 use mathlib.Core.Path.{_≡_, refl, sym, ap, subst, _∙_}
 use mathlib.Core.Logic.{_⊎_, inl, inr}
-use mathlib.Core.List.{List, [], _∷_, _++_}
-use mathlib.Core.Option.{Option, some, none}
+use mathlib.Core.List.{List, [], _∷_}
+use mathlib.Core.Option.{some}
 use lib.ListN.{length}
-use Rattle.language.specs.Grammar.{Grammar, Rule, at, ruleAt}
+use Rattle.language.specs.Grammar.{Grammar, Rule, at}
 use Rattle.language.specs.Sentence.{In, here, there}
 use Rattle.language.specs.Member.{in-cons}
 use Rattle.language.specs.GrammarLaws.{at-range}
-use Rattle.leftcorner.specs.Table.{EntryLine, E, Table, entryAt, entryFrom}
+use Rattle.leftcorner.specs.Table.{EntryLine, E, Table, entryFrom}
 use Rattle.leftcorner.specs.Construction.{Wanted, of-goal, of-group, EntryAt, EntriesMeet}
 use Rattle.leftcorner.specs.ReadOff.{clash, entry-found}
 use Rattle.lalr.specs.Strings.{addString, addGroups, addRules, entryStrings, entryLines}

@@ -1,20 +1,20 @@
 -- The builder's lookaheads are the smallest: every table with its states that satisfies the inclusions has them.
-use Prim.Native.Nat.{ℕ, zero, suc, _+_, _*_, _≤_, _<_}
+use Prim.Native.Nat.{ℕ, zero, suc, _≤_}
 use native.Mathlib.Omega.{arith}
-use mathlib.Core.Path.{_≡_, refl, sym, ap, subst, _∙_}
+use mathlib.Core.Path.{_≡_, sym, ap, subst, _∙_}
 use mathlib.Core.Logic.{_⊎_, inl, inr}
 use mathlib.Core.List.{List, [], _∷_, _++_}
-use mathlib.Core.Option.{Option, some, none}
+use mathlib.Core.Option.{some}
 use lib.ListN.{length}
 use Rattle.language.specs.Grammar.{Grammar, Rule, at, ruleAt, concat}
-use Rattle.language.specs.Sentence.{In, here, there}
+use Rattle.language.specs.Sentence.{In}
 use Rattle.language.specs.GrammarLaws.{rule-range}
 use Rattle.leftcorner.specs.Table.{EntryLine, Action, Table, entryFrom, nextState, Goes}
 use Rattle.leftcorner.specs.Construction.{entryItem, EntryAt, KernelAt, ActionAt, MovedBy, moved, Carries, in-kernel, in-closure, to-move, LookaheadsMeet}
 use Rattle.leftcorner.specs.Closure.{has-of}
 use Rattle.lalr.specs.Strings.{entryStrings, entryLines}
 use Rattle.lalr.specs.EntryLaws.{goal-at, entry-at, entry-line, found-entry}
-use Rattle.lalr.specs.States.{Kernel, itemOf, dotOf, alone, kernelOf, goto, move}
+use Rattle.lalr.specs.States.{Kernel, itemOf, alone, kernelOf, goto}
 use Rattle.lalr.specs.Over.{goes-over}
 use Rattle.lalr.specs.Limits.{Limits}
 use Rattle.lalr.specs.MoveLaws.{move-only}
@@ -62,7 +62,8 @@ module _ (g : Grammar) (F : List ℕ → ℕ → ℕ → Type 0) (F? : (β : Lis
       not-moved k (moved h go) z = omega (arith, z)
       go : (q ≤ length (entryStrings g)) ⊎ Reached g q → ⊥
       go (inl h) = let x = in-one (subst (λ (z : Kernel). In (w .number) z) (entry-kernel g q (w .low) h) (w .stands)) in omega (arith, x, w .item, rule-range g j e .1, w .low)
-      go (inr c) = not-moved (kernelOf g (c .from)) (move-only g (kernelOf g (c .from)) (c .symbol) (w .number) (subst (λ (z : Kernel). In (w .number) z) (c .kernel) (w .stands))) (w .dot)
+      go (inr c) = not-moved (kernelOf g (c .from)) (move-only g (kernelOf g (c .from)) (c .symbol) (w .number)
+          (subst (λ (z : Kernel). In (w .number) z) (c .kernel) (w .stands))) (w .dot)
 
   -- another table with the book's entries, kernel sets and moves
   module _ (v : Table) (same : v .entries ≡ entryLines 1 (entryStrings g))
@@ -77,7 +78,8 @@ module _ (g : Grammar) (F : List ℕ → ℕ → ℕ → Type 0) (F? : (β : Lis
     entry-same zero e = e
     entry-same (suc j) e = ap (λ (l : List EntryLine). at l j) (built-entries g F F? first-codes F-in ∙ sym same) ∙ e
 
-    group-entry : (i : ℕ) {r : Rule} (δs : List (List ℕ)) (γ : List ℕ) (εs : List (List ℕ)) → ruleAt g i ≡ some r → r .groups ≡ δs ++ γ ∷ εs → EntryAt g v (entryOf g γ) (entryOf g γ) γ
+    group-entry : (i : ℕ) {r : Rule} (δs : List (List ℕ)) (γ : List ℕ) (εs : List (List ℕ)) → ruleAt g i ≡ some r → r .groups ≡ δs ++ γ ∷ εs
+        → EntryAt g v (entryOf g γ) (entryOf g γ) γ
     group-entry i δs γ εs e p = subst (λ (l : List EntryLine). EntryAt g v (entryFrom 1 l γ) (entryFrom 1 l γ) γ) same (found-entry g v same (group-wanted g i δs γ εs e p))
 
     wide-goal : Wide 1 (entryItem g (bare g) 1) zero zero

@@ -1,22 +1,21 @@
 -- What a grammar that was read and is within the builder's limits says of its items.
-use Prim.Native.Nat.{ℕ, zero, suc, _+_, _-_, _*_, _≤_, _<_}
+use Prim.Native.Nat.{ℕ, suc, _+_, _-_, _≤_, _<_}
 use native.Mathlib.Omega.{arith}
 use mathlib.Core.Path.{_≡_, refl, sym, ap, subst, _∙_}
 use mathlib.Core.Logic.{_⊎_, inl, inr}
 use mathlib.Core.Bool.{Bool, true, false, cond}
-use mathlib.Core.List.{List, [], _∷_, _++_}
+use mathlib.Core.List.{List, [], _∷_}
 use mathlib.Core.Option.{Option, some, none}
 use borrow.Author.Tests.{leb-false}
 use lib.Dec.{leb}
-use lib.ListN.{length, drop, length-append, length-drop}
-use Rattle.language.specs.Grammar.{Grammar, Rule, at, ruleAt, right, concat, IsTerminal, IsNonterminal}
+use lib.ListN.{length, length-append, length-drop}
+use Rattle.language.specs.Grammar.{Grammar, Rule, ruleAt, concat, IsTerminal, IsNonterminal}
 use Rattle.language.specs.Sentence.{In, here, there, Declared}
 use Rattle.language.specs.WellFormed as grammar
 use Rattle.language.specs.Member.{in-drop}
 use Rattle.language.specs.GrammarLaws.{rule-range}
 use Rattle.leftcorner.specs.Table.{EntryLine, E, Table, entryAt, stringOf, rightOf, symbolsOf, Goes}
 use Rattle.leftcorner.specs.Construction.{Wanted, of-goal, of-group, entryItem, EntryAt}
-use Rattle.leftcorner.specs.ReadOff.{clash}
 use Rattle.leftcorner.specs.ItemStrings.{symbols-declared}
 use Rattle.lalr.specs.Strings.{entryStrings, entryLines}
 use Rattle.lalr.specs.EntryLaws.{entry-line, entries-meet}

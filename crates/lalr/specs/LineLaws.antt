@@ -1,7 +1,7 @@
 -- The kernel lines of the book: an item of the state's kernel set each, with its lookaheads.
-use Prim.Native.Nat.{ℕ, zero, suc, _+_, _*_, _≤_, _<_}
+use Prim.Native.Nat.{ℕ, zero, suc, _+_, _≤_, _<_}
 use native.Mathlib.Omega.{arith}
-use mathlib.Core.Path.{_≡_, refl, sym, ap, ap₂, subst, _∙_}
+use mathlib.Core.Path.{_≡_, refl, sym, subst}
 use mathlib.Core.Logic.{_⊎_, inl, inr}
 use mathlib.Core.List.{List, [], _∷_, _++_}
 use lib.ListN.{length, getD}
@@ -9,11 +9,11 @@ use Rattle.language.specs.Grammar.{Grammar}
 use Rattle.language.specs.Sentence.{In, here, there}
 use Rattle.language.specs.Member.{in-cons, in-left, in-right}
 use Rattle.leftcorner.specs.Table.{KernelLine, K, Table}
-use Rattle.leftcorner.specs.Construction.{KernelAt, Has, in-kernel, in-closure, MovedBy, moved}
+use Rattle.leftcorner.specs.Construction.{KernelAt, Has, in-kernel, in-closure, MovedBy}
 use Rattle.lalr.specs.Strings.{entryStrings, entryLines}
-use Rattle.lalr.specs.States.{Kernel, itemOf, dotOf, range, keep, alone, states, kernelOf}
+use Rattle.lalr.specs.States.{Kernel, itemOf, dotOf, range, alone, states, kernelOf}
 use Rattle.lalr.specs.Lists.{in-range, range-in, RisingFrom, keep-only, keep-every, keep-rising}
-use Rattle.lalr.specs.Over.{has-over, moved-over}
+use Rattle.lalr.specs.Over.{moved-over}
 use Rattle.lalr.specs.MoveLaws.{alone-line, line-alone}
 use Rattle.lalr.specs.Lookaheads.{Lookahead}
 use Rattle.lalr.specs.LookaheadDecided.{lookahead?}
@@ -57,7 +57,8 @@ module _ (g : Grammar) (F : List ℕ → ℕ → ℕ → Type 0) (F? : (β : Lis
   pub code-every : (q x d : ℕ) → d ≤ g .terminals → Lookahead g F q (itemOf x) (dotOf x) d → In d (codes q x)
   unfolding codesAt
   code-every q x d l h =
-      keep-every (Lookahead g F q (itemOf x) (dotOf x)) (lookahead? g F F? first-codes F-in q (itemOf x) (dotOf x)) (in-range 0 (suc (g .terminals)) d (omega arith) (omega (arith, l))) h
+      keep-every (Lookahead g F q (itemOf x) (dotOf x)) (lookahead? g F F? first-codes F-in q (itemOf x) (dotOf x))
+          (in-range 0 (suc (g .terminals)) d (omega arith) (omega (arith, l))) h
 
   -- "Codes are the context, at least one, rising."
   pub codes-rising : (q x : ℕ) → RisingFrom 0 (codes q x)
@@ -146,12 +147,14 @@ module _ (g : Grammar) (F : List ℕ → ℕ → ℕ → Type 0) (F? : (β : Lis
   to-alone : (q i n : ℕ) (σ : List ℕ) → KernelAt g book q i n σ → (τ : List ℕ) × KernelAt g (alone g (kernelOf g q)) 1 i n τ
   to-alone q i n σ m =
       let l = line-of q i n σ m in
-      ([], subst (λ (z : ℕ). KernelAt g (alone g (kernelOf g q)) 1 z n []) (sym (l .item)) (subst (λ (z : ℕ). KernelAt g (alone g (kernelOf g q)) 1 (itemOf (l .number)) z []) (sym (l .dot)) (line-alone g (l .stands))))
+      ([], subst (λ (z : ℕ). KernelAt g (alone g (kernelOf g q)) 1 z n []) (sym (l .item))
+          (subst (λ (z : ℕ). KernelAt g (alone g (kernelOf g q)) 1 (itemOf (l .number)) z []) (sym (l .dot)) (line-alone g (l .stands))))
 
   from-alone : (q : ℕ) → 1 ≤ q → q ≤ length (states g) → (i n : ℕ) (σ : List ℕ) → KernelAt g (alone g (kernelOf g q)) 1 i n σ → (τ : List ℕ) × KernelAt g book q i n τ
   from-alone q l h i n σ m =
       let a = alone-line g m in
-      (codes q (a .0), subst (λ (z : ℕ). KernelAt g book q z n (codes q (a .0))) (sym (a .2)) (subst (λ (z : ℕ). KernelAt g book q (itemOf (a .0)) z (codes q (a .0))) (sym (a .3)) (of-line q (a .0) l h (a .1))))
+      (codes q (a .0), subst (λ (z : ℕ). KernelAt g book q z n (codes q (a .0))) (sym (a .2))
+          (subst (λ (z : ℕ). KernelAt g book q (itemOf (a .0)) z (codes q (a .0))) (sym (a .3)) (of-line q (a .0) l h (a .1))))
 
   pub moved-alone : {q X i n : ℕ} → MovedBy g book q X i n → MovedBy g (alone g (kernelOf g q)) 1 X i n
   moved-alone {q = q} m = moved-over g book (alone g (kernelOf g q)) same-entries q 1 (to-alone q) m

@@ -1,8 +1,8 @@
 -- Every kernel item has a lookahead: each rule of a nonterminal that is reached is held somewhere, is followed to its recognition
 -- point, and gives each of its groups' entries a code.
-use Prim.Native.Nat.{ℕ, zero, suc, _+_, _*_, _≤_, _<_}
+use Prim.Native.Nat.{ℕ, zero, suc, _≤_, _<_}
 use native.Mathlib.Omega.{arith}
-use mathlib.Core.Path.{_≡_, refl, sym, ap, subst, _∙_}
+use mathlib.Core.Path.{_≡_, refl, sym, ap, subst}
 use mathlib.Core.Logic.{_⊎_, inl, inr}
 use mathlib.Core.List.{List, [], _∷_, _++_}
 use mathlib.Core.Option.{Option, some}
@@ -20,7 +20,7 @@ use Rattle.leftcorner.specs.Sources.{IsItem, rule-item, entry-item, goes-of}
 use Rattle.leftcorner.specs.ItemStrings.{rest-declared}
 use Rattle.lalr.specs.Strings.{entryStrings}
 use Rattle.lalr.specs.EntryLaws.{goal-at, entry-at, entry-line, entry-number, one-entry, entries-meet, found-entry}
-use Rattle.lalr.specs.States.{Kernel, itemOf, dotOf, alone, states, kernelOf, goto, move}
+use Rattle.lalr.specs.States.{Kernel, itemOf, dotOf, alone, states, kernelOf, goto}
 use Rattle.lalr.specs.Over.{goes-over}
 use Rattle.lalr.specs.Limits.{Limits, declared}
 use Rattle.lalr.specs.MoveLaws.{alone-line, move-only}

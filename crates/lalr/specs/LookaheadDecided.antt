@@ -10,15 +10,15 @@ use mathlib.Core.Option.{some}
 use lib.ListN.{length, length-drop}
 use Rattle.language.specs.Grammar.{Grammar, Rule, ruleAt, concat}
 use Rattle.language.specs.Sentence.{In, here, there}
-use Rattle.language.specs.Member.{in-cons, in-left, in-right}
-use Rattle.leftcorner.specs.Table.{EntryLine, E, Table, sameString, entryFrom, symbolsOf, Goes}
+use Rattle.language.specs.Member.{in-left, in-right}
+use Rattle.leftcorner.specs.Table.{EntryLine, E, sameString, entryFrom, symbolsOf, Goes}
 use Rattle.leftcorner.specs.Construction.{entryItem}
 use Rattle.leftcorner.specs.ReadOff.{clash}
 use Rattle.verdict.specs.Tests.{map-dec, both?, either?, any?}
 use Rattle.verdict.specs.Reach.{Reach, seed, step, members}
-use Rattle.verdict.specs.Closure.{Spot, spot, Coded, coded, image-in, upto, in-upto, pairs, in-pairs, rule-less, Next, goes?, same-next, Added, Given, given?}
+use Rattle.verdict.specs.Closure.{Spot, spot, Coded, coded, image-in, upto, in-upto, pairs, in-pairs, rule-less, Next, goes?, same-next, Given, given?}
 use Rattle.verdict.specs.EntriesDecided.{rule-any?}
-use Rattle.lalr.specs.Strings.{entryStrings, entryLines}
+use Rattle.lalr.specs.Strings.{entryStrings}
 use Rattle.lalr.specs.EntryLaws.{lines-length}
 use Rattle.lalr.specs.States.{Kernel, find, move, states, kernelOf, goto}
 use Rattle.lalr.specs.Lookaheads.{bare, entryOf, Lookahead, of-goal, of-closure, of-move, of-group}
@@ -111,7 +111,8 @@ module _ (g : Grammar) (F : List ℕ → ℕ → ℕ → Type 0) (F? : (β : Lis
   unfoldable pub groups? : (i k d p j n c : ℕ) → Dec (Groups i k d p j n c)
   groups? i k d p j n c =
       rule-any? (ruleAt g i) _ (λ r. both? (ℕ-discrete k (length (r .before)))
-        (splits-any? (r .groups) (ToGroup d p j n c) (λ γ εs. both? (F? (concat εs) d c) (both? (ℕ-discrete p (entryOf g γ)) (both? (ℕ-discrete j (entryItem g (bare g) (entryOf g γ))) (ℕ-discrete n zero))))))
+        (splits-any? (r .groups) (ToGroup d p j n c) (λ γ εs. both? (F? (concat εs) d c)
+            (both? (ℕ-discrete p (entryOf g γ)) (both? (ℕ-discrete j (entryItem g (bare g) (entryOf g γ))) (ℕ-discrete n zero))))))
 
   unfoldable pub step? : (a b : Look) → Dec (Step a b)
   step? (look q i k d) (look p j n c) =
@@ -148,7 +149,8 @@ module _ (g : Grammar) (F : List ℕ → ℕ → ℕ → Type 0) (F? : (β : Lis
   inside (of-group {d = d} {c = c} i {r = r} δs γ εs e h p f) =
       let b = inside h in
       let n = entry-low 0 (bare g .entries) γ in
-      record { state = omega (arith, n, lines-length 1 (entryStrings g)); item = omega (arith, n, lines-length 1 (entryStrings g)); dot = omega arith; code = code-in (F-in (concat εs) d c f) (b .code) }
+      record { state = omega (arith, n, lines-length 1 (entryStrings g)); item = omega (arith, n, lines-length 1 (entryStrings g)); dot = omega arith
+             ; code = code-in (F-in (concat εs) d c f) (b .code) }
 
   unfoldable pub spotsOf : ℕ → List Spot
   spotsOf i = map (spot i) (upto (suc (length (symbolsOf g (bare g) i))))
@@ -163,7 +165,8 @@ module _ (g : Grammar) (F : List ℕ → ℕ → ℕ → Type 0) (F? : (β : Lis
   in-spots (suc m) i k l h = go (ℕ-discrete i m) (λ n. in-spots m i k n h)
     where
       go : Dec (i ≡ m) → (i < m → In (spot i k) (spotsBelow m)) → In (spot i k) (spotsOf m ++ spotsBelow m)
-      go (yes e) rec = in-left (spotsBelow m) (subst (λ (z : ℕ). In (spot i k) (spotsOf z)) e (image-in (spot i) k (upto (suc (length (symbolsOf g (bare g) i)))) (in-upto (suc (length (symbolsOf g (bare g) i))) k (omega (arith, h)))))
+      go (yes e) rec = in-left (spotsBelow m) (subst (λ (z : ℕ). In (spot i k) (spotsOf z)) e
+          (image-in (spot i) k (upto (suc (length (symbolsOf g (bare g) i)))) (in-upto (suc (length (symbolsOf g (bare g) i))) k (omega (arith, h)))))
       go (no f) rec = in-right (spotsOf m) (rec (omega (arith, l, f)))
 
   unfoldable pub looks : List Look
@@ -172,14 +175,16 @@ module _ (g : Grammar) (F : List ℕ → ℕ → ℕ → Type 0) (F? : (β : Lis
   in-looks : {q i k d : ℕ} → Inside q i k d → In (look q i k d) looks
   unfolding looks
   in-looks {q = q} {i = i} {k = k} {d = d} b =
-      in-pairs with-state q (coded i k d) (upto (suc lastState)) (pairs with-code (spotsBelow (suc lastItem)) (0 ∷ first-codes)) (in-upto (suc lastState) q (omega (arith, b .state)))
+      in-pairs with-state q (coded i k d) (upto (suc lastState)) (pairs with-code (spotsBelow (suc lastItem)) (0 ∷ first-codes))
+          (in-upto (suc lastState) q (omega (arith, b .state)))
         (in-pairs with-code (spot i k) d (spotsBelow (suc lastItem)) (0 ∷ first-codes) (in-spots (suc lastItem) i k (omega (arith, b .item)) (b .dot)) (b .code))
 
   -- ---- the same family
 
   same-look : {q i k d p j n c : ℕ} → q ≡ p → i ≡ j → k ≡ n → d ≡ c → Lookahead g F q i k d → Lookahead g F p j n c
   same-look {i = i} {k = k} {d = d} {p = p} {j = j} {n = n} a b c e h =
-      subst (λ (z : ℕ). Lookahead g F p j n z) e (subst (λ (z : ℕ). Lookahead g F p j z d) c (subst (λ (z : ℕ). Lookahead g F p z k d) b (subst (λ (z : ℕ). Lookahead g F z i k d) a h)))
+      subst (λ (z : ℕ). Lookahead g F p j n z) e (subst (λ (z : ℕ). Lookahead g F p j z d) c
+          (subst (λ (z : ℕ). Lookahead g F p z k d) b (subst (λ (z : ℕ). Lookahead g F z i k d) a h)))
 
   one-step : (q i k d p j n c : ℕ) → Lookahead g F q i k d → Step (look q i k d) (look p j n c) → Lookahead g F p j n c
   one-step q i k d p j n c h (inl s) =
@@ -208,7 +213,8 @@ module _ (g : Grammar) (F : List ℕ → ℕ → ℕ → Type 0) (F? : (β : Lis
   pub look-reach : {q i k d : ℕ} → Lookahead g F q i k d → Reach Seed Step (look q i k d)
   look-reach of-goal = seed {a = look 1 (entryItem g (bare g) 1) zero zero} (refl, (refl, (refl, refl)))
   look-reach (of-closure {q = q} {i = i} {k = k} {d = d} {X = X} j {c = c} {β = β} {r = r} h go e l f) =
-      step {a = look q i k d} {b = look q j zero c} (look-reach h) (inl (record { added = record { symbol = X; rest = β; by = r; goes = go; is = e; of = l }; first = f }, (refl, refl)))
+      step {a = look q i k d} {b = look q j zero c} (look-reach h)
+        (inl (record { added = record { symbol = X; rest = β; by = r; goes = go; is = e; of = l }; first = f }, (refl, refl)))
   look-reach (of-move {q = q} {i = i} {k = k} {d = d} {X = X} {β = β} h go) =
       step {a = look q i k d} {b = look (goto g q X) i (suc k) d} (look-reach h) (inr (inl (X, β, go, (refl, (refl, (refl, refl))))))
   look-reach (of-group {q = q} {d = d} {c = c} i {r = r} δs γ εs e h p f) =
@@ -225,12 +231,15 @@ module _ (g : Grammar) (F : List ℕ → ℕ → ℕ → Type 0) (F? : (β : Lis
 
   unfoldable pub lookahead? : (q i k d : ℕ) → Dec (Lookahead g F q i k d)
   unfolding allLooks
-  lookahead? q i k d = map-dec (λ h. from (h .0) (h .1) (h .2)) (λ h. (look q i k d, members Seed Step seed? step? looks stays-inside .every (look q i k d) (look-reach h), refl)) (any? (λ (a : Look). a ≡ look q i k d) same? allLooks)
+  lookahead? q i k d = map-dec (λ h. from (h .0) (h .1) (h .2))
+      (λ h. (look q i k d, members Seed Step seed? step? looks stays-inside .every (look q i k d) (look-reach h), refl))
+          (any? (λ (a : Look). a ≡ look q i k d) same? allLooks)
     where
       from : (a : Look) → In a allLooks → a ≡ look q i k d → Lookahead g F q i k d
       from a m e = reach-look a (members Seed Step seed? step? looks stays-inside .only a m) q i k d e
       same? : (a : Look) → Dec (a ≡ look q i k d)
       same? (look p j n c) =
-          map-dec (λ h. ap (λ (x : ℕ). look x j n c) (h .0) ∙ ap (λ (x : ℕ). look q x n c) (h .1 .0) ∙ ap (λ (x : ℕ). look q i x c) (h .1 .1 .0) ∙ ap (λ (x : ℕ). look q i k x) (h .1 .1 .1))
+          map-dec (λ h. ap (λ (x : ℕ). look x j n c) (h .0) ∙ ap (λ (x : ℕ). look q x n c) (h .1 .0)
+              ∙ ap (λ (x : ℕ). look q i x c) (h .1 .1 .0) ∙ ap (λ (x : ℕ). look q i k x) (h .1 .1 .1))
             (λ e. (let a : p ≡ q = cc in a, (let a : j ≡ i = cc in a, (let a : n ≡ k = cc in a, let a : c ≡ d = cc in a))))
             (both? (ℕ-discrete p q) (both? (ℕ-discrete j i) (both? (ℕ-discrete n k) (ℕ-discrete c d))))

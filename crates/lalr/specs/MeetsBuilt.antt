@@ -1,30 +1,29 @@
 -- The book that the builder writes meets the construction, where no cell would hold two actions.
-use Prim.Native.Nat.{ℕ, zero, suc, _+_, _*_, _≤_, _<_}
+use Prim.Native.Nat.{ℕ, zero, suc, _+_, _*_, _≤_}
 use native.Mathlib.Omega.{arith}
-use native.Mathlib.Decide.{decLe}
 use mathlib.Core.Path.{_≡_, refl, sym, ap, subst, _∙_}
 use mathlib.Core.Logic.{_⊎_, inl, inr}
-use mathlib.Core.List.{List, [], _∷_, _++_}
-use mathlib.Core.Option.{Option, some, none}
+use mathlib.Core.List.{List}
+use mathlib.Core.Option.{some}
 use lib.ListN.{length}
-use Rattle.language.specs.Grammar.{Grammar, Rule, at, ruleAt, concat, IsNonterminal}
-use Rattle.language.specs.Sentence.{In, here, there, Reachable}
+use Rattle.language.specs.Grammar.{Grammar, at, IsNonterminal}
+use Rattle.language.specs.Sentence.{In, here, Reachable}
 use Rattle.language.specs.Strings.{AllDeclared}
-use Rattle.leftcorner.specs.Table.{EntryLine, Action, S, N, A, P, Table, nextState, Goes}
-use Rattle.leftcorner.specs.Construction.{forget, entryItem, EntryAt, KernelAt, ActionAt, MovedBy, moved, Carries, Asked, to-move, ItemsMeet, LookaheadsMeet, CellsAgree, CellsMeet, MeetsWith}
+use Rattle.leftcorner.specs.Table.{EntryLine, Action, Table, nextState}
+use Rattle.leftcorner.specs.Construction.{forget, entryItem, EntryAt, KernelAt, ActionAt, MovedBy, Carries, Asked, to-move, ItemsMeet, LookaheadsMeet, CellsAgree, CellsMeet, MeetsWith}
 use Rattle.lalr.specs.Strings.{entryStrings, entryLines}
 use Rattle.lalr.specs.EntryLaws.{entry-line, entry-number, entries-meet}
-use Rattle.lalr.specs.States.{Kernel, itemOf, dotOf, alone, states, kernelOf, goto, move}
+use Rattle.lalr.specs.States.{Kernel, itemOf, dotOf, alone, states, kernelOf, goto}
 use Rattle.lalr.specs.Over.{goes-over, moved-over, carries-over}
 use Rattle.lalr.specs.Limits.{Limits}
 use Rattle.lalr.specs.MoveLaws.{item-of, dot-of, in-move, move-only, moved-dot}
 use Rattle.lalr.specs.StateLaws.{more-states, entry-kernel, Reached, entry-or, Goto, goes-to}
 use Rattle.lalr.specs.Lookaheads as look
 use Rattle.lalr.specs.Lookaheads.{bare, entryOf, Lookahead}
-use Rattle.lalr.specs.LineLaws.{book, codes, same-entries, code-every, of-line, moved-alone, alone-moved}
+use Rattle.lalr.specs.LineLaws.{book, codes, code-every, of-line, moved-alone, alone-moved}
 use Rattle.lalr.specs.Carried.{looked, look-low}
 use Rattle.lalr.specs.Live.{in-one}
-use Rattle.lalr.specs.CellLaws.{cell, goesTo, move-next, cell-asked, cell-moves, cell-some, cell-move}
+use Rattle.lalr.specs.CellLaws.{goesTo, move-next, cell-asked, cell-moves, cell-some, cell-move}
 use Rattle.lalr.specs.BuiltForm.{b, states-both, built-entries, entries-both, to-built, from-built, asked-built, built-asked, built-line, action-is, is-action, asked-place, asked-moved, entry-of, built-form}
 
 module _ (g : Grammar) (F : List ℕ → ℕ → ℕ → Type 0) (F? : (β : List ℕ) (d c : ℕ) → Dec (F β d c)) (first-codes : List ℕ)
@@ -43,7 +42,8 @@ module _ (g : Grammar) (F : List ℕ → ℕ → ℕ → Type 0) (F? : (β : Lis
   kernel-line : (q x i n : ℕ) → 1 ≤ q → q ≤ length (states g) → In x (kernelOf g q) → itemOf x ≡ i → dotOf x ≡ n → (σ : List ℕ) × KernelAt g u q i n σ
   kernel-line q x i n l h m a c =
       let σ = codes g F F? first-codes F-in q x in
-      (σ, to-built g F F? first-codes F-in q i n σ (subst (λ (z : ℕ). KernelAt g t q i z σ) c (subst (λ (z : ℕ). KernelAt g t q z (dotOf x) σ) a (of-line g F F? first-codes F-in q x l h m))))
+      (σ, to-built g F F? first-codes F-in q i n σ (subst (λ (z : ℕ). KernelAt g t q i z σ) c
+          (subst (λ (z : ℕ). KernelAt g t q z (dotOf x) σ) a (of-line g F F? first-codes F-in q x l h m))))
 
   pub entry-has : (k q : ℕ) (γ : List ℕ) → EntryAt g u k q γ → (σ : List ℕ) × KernelAt g u q (entryItem g u k) zero σ
   entry-has k q γ e =
@@ -86,7 +86,8 @@ module _ (g : Grammar) (F : List ℕ → ℕ → ℕ → Type 0) (F? : (β : Lis
       let v = moved-alone g F F? first-codes F-in (to-items m) in
       let d = moved-dot g L (kernelOf g q) v in
       let z = y .goes in
-      let r = kernel-line (goto g q X) (i * 16 + n) i n (z .low) (z .high) (subst (λ (k : Kernel). In (i * 16 + n) k) (sym (z .kernel)) (in-move g L (kernelOf g q) v)) (item-of i n d) (dot-of i n d) in
+      let r = kernel-line (goto g q X) (i * 16 + n) i n (z .low) (z .high)
+          (subst (λ (k : Kernel). In (i * 16 + n) k) (sym (z .kernel)) (in-move g L (kernelOf g q) v)) (item-of i n d) (dot-of i n d) in
       (r .0, subst (λ (p : ℕ). KernelAt g u p i n (r .0)) (sym (y .next-is)) (r .1))
 
   moves-only : (q X s : ℕ) (x : Action) → ActionAt g u q X x → nextState x ≡ some s → (j m : ℕ) (σ : List ℕ) → KernelAt g u s j m σ → MovedBy g u q X j m
@@ -95,12 +96,14 @@ module _ (g : Grammar) (F : List ℕ → ℕ → ℕ → Type 0) (F? : (β : Lis
       let w = built-line g F F? first-codes F-in s j m σ h in
       let v = move-only g (kernelOf g q) X (w .number) (subst (λ (k : Kernel). In (w .number) k) (ap (kernelOf g) (y .next-is) ∙ y .goes .kernel) (w .stands)) in
       from-items (alone-moved g F F? first-codes F-in (y .low) (y .high)
-        (subst (λ (z : ℕ). MovedBy g (alone g (kernelOf g q)) 1 X z m) (sym (w .item)) (subst (λ (z : ℕ). MovedBy g (alone g (kernelOf g q)) 1 X (itemOf (w .number)) z) (sym (w .dot)) v)))
+        (subst (λ (z : ℕ). MovedBy g (alone g (kernelOf g q)) 1 X z m) (sym (w .item))
+            (subst (λ (z : ℕ). MovedBy g (alone g (kernelOf g q)) 1 X (itemOf (w .number)) z) (sym (w .dot)) v)))
 
   named : (q : ℕ) → 1 ≤ q → q ≤ u .states → ((k : ℕ) × (γ : List ℕ) × EntryAt g u k q γ) ⊎ ((p : ℕ) × (X : ℕ) × (x : Action) × ActionAt g u p X x × (nextState x ≡ some q))
   named q l h = go (entry-or g q (omega (arith, h, states-both g F F? first-codes F-in)))
     where
-      go : (q ≤ length (entryStrings g)) ⊎ Reached g q → ((k : ℕ) × (γ : List ℕ) × EntryAt g u k q γ) ⊎ ((p : ℕ) × (X : ℕ) × (x : Action) × ActionAt g u p X x × (nextState x ≡ some q))
+      go : (q ≤ length (entryStrings g)) ⊎ Reached g q
+          → ((k : ℕ) × (γ : List ℕ) × EntryAt g u k q γ) ⊎ ((p : ℕ) × (X : ℕ) × (x : Action) × ActionAt g u p X x × (nextState x ≡ some q))
       go (inl e) = let r = entry-of g F F? first-codes F-in L codes-low q l e in inl (q, r .0, r .1)
       go (inr r) =
           let p = r .from in
@@ -108,7 +111,8 @@ module _ (g : Grammar) (F : List ℕ → ℕ → ℕ → Type 0) (F? : (β : Lis
           let hp : p ≤ length (states g) = omega (arith, r .earlier, h, states-both g F F? first-codes F-in) in
           let m = alone-moved g F F? first-codes F-in (r .low) hp (move-only g (kernelOf g p) X (r .some-item .0) (r .some-item .1)) in
           let x = asked-place g F F? first-codes F-in L codes-low (to-move m) in
-          inr (p, X, goesTo g F F? first-codes F-in p X, is-action g F F? first-codes F-in p X (goesTo g F F? first-codes F-in p X) (r .low) hp (x .2) (cell-move g F F? first-codes F-in p X (to-move m)),
+          inr (p, X, goesTo g F F? first-codes F-in p X, is-action g F F? first-codes F-in p X (goesTo g F F? first-codes F-in p X) (r .low) hp (x .2)
+              (cell-move g F F? first-codes F-in p X (to-move m)),
                move-next g F F? first-codes F-in p X ∙ ap (λ (z : ℕ). some z) (r .back))
 
   pub built-items : (q : ℕ) → ItemsMeet g u q
@@ -141,8 +145,10 @@ module _ (g : Grammar) (F : List ℕ → ℕ → ℕ → Type 0) (F? : (β : Lis
         let z : entryOf g γ ≡ q = entry-number g (bare g) refl k (bare-entry k e) ∙ sym (entry-line g u same k e .0) in
         let w : entryOf g γ ≡ k = entry-number g (bare g) refl k (bare-entry k e) in
         in-codes q (entryItem g u k) zero c σ m
-          (subst (λ (n : ℕ). Lookahead g F q (entryItem g (bare g) n) zero c) w (subst (λ (n : ℕ). Lookahead g F n (entryItem g (bare g) (entryOf g γ)) zero c) z (look.of-group i δs γ εs re (looks h) ge f)))
-    ; of-goal = λ γ σ e m. in-codes q (entryItem g u 1) zero 0 σ m (subst (λ (n : ℕ). Lookahead g F n (entryItem g (bare g) 1) zero zero) (sym (entry-line g u same 1 e .0)) look.of-goal) }
+          (subst (λ (n : ℕ). Lookahead g F q (entryItem g (bare g) n) zero c) w
+              (subst (λ (n : ℕ). Lookahead g F n (entryItem g (bare g) (entryOf g γ)) zero c) z (look.of-group i δs γ εs re (looks h) ge f)))
+    ; of-goal = λ γ σ e m. in-codes q (entryItem g u 1) zero 0 σ m
+        (subst (λ (n : ℕ). Lookahead g F n (entryItem g (bare g) 1) zero zero) (sym (entry-line g u same 1 e .0)) look.of-goal) }
     where
       bare-entry : (k : ℕ) {s : ℕ} {γ : List ℕ} → EntryAt g u k s γ → EntryAt g (bare g) k s γ
       bare-entry zero e = e

@@ -1,21 +1,17 @@
 -- The moves of a kernel set: exactly the moved items, rising.
-use Prim.Native.Nat.{ℕ, zero, suc, _+_, _*_, _/_, _%_, _≤_, _<_}
+use Prim.Native.Nat.{ℕ, _+_, _*_, _≤_, _<_}
 use native.Mathlib.Omega.{arith}
-use mathlib.Core.Path.{_≡_, refl, sym, ap, ap₂, subst, _∙_}
-use mathlib.Core.Logic.{_⊎_, inl, inr}
-use mathlib.Core.List.{List, [], _∷_}
-use lib.ListN.{length}
+use mathlib.Core.Path.{_≡_, refl, sym, subst}
+use mathlib.Core.List.{List, []}
 use Rattle.language.specs.Grammar.{Grammar}
-use Rattle.language.specs.Sentence.{In, here, there}
+use Rattle.language.specs.Sentence.{In}
 use Rattle.language.specs.WellFormed as grammar
 use Rattle.language.specs.Member.{in-map}
-use Rattle.leftcorner.specs.Table.{KernelLine, K, Table, Goes}
 use Rattle.leftcorner.specs.Construction.{KernelAt, MovedBy, moved}
 use Rattle.verdict.specs.ItemsDecided.{moved?}
 use Rattle.verdict.specs.Closure.{image-in}
-use Rattle.lalr.specs.Strings.{entryStrings}
-use Rattle.lalr.specs.States.{Kernel, itemOf, dotOf, range, keep, kernelLine, alone, move}
-use Rattle.lalr.specs.Lists.{in-range, range-in, RisingFrom, keep-only, keep-every, keep-rising}
+use Rattle.lalr.specs.States.{Kernel, itemOf, dotOf, range, kernelLine, alone, move}
+use Rattle.lalr.specs.Lists.{in-range, RisingFrom, keep-only, keep-every, keep-rising}
 use Rattle.lalr.specs.Limits.{Limits, bounded, code-low}
 
 -- an item with its dot as a number, and back
@@ -62,7 +58,8 @@ module _ (g : Grammar) where
     in-move k {X = X} {i = i} {n = n} m =
         let s = small k m in
         let x = i * 16 + n in
-        keep-every (λ x. MovedBy g (alone g k) 1 X (itemOf x) (dotOf x)) (λ x. moved? g (alone g k) 1 X (itemOf x) (dotOf x)) (in-range 0 4096 x (omega arith) (omega (arith, s .number)))
+        keep-every (λ x. MovedBy g (alone g k) 1 X (itemOf x) (dotOf x)) (λ x. moved? g (alone g k) 1 X (itemOf x) (dotOf x))
+            (in-range 0 4096 x (omega arith) (omega (arith, s .number)))
           (subst (λ (z : ℕ). MovedBy g (alone g k) 1 X z (dotOf x)) (sym (item-of i n (s .dot))) (subst (λ (z : ℕ). MovedBy g (alone g k) 1 X i z) (sym (dot-of i n (s .dot))) m))
 
     -- the dot is below 16

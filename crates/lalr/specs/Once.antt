@@ -1,5 +1,5 @@
 -- No line of the book stands twice: no entry string, no state, item and dot, no state and symbol.
-use Prim.Native.Nat.{ℕ, zero, suc, _+_, _/_, _%_, _≤_, _<_}
+use Prim.Native.Nat.{ℕ, zero, suc, _/_, _%_, _≤_, _<_}
 use native.Mathlib.Omega.{arith}
 use mathlib.Core.Path.{_≡_, refl, sym, ap, subst, _∙_}
 use mathlib.Core.Logic.{_⊎_, inl, inr}
@@ -14,8 +14,8 @@ use Rattle.lalr.specs.Strings.{entryLines}
 use Rattle.lalr.specs.Distinct.{Distinct}
 use Rattle.lalr.specs.States.{Kernel, itemOf, dotOf, range, total}
 use Rattle.lalr.specs.Lists.{range-in, RisingFrom}
-use Rattle.lalr.specs.Built.{linesOf, allLines, lineIf, actionsOn, actionsOf}
-use Rattle.lalr.specs.LineLaws.{in-either, lines, allOf, Of, lines-in, all-in}
+use Rattle.lalr.specs.Built.{lineIf, actionsOn, actionsOf}
+use Rattle.lalr.specs.LineLaws.{in-either, lines, allOf, lines-in, all-in}
 use Rattle.lalr.specs.CellLaws.{cell, on-in, of-in}
 
 -- no two of a list are related
@@ -77,7 +77,8 @@ module _ (g : Grammar) (F : List ℕ → ℕ → ℕ → Type 0) (F? : (β : Lis
           omega (arith, rising-in (suc x) k y (r .1) (w .stands), a, c)
       split i n τ e f (inr m) = off i n τ m
       apart : (y : KernelLine) → In y (lines g F F? first-codes F-in q k ++ rest) → SameItem (K q (itemOf x) (dotOf x) []) y → ⊥
-      apart (K p i n τ) m e = split i n τ (e .1) (e .2) (in-either (lines g F F? first-codes F-in q k) (subst (λ (z : ℕ). In (K z i n τ) (lines g F F? first-codes F-in q k ++ rest)) (sym (e .0)) m))
+      apart (K p i n τ) m e = split i n τ (e .1) (e .2) (in-either (lines g F F? first-codes F-in q k)
+          (subst (λ (z : ℕ). In (K z i n τ) (lines g F F? first-codes F-in q k ++ rest)) (sym (e .0)) m))
 
   pub kernels-once : (a : ℕ) (ks : List Kernel) → ((j : ℕ) → j < length ks → RisingFrom 0 (getD ks j [])) → Once SameItem (allOf g F F? first-codes F-in a ks)
   kernels-once a [] r = tt

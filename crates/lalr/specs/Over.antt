@@ -1,14 +1,14 @@
 -- What a table's items are, and what they hold, depends on its entries and kernel lines alone.
 use Prim.Native.Nat.{ℕ, zero, suc, _-_}
-use mathlib.Core.Path.{_≡_, refl, sym, ap, subst, _∙_}
+use mathlib.Core.Path.{_≡_, refl, sym, ap, _∙_}
 use mathlib.Core.Bool.{cond}
-use mathlib.Core.List.{List, _∷_}
-use mathlib.Core.Option.{Option, some}
+use mathlib.Core.List.{List}
+use mathlib.Core.Option.{Option}
 use lib.Dec.{leb}
 use lib.ListN.{length, drop}
 use Rattle.language.specs.Grammar.{Grammar, at, ruleAt}
-use Rattle.leftcorner.specs.Table.{EntryLine, E, Action, Table, entryAt, stringOf, rightOf, symbolsOf, Goes}
-use Rattle.leftcorner.specs.Construction.{EntryAt, KernelAt, Has, in-kernel, in-closure, MovedBy, moved, Carries, Asked, to-move, to-announce, to-pop, CellsAgree}
+use Rattle.leftcorner.specs.Table.{EntryLine, Action, Table, entryAt, stringOf, rightOf, symbolsOf, Goes}
+use Rattle.leftcorner.specs.Construction.{KernelAt, Has, in-kernel, in-closure, MovedBy, moved, Carries, Asked, to-move, to-announce, to-pop}
 
 module _ (g : Grammar) (t u : Table) (same : t .entries ≡ u .entries) where
   entry-over : (n : ℕ) → entryAt t n ≡ entryAt u n

@@ -1,28 +1,25 @@
 -- The lines of the book are as a table reader asks, line by line: their figures, their order and what they name.
-use Prim.Native.Nat.{ℕ, zero, suc, _+_, _*_, _≤_, _<_}
+use Prim.Native.Nat.{ℕ, suc, _+_, _≤_}
 use native.Mathlib.Omega.{arith}
 use mathlib.Core.Path.{_≡_, refl, sym, ap, subst, _∙_}
 use mathlib.Core.Logic.{_⊎_, inl, inr}
-use mathlib.Core.Bool.{Bool, true, false, cond}
 use mathlib.Core.List.{List, [], _∷_}
-use mathlib.Core.Option.{Option, some, none}
-use lib.ListN.{length, getD}
-use Rattle.language.specs.Grammar.{Grammar, Rule, at, ruleAt, concat, IsTerminal, IsNonterminal}
-use Rattle.language.specs.Sentence.{In, here, there, Reachable}
+use mathlib.Core.Option.{some}
+use lib.ListN.{length}
+use Rattle.language.specs.Grammar.{Grammar, Rule, ruleAt, concat, IsTerminal, IsNonterminal}
+use Rattle.language.specs.Sentence.{In, here, there}
 use Rattle.language.specs.GrammarLaws.{rule-range}
 use Rattle.language.specs.Strings.{AllDeclared}
-use Rattle.leftcorner.specs.Table.{EntryLine, E, Action, S, N, A, P, Table, symbolsOf, nextState}
+use Rattle.leftcorner.specs.Table.{E, Action, S, N, A, P, Table, symbolsOf, nextState}
 use Rattle.leftcorner.specs.Construction.{Wanted, of-goal, of-group, EntryAt, KernelAt, ActionAt, MovedBy, moved, Asked, to-announce, to-pop, WellFormed}
-use Rattle.leftcorner.specs.Closure.{has-of}
-use Rattle.leftcorner.specs.ReadOff.{clash}
 use Rattle.leftcorner.specs.ItemStrings.{wanted-declared}
 use Rattle.lalr.specs.Strings.{entryStrings, entryLines}
 use Rattle.lalr.specs.Distinct.{in-at}
 use Rattle.lalr.specs.EntryLaws.{goal-at, some-entry, strings-distinct, entry-at, entry-line, lines-length}
-use Rattle.lalr.specs.States.{Kernel, itemOf, dotOf, range, alone, states, kernelOf, goto, move, total}
+use Rattle.lalr.specs.States.{Kernel, itemOf, dotOf, alone, states, kernelOf, total}
 use Rattle.lalr.specs.Lists.{RisingFrom}
 use Rattle.lalr.specs.Over.{symbols-over}
-use Rattle.lalr.specs.Limits.{Limits, declared, bounded, wanted-short, Bounded}
+use Rattle.lalr.specs.Limits.{Limits, declared, bounded, wanted-short}
 use Rattle.lalr.specs.MoveLaws.{move-only}
 use Rattle.lalr.specs.StateLaws.{more-states, entry-kernel, kernels-rising, Reached, entry-or}
 use Rattle.lalr.specs.Built.{items, built}
@@ -31,7 +28,7 @@ use Rattle.lalr.specs.Carried.{looked, look-low}
 use Rattle.lalr.specs.Live.{in-one}
 use Rattle.lalr.specs.CellLaws.{cell-asked}
 use Rattle.lalr.specs.Once.{Once, SameEntry, SameItem, SameCell, entries-once, kernels-once, kernels-count, actions-once}
-use Rattle.lalr.specs.BuiltForm.{b, built-entries, states-both, built-line, action-is, built-form}
+use Rattle.lalr.specs.BuiltForm.{b, built-entries, states-both, built-line, action-is}
 use Rattle.lalr.specs.MeetsBuilt.{entry-has, target}
 
 -- "at least one symbol", at most 15, each declared
@@ -168,7 +165,8 @@ module _ (g : Grammar) (F : List ℕ → ℕ → ℕ → Type 0) (F? : (β : Lis
   popped : (X n : ℕ) {q : ℕ} → Asked g t F q X (P n) → Names g u X (P n)
   popped X n (to-pop k {γ = γ} e h) =
       let w = entry-line g t (same-entries g F F? first-codes F-in) k e in
-      (look-low g F F? first-codes F-in L codes-low (looked g F F? first-codes F-in h), let s = wanted-short g (L .formed) t (same-entries g F F? first-codes F-in) (w .3) in omega (arith, s))
+      let s = wanted-short g (L .formed) t (same-entries g F F? first-codes F-in) (w .3) in
+      (look-low g F F? first-codes F-in L codes-low (looked g F F? first-codes F-in h), omega (arith, s))
 
   names : (q X : ℕ) (x : Action) → ActionAt g u q X x → Names g u X x
   names q X (S s) a = let n = next-state q X s (S s) a refl in (R .shift-kind q X s a, n .0, n .1)

@@ -7,15 +7,14 @@ use mathlib.Core.Logic.{_⊎_, inl, inr}
 use mathlib.Core.List.{List, [], _∷_}
 use lib.ListN.{length, getD}
 use Rattle.language.specs.Grammar.{Grammar}
-use Rattle.language.specs.Sentence.{In, here, there}
+use Rattle.language.specs.Sentence.{In, here}
 use Rattle.language.specs.Member.{in-cons}
-use Rattle.leftcorner.specs.ReadOff.{clash}
 use Rattle.leftcorner.specs.Construction.{MovedBy}
 use Rattle.lalr.specs.Strings.{entryStrings}
 use Rattle.lalr.specs.Distinct.{Distinct, kept, longer}
-use Rattle.lalr.specs.States.{Kernel, itemOf, dotOf, find, range, alone, move, entryKernels, states, kernelOf, goto}
+use Rattle.lalr.specs.States.{Kernel, find, alone, move, entryKernels, states, kernelOf, goto}
 use Rattle.lalr.specs.Lists.{RisingFrom}
-use Rattle.lalr.specs.Discovery.{Fits, Target, Came, Found, states-found, find-is, find-at}
+use Rattle.lalr.specs.Discovery.{Target, Found, states-found, find-is, find-at}
 use Rattle.lalr.specs.Limits.{Limits}
 use Rattle.lalr.specs.MoveLaws.{move-rising, in-move, moved-symbol}
 
@@ -24,13 +23,15 @@ module _ (g : Grammar) where
   kernels-in a [] k m = elim m [ ]
   kernels-in a (γ ∷ l) k m = go (in-cons m) (kernels-in (suc a) l k)
     where
-      go : (k ≡ a * 16 ∷ []) ⊎ In k (entryKernels g (suc a) l) → (In k (entryKernels g (suc a) l) → (m : ℕ) × (suc a ≤ m) × (k ≡ m * 16 ∷ [])) → (m : ℕ) × (a ≤ m) × (k ≡ m * 16 ∷ [])
+      go : (k ≡ a * 16 ∷ []) ⊎ In k (entryKernels g (suc a) l) → (In k (entryKernels g (suc a) l) → (m : ℕ) × (suc a ≤ m) × (k ≡ m * 16 ∷ []))
+          → (m : ℕ) × (a ≤ m) × (k ≡ m * 16 ∷ [])
       go (inl e) rec = (a, omega arith, e)
       go (inr n) rec = let r = rec n in (r .0, omega (arith, r .1), r .2)
 
   kernels-distinct : (a : ℕ) (l : List (List ℕ)) → Distinct (entryKernels g a l)
   kernels-distinct a [] = tt
-  kernels-distinct a (γ ∷ l) = (λ m. let r = kernels-in (suc a) l (a * 16 ∷ []) m in let e = r .2 in let z : a * 16 ≡ r .0 * 16 = cc in omega (arith, z, r .1), kernels-distinct (suc a) l)
+  kernels-distinct a (γ ∷ l) =
+      (λ m. let r = kernels-in (suc a) l (a * 16 ∷ []) m in let e = r .2 in let z : a * 16 ≡ r .0 * 16 = cc in omega (arith, z, r .1), kernels-distinct (suc a) l)
 
   kernels-length : (a : ℕ) (l : List (List ℕ)) → length (entryKernels g a l) ≡ length l
   kernels-length a [] = refl
