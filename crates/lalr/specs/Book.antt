@@ -33,12 +33,12 @@ module _ (g : Grammar) (F : List ℕ → ℕ → ℕ → Type 0) (F? : (β : Lis
   abbrev pub afterLimits : ℕ → Reply
   afterLimits room =
       first-of Conflict (lowest (CellsAgree g (items g F F? first-codes F-in) F) (agree? g (items g F F? first-codes F-in) F F? first-codes F-in)
-          (suc (length (states g)))) (afterConflicts room)
+      (suc (length (states g)))) (afterConflicts room)
 
   unfoldable pub buildReply : ℕ → Reply
   buildReply room =
       cond (ltb 127 (length (entryStrings g))) (refused LimitExceeded 0)
-        (cond (ltb 255 (length (states g))) (refused LimitExceeded 0) (cond (ltb 1023 (total (states g))) (refused LimitExceeded 0) (afterLimits room)))
+      (cond (ltb 255 (length (states g))) (refused LimitExceeded 0) (cond (ltb 1023 (total (states g))) (refused LimitExceeded 0) (afterLimits room)))
 
   -- "After a refusal every output slice is zeros [..] After success a [..] book is followed by zeros."
   abbrev pub written : ℕ → Reply → List ℕ

@@ -92,10 +92,11 @@ module _ (g : Grammar) (F : List ℕ → ℕ → ℕ → Type 0) (F? : (β : Lis
       go true y z a c d = out (λ w. omega (arith, w .few-entries, ltb-true 127 (length (entryStrings g)) a))
       go false true z a c d = out (λ w. omega (arith, w .few-states, ltb-true 255 (length (states g)) c))
       go false false true a c d = out (λ w. omega (arith, w .few-lines, ltb-true 1023 (total (states g)) d))
-      go false false false a c d = into (record
-        { few-entries = ltb-false 127 (length (entryStrings g)) a
-        ; few-states = ltb-false 255 (length (states g)) c
-        ; few-lines = ltb-false 1023 (total (states g)) d })
+      go false false false a c d = into (record {
+        few-entries = ltb-false 127 (length (entryStrings g)) a;
+        few-states = ltb-false 255 (length (states g)) c;
+        few-lines = ltb-false 1023 (total (states g)) d;
+      })
 
   -- "2 for entries, states and kernel lines"
   pub refuses-many : (room : ℕ) → (Within g → ⊥) → reply room ≡ refused LimitExceeded 0

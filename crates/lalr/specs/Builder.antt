@@ -82,9 +82,10 @@ module _ (g : Grammar) where
     symbol-productive {X = X} (inr h) = P X h
 
     pub same-first : (β : List ℕ) → AllDeclared g β → (d c : ℕ) → FirstByRules g β d c ↔ First g β d c
-    same-first β a d c = record
-      { to = λ h. rules-first g (right-productive g W P) (λ X m. symbol-productive (a X m)) h
-      ; from = λ h. first-rules g h }
+    same-first β a d c = record {
+      to = λ h. rules-first g (right-productive g W P) (λ X m. symbol-productive (a X m)) h;
+      from = λ h. first-rules g h;
+    }
 
     module _ (room : ℕ) (written : builderReply room ≡ Accepted 0) where
       writes-by-rules : MeetsWith g builderTable (FirstByRules g)
@@ -100,7 +101,7 @@ module _ (g : Grammar) where
       unfolding builderTable builderReply
       writes-readable =
           readable g (FirstByRules g) (first? g) terminalCodes first-in
-            (limits g W (accepted-writes g (FirstByRules g) (first? g) terminalCodes first-in room written .within)) codes-low (writes-by-rules .form)
+          (limits g W (accepted-writes g (FirstByRules g) (first? g) terminalCodes first-in room written .within)) codes-low (writes-by-rules .form)
 
       -- "a book that it writes is accepted"
       pub writes-accepted : verdict g builderTable (FirstByRules g) (entries? g builderTable) (items? g builderTable)

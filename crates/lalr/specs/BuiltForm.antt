@@ -171,18 +171,21 @@ module _ (g : Grammar) (F : List ℕ → ℕ → ℕ → Type 0) (F? : (β : Lis
       some-code : (q i k : ℕ) (σ : List ℕ) → KernelAt g b q i k σ → (d : ℕ) × In d σ
       some-code q i k σ m =
           let l = built-line q i k σ m in
-          let c = every-live g F (L .formed) F-some reach L q (l .number) (l .low) (l .high) (l .stands) in
-          (c .0, subst (λ (z : List ℕ). In (c .0) z) (sym (l .codes-are))
-              (code-every g F F? first-codes F-in q (l .number) (c .0) (look-low g F F? first-codes F-in L codes-low (c .1)) (c .1)))
+          let c = every-live g F (L .formed) F-some reach L q (l .number) (l .low) (l .high) (l .stands) in (
+            c .0,
+            subst (λ (z : List ℕ). In (c .0) z) (sym (l .codes-are))
+                (code-every g F F? first-codes F-in q (l .number) (c .0) (look-low g F F? first-codes F-in L codes-low (c .1)) (c .1)),
+          )
 
       pub built-form : WellFormed g b
-      built-form = record
-        { one-entry = one-entry g b built-entries
-        ; one-action = λ q X x y a c. let u = action-is q X x a .holds in let v = action-is q X y c .holds in let w : x ≡ y = cc in w
-        ; some-code = some-code
-        ; item-declared = λ q i k σ m. let l = built-line q i k σ m in subst Known (sym (l .item)) (kernel-known q (l .number) (l .low) (l .high) (l .stands))
-        ; kernel-state = λ q i k σ m. let l = built-line q i k σ m in (l .low, omega (arith, l .high, states-both))
-        ; entry-state = λ k s γ e. let l = entry-line g b built-entries k e in (omega (arith, l .0, l .1), omega (arith, l .0, l .2, more-states g, states-both))
-        ; action-state = λ q X x a. let w = action-is q X x a in (w .low, omega (arith, w .high, states-both))
-        ; shift-kind = λ q a s m. let w = cell-moves g F F? first-codes F-in q a s (S s) (action-is q a (S s) m .holds) refl in kind-shift a s q (w .is) (asked-kind (w .asked))
-        ; goto-kind = λ q X s m. let w = cell-moves g F F? first-codes F-in q X s (N s) (action-is q X (N s) m .holds) refl in kind-goto X s q (w .is) (asked-kind (w .asked)) }
+      built-form = record {
+        one-entry = one-entry g b built-entries;
+        one-action = λ q X x y a c. let u = action-is q X x a .holds in let v = action-is q X y c .holds in let w : x ≡ y = cc in w;
+        some-code = some-code;
+        item-declared = λ q i k σ m. let l = built-line q i k σ m in subst Known (sym (l .item)) (kernel-known q (l .number) (l .low) (l .high) (l .stands));
+        kernel-state = λ q i k σ m. let l = built-line q i k σ m in (l .low, omega (arith, l .high, states-both));
+        entry-state = λ k s γ e. let l = entry-line g b built-entries k e in (omega (arith, l .0, l .1), omega (arith, l .0, l .2, more-states g, states-both));
+        action-state = λ q X x a. let w = action-is q X x a in (w .low, omega (arith, w .high, states-both));
+        shift-kind = λ q a s m. let w = cell-moves g F F? first-codes F-in q a s (S s) (action-is q a (S s) m .holds) refl in kind-shift a s q (w .is) (asked-kind (w .asked));
+        goto-kind = λ q X s m. let w = cell-moves g F F? first-codes F-in q X s (N s) (action-is q X (N s) m .holds) refl in kind-goto X s q (w .is) (asked-kind (w .asked));
+      }

@@ -55,10 +55,11 @@ module _ (g : Grammar) (F : List ℕ → ℕ → ℕ → Type 0) (F? : (β : Lis
     pub on-line : (q x i k d : ℕ) → 1 ≤ q → q ≤ length (states g) → In x (kernelOf g q) → itemOf x ≡ i → dotOf x ≡ k → Lookahead g F q i k d
         → (σ : List ℕ) × KernelAt g t q i k σ × In d σ
     on-line q x i k d l h m a b c =
-        let w = of-line g F F? first-codes F-in q x l h m in
-        (codes g F F? first-codes F-in q x,
-         subst (λ (z : ℕ). KernelAt g t q i z (codes g F F? first-codes F-in q x)) b (subst (λ (z : ℕ). KernelAt g t q z (dotOf x) (codes g F F? first-codes F-in q x)) a w),
-         code-every g F F? first-codes F-in q x d (look-low c) (subst (λ (z : ℕ). Lookahead g F q z (dotOf x) d) (sym a) (subst (λ (z : ℕ). Lookahead g F q i z d) (sym b) c)))
+        let w = of-line g F F? first-codes F-in q x l h m in (
+          codes g F F? first-codes F-in q x,
+          subst (λ (z : ℕ). KernelAt g t q i z (codes g F F? first-codes F-in q x)) b (subst (λ (z : ℕ). KernelAt g t q z (dotOf x) (codes g F F? first-codes F-in q x)) a w),
+          code-every g F F? first-codes F-in q x d (look-low c) (subst (λ (z : ℕ). Lookahead g F q z (dotOf x) d) (sym a) (subst (λ (z : ℕ). Lookahead g F q i z d) (sym b) c)),
+        )
 
     on-kernel : (q x i k d : ℕ) → 1 ≤ q → q ≤ length (states g) → In x (kernelOf g q) → itemOf x ≡ i → dotOf x ≡ k → Lookahead g F q i k d → Carries g t F q i k d
     on-kernel q x i k d l h m a b c = let r = on-line q x i k d l h m a b c in in-kernel (r .1) (r .2)
@@ -68,7 +69,7 @@ module _ (g : Grammar) (F : List ℕ → ℕ → ℕ → Type 0) (F? : (β : Lis
     on-entry e d l h c =
         let k = entry-kernel g e l h in
         on-kernel e ((length (g .rules) + e) * 16) (entryItem g (bare g) e) zero d l (omega (arith, h, more-states g))
-            (subst (λ (z : Kernel). In ((length (g .rules) + e) * 16) z) (sym k) here) (omega arith) (omega arith) c
+        (subst (λ (z : Kernel). In ((length (g .rules) + e) * 16) z) (sym k) here) (omega arith) (omega arith) c
 
     -- of an item that has moved
     after-move : {q i k d X : ℕ} → Carries g t F q i k d → MovedBy g t q X i (suc k) → Lookahead g F (goto g q X) i (suc k) d → Carries g t F (goto g q X) i (suc k) d
@@ -78,7 +79,7 @@ module _ (g : Grammar) (F : List ℕ → ℕ → ℕ → Type 0) (F? : (β : Lis
         let n = moved-dot g L (kernelOf g q) a in
         let y = goes-to g L q X i (suc k) (s .0) (s .1) a in
         on-kernel (goto g q X) (i * 16 + suc k) i (suc k) d (y .low) (y .high)
-            (subst (λ (z : Kernel). In (i * 16 + suc k) z) (sym (y .kernel)) (in-move g L (kernelOf g q) a)) (item-of i (suc k) n) (dot-of i (suc k) n) c
+        (subst (λ (z : Kernel). In (i * 16 + suc k) z) (sym (y .kernel)) (in-move g L (kernelOf g q) a)) (item-of i (suc k) n) (dot-of i (suc k) n) c
 
     pub carried : {q i k d : ℕ} → Lookahead g F q i k d → Carries g t F q i k d
     carried look.of-goal = on-entry 1 zero (omega arith) (some-entry g) look.of-goal

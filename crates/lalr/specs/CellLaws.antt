@@ -108,9 +108,11 @@ module _ (g : Grammar) (F : List ℕ → ℕ → ℕ → Type 0) (F? : (β : Lis
       one : (Asks q X (S 0) × (goesTo q X ≡ y)) ⊎ (none ≡ some y) → CellIs q X y
       one (inl h) = inl h
       one (inr h) = clash cc
+
       two : (announce q X (length (g .rules)) ≡ some y) ⊎ (finish q X (t .entries) ≡ some y) → CellIs q X y
       two (inl h) = inr (inl (announced-is q X (length (g .rules)) y h))
       two (inr h) = inr (inr (finished-is q X (t .entries) y h))
+
       go : (orElse (test q X (S 0)) (goesTo q X) none ≡ some y) ⊎ (first (announce q X (length (g .rules))) (finish q X (t .entries)) ≡ some y) → CellIs q X y
       go (inl h) = one (or-else (test q X (S 0)) (goesTo q X) y none h)
       go (inr h) = two (first-is (announce q X (length (g .rules))) (finish q X (t .entries)) y h)
@@ -183,7 +185,7 @@ module _ (g : Grammar) (F : List ℕ → ℕ → ℕ → Type 0) (F? : (β : Lis
   cell-some {q = q} {X = X} (to-announce i e h f) =
       let n = rule-range g i e in
       first-there (orElse (test q X (S 0)) (goesTo q X) none) _ (first-here (announce q X (length (g .rules))) (finish q X (t .entries))
-          (announced-some q X (length (g .rules)) i (n .0) (n .1) (to-announce i e h f)))
+      (announced-some q X (length (g .rules)) i (n .0) (n .1) (to-announce i e h f)))
   cell-some {q = q} {X = X} (to-pop k {s = s} {γ = γ} e h) =
       first-there (orElse (test q X (S 0)) (goesTo q X) none) _ (first-there (announce q X (length (g .rules))) (finish q X (t .entries)) (entry-some q X k s γ e (to-pop k e h)))
 
@@ -221,9 +223,11 @@ module _ (g : Grammar) (F : List ℕ → ℕ → ℕ → Type 0) (F? : (β : Lis
     where
       Here : List ℕ → Type 0
       Here zs = ((p ≡ q) × In Y zs × (cell q Y ≡ some y)) ⊎ In (L p Y y) l
+
       late : Here xs → Here (X ∷ xs)
       late (inl h) = inl (h .0, there (h .1), h .2)
       late (inr n) = inr n
+
       go : ((p ≡ q) × (Y ≡ X) × (cell q X ≡ some y)) ⊎ In (L p Y y) (on q xs l) → (In (L p Y y) (on q xs l) → Here xs) → Here (X ∷ xs)
       go (inl h) rec = inl (h .0, subst (λ (z : ℕ). In Y (z ∷ xs)) (h .1) here, ap (cell q) (h .1) ∙ h .2)
       go (inr n) rec = late (rec n)

@@ -69,7 +69,7 @@ module _ (g : Grammar) (F : List ℕ → ℕ → ℕ → Type 0) (F? : (β : Lis
   found? : (q : ℕ) → Dec (Found q)
   found? q =
       any? _ (λ X. any? _ (λ x. any? _ (λ y. both? (asked? g t F F? first-codes F-in q X x)
-          (both? (asked? g t F F? first-codes F-in q X y) (implies? (act? x y) (no (λ z. z))))) actions) actions) (range 0 128)
+      (both? (asked? g t F F? first-codes F-in q X y) (implies? (act? x y) (no (λ z. z))))) actions) actions) (range 0 128)
 
   pub agree-where : (q : ℕ) → (TwoActions q → ⊥) → CellsAgree g t F q
   agree-where q f = record { one = λ X x y a c. go X x y a c (act? x y) }
@@ -91,11 +91,14 @@ module _ (g : Grammar) (F : List ℕ → ℕ → ℕ → Type 0) (F? : (β : Lis
             let x = h .2 in
             let y = x .2 in
             record { symbol = h .0; one = x .0; other = y .0; asked-one = y .2 .0; asked-other = y .2 .1 .0; differ = y .2 .1 .1 }
+
         into : TwoActions q → Found q
         into w =
-            let p = asked-place g F F? first-codes F-in L codes-low (w .asked-one) in
-            (w .symbol, in-range 0 128 (w .symbol) (omega arith) (omega (arith, p .2)),
-                (w .one, in-actions (w .asked-one), (w .other, in-actions (w .asked-other), (w .asked-one, (w .asked-other, w .differ)))))
+            let p = asked-place g F F? first-codes F-in L codes-low (w .asked-one) in (
+              w .symbol,
+              in-range 0 128 (w .symbol) (omega arith) (omega (arith, p .2)),
+              (w .one, in-actions (w .asked-one), (w .other, in-actions (w .asked-other), (w .asked-one, (w .asked-other, w .differ)))),
+            )
 
     pub two-actions : (q : ℕ) → (CellsAgree g t F q → ⊥) → TwoActions q
     two-actions q f = go (two-actions? q)

@@ -75,7 +75,8 @@ total-and (k ∷ a) b = omega (arith, total-and a b)
 fits-back : {a b : List Kernel} → Extends a b → Fits b → Fits a
 fits-back {a = a} {b = b} x f = record {
   states = omega (arith, f .states, longer x);
-  lines = omega (arith, f .lines, ap total (x .is), total-and a (x .more)) }
+  lines = omega (arith, f .lines, ap total (x .is), total-and a (x .more));
+}
 
 -- the list after a set, by whether there was room
 noted-if : (ks : List Kernel) (Φ : List Kernel → Type 0) (m : Kernel) → ((Fits ks → ⊥) → Φ ks) → (Fits ks → Φ (note ks m)) → Φ (noteIf ks m)
@@ -120,17 +121,22 @@ module _ (move : Kernel → ℕ → Kernel) where
 
   came-kept : {a b : List Kernel} → Extends a b → {p : ℕ} → p < length a → Came a p → Came b p
   came-kept x {p = p} l c = record {
-    from = c .from; symbol = c .symbol; earlier = c .earlier;
+    from = c .from;
+    symbol = c .symbol;
+    earlier = c .earlier;
     is = kept x p l ∙ c .is ∙ ap (λ (k : Kernel). move k (c .symbol)) (sym (kept x (c .from) (omega (arith, l, c .earlier))));
-    filled = λ e. c .filled (sym (kept x p l) ∙ e) }
+    filled = λ e. c .filled (sym (kept x p l) ∙ e);
+  }
 
   after-origin : (e q X : ℕ) (k : Kernel) (ks : List Kernel) → q < length ks → getD ks q [] ≡ k → Origin e ks → Origin e (noteIf ks (move k X))
   after-origin e q X k ks l is o = after ks (Origin e) (move k X) o (λ f _ p ep lp. go f p (ltb p (length ks)) refl ep lp)
     where
       m : Kernel
       m = move k X
+
       big : Extends ks (ks ++ m ∷ [])
       big = record { more = m ∷ []; is = refl }
+
       go : (m ≡ [] → ⊥) → (p : ℕ) (t : Bool) → ltb p (length ks) ≡ t → e ≤ p → p < length (ks ++ m ∷ []) → Came (ks ++ m ∷ []) p
       go f p true t ep lp = came-kept big (ltb-true p (length ks) t) (o p ep (ltb-true p (length ks) t))
       go f p false t ep lp =
@@ -159,7 +165,7 @@ module _ (move : Kernel → ℕ → Kernel) where
   leave-origin [] e q k ks l is o = o
   leave-origin (x ∷ xs) e q k ks l is o =
       leave-origin xs e q k (noteIf ks (move k x)) (omega (arith, l, longer (after-extends ks (move k x)))) (kept (after-extends ks (move k x)) q l ∙ is)
-          (after-origin e q x k ks l is o)
+      (after-origin e q x k ks l is o)
 
   -- "symbols by code"
   abbrev pub symbols : List ℕ
@@ -196,12 +202,15 @@ module _ (move : Kernel → ℕ → Kernel) where
     from = extends-trans (F .from) x;
     distinct = leave-distinct symbols k ks (F .distinct);
     closed = λ f p lp s u. go f p (ltb p q) refl lp s u;
-    origin = leave-origin symbols (length e₀) q k ks l refl (F .origin) }
+    origin = leave-origin symbols (length e₀) q k ks l refl (F .origin);
+  }
     where
       k : Kernel
       k = getD ks q []
+
       x : Extends ks (leave move k symbols ks)
       x = leave-extends symbols k ks
+
       go : Fits (leave move k symbols ks) → (p : ℕ) (t : Bool) → ltb p q ≡ t → p < suc q → (s : ℕ) → In s symbols
           → Target (move (getD (leave move k symbols ks) p []) s) (leave move k symbols ks)
       go f p true t lp s u = rw (kept x p (omega (arith, ltb-true p q t, l))) (target-kept x (F .closed (fits-back x f) p (ltb-true p q t) s u))
@@ -210,8 +219,11 @@ module _ (move : Kernel → ℕ → Kernel) where
   -- all states of a book that fits have been left
   pub states-found : (e₀ : List Kernel) → Distinct e₀ → Found e₀ (length (explore move 255 0 e₀)) (explore move 255 0 e₀)
   states-found e₀ d = explored (Found e₀) (leave-found e₀) 255 0 e₀ start (λ (l : List Kernel). Found e₀ (length l) l) (λ r l c F. record {
-    from = F .from; distinct = F .distinct; origin = F .origin;
-    closed = λ f p lp. F .closed f p (⊎-elim (λ e. omega (arith, lp, f .states, e)) (λ e. omega (arith, lp, e)) c) })
+    from = F .from;
+    distinct = F .distinct;
+    origin = F .origin;
+    closed = λ f p lp. F .closed f p (⊎-elim (λ e. omega (arith, lp, f .states, e)) (λ e. omega (arith, lp, e)) c);
+  })
     where
       start : Found e₀ 0 e₀
       start = record { from = stays e₀; distinct = d; closed = λ _ p lp. absurd (not-suc-le-zero lp); origin = λ p ep lp. absurd (omega (arith, ep, lp)) }

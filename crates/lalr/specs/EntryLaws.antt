@@ -41,6 +41,7 @@ groups-only l (δ ∷ γs) γ m = go (groups-only (addString l δ) γs γ m)
     one : In γ l ⊎ (γ ≡ δ) → In γ l ⊎ In γ (δ ∷ γs)
     one (inl n) = inl n
     one (inr e) = inr (subst (λ (x : List ℕ). In γ (x ∷ γs)) e here)
+
     go : In γ (addString l δ) ⊎ In γ γs → In γ l ⊎ In γ (δ ∷ γs)
     go (inl n) = one (join-only l δ γ n)
     go (inr n) = inr (there n)
@@ -70,6 +71,7 @@ rules-only l (s ∷ rs) γ m = go (rules-only (addGroups l (s .groups)) rs γ m)
     one : In γ l ⊎ In γ (s .groups) → In γ l ⊎ ((r : Rule) × In r (s ∷ rs) × In γ (r .groups))
     one (inl n) = inl n
     one (inr n) = inr (s, here, n)
+
     go : In γ (addGroups l (s .groups)) ⊎ ((r : Rule) × In r rs × In γ (r .groups)) → In γ l ⊎ ((r : Rule) × In r (s ∷ rs) × In γ (r .groups))
     go (inl n) = one (groups-only l (s .groups) γ n)
     go (inr h) = inr (h .0, there (h .1), h .2)
@@ -117,6 +119,7 @@ module _ (g : Grammar) where
       one : (γ ≡ g .goal ∷ []) ⊎ In γ [] → Wanted g γ
       one (inl e) = of-goal e
       one (inr n) = elim n [ ]
+
       go : In γ goalFirst ⊎ ((r : Rule) × In r (g .rules) × In γ (r .groups)) → Wanted g γ
       go (inl n) = one (in-cons n)
       go (inr h) = let i = in-at (h .1) in of-group (suc (i .0)) (i .1) (h .2)
@@ -147,16 +150,17 @@ module _ (g : Grammar) where
     one-entry (suc j) zero s u γ e f = clash cc
     one-entry (suc j) (suc k) s u γ e f =
         ap suc (distinct-at (entryStrings g) j k γ strings-distinct (line-at 1 (entryStrings g) j s γ (sym (ap (λ (l : List EntryLine). at l j) same) ∙ e) .1)
-          (line-at 1 (entryStrings g) k u γ (sym (ap (λ (l : List EntryLine). at l k) same) ∙ f) .1))
+        (line-at 1 (entryStrings g) k u γ (sym (ap (λ (l : List EntryLine). at l k) same) ∙ f) .1))
 
     pub wanted-entry : {γ : List ℕ} → Wanted g γ → (k : ℕ) × EntryAt g t k k γ
     wanted-entry w = let r = in-at (wanted-string w) in (suc (r .0), entry-at (r .0) (r .1))
 
     pub entries-meet : EntriesMeet g t
-    entries-meet = record
-      { goal-first = (1, entry-at 0 goal-at)
-      ; only-wanted = λ k s γ e. entry-line k e .3
-      ; all-wanted = λ γ w. let r = wanted-entry w in (r .0, r .0, r .1) }
+    entries-meet = record {
+      goal-first = (1, entry-at 0 goal-at);
+      only-wanted = λ k s γ e. entry-line k e .3;
+      all-wanted = λ γ w. let r = wanted-entry w in (r .0, r .0, r .1);
+    }
 
     -- the entry that is found for a string is the one that has it
     pub entry-number : (k : ℕ) {s : ℕ} {γ : List ℕ} → EntryAt g t k s γ → entryFrom 1 (t .entries) γ ≡ k

@@ -58,8 +58,10 @@ module _ (g : Grammar) (F : List ℕ → ℕ → ℕ → Type 0) (F? : (β : Lis
     where
       w : Line g F F? first-codes F-in q j zero σ
       w = built-line g F F? first-codes F-in q j zero σ m
+
       not-moved : (k : Kernel) {X i n : ℕ} → MovedBy g (alone g k) 1 X i n → zero ≡ n → ⊥
       not-moved k (moved h go) z = omega (arith, z)
+
       go : (q ≤ length (entryStrings g)) ⊎ Reached g q → ⊥
       go (inl h) = let x = in-one (subst (λ (z : Kernel). In (w .number) z) (entry-kernel g q (w .low) h) (w .stands)) in omega (arith, x, w .item, rule-range g j e .1, w .low)
       go (inr c) = not-moved (kernelOf g (c .from)) (move-only g (kernelOf g (c .from)) (c .symbol) (w .number)

@@ -29,11 +29,12 @@ pub record Limits (g : Grammar) : Type 0 where
   pub few-lines : total (states g) ≤ 1023
 
 pub declared : (g : Grammar) → grammar.WellFormed g → Declared g
-declared g W = record
-  { few-terminals = W .few-terminals
-  ; goal-kind = W .goal-declared
-  ; left-kind = λ i r e. W .formed i e .left-declared
-  ; right-kind = λ i r X e m. W .formed i e .declared X m }
+declared g W = record {
+  few-terminals = W .few-terminals;
+  goal-kind = W .goal-declared;
+  left-kind = λ i r e. W .formed i e .left-declared;
+  right-kind = λ i r X e m. W .formed i e .declared X m;
+}
 
 group-short : (γ : List ℕ) (γs : List (List ℕ)) → In γ γs → length γ ≤ length (concat γs)
 group-short γ (δ ∷ γs) here = omega (arith, length-append γ (concat γs))
@@ -66,12 +67,15 @@ module _ (g : Grammar) (W : grammar.WellFormed g) (t : Table) (same : t .entries
     where
       Known : Type 0
       Known = ((r : Rule) × (ruleAt g i ≡ some r)) ⊎ ((j : ℕ) × (s : ℕ) × (γ : List ℕ) × (i ≡ entryItem g t j) × EntryAt g t j s γ)
+
       of-rule : (o : Option Rule) → ruleAt g i ≡ o → 1 ≤ length (rightOf o) → Known
       of-rule none e l = absurd (omega (arith, l))
       of-rule (some r) e l = inl (r, e)
+
       of-entry : (o : Option EntryLine) → length (g .rules) < i → entryAt t (i - length (g .rules)) ≡ o → 1 ≤ length (stringOf o) → Known
       of-entry none h e l = absurd (omega (arith, l))
       of-entry (some (E s γ)) h e l = inr (i - length (g .rules), s, γ, omega (arith, h), e)
+
       go : (b : Bool) → leb i (length (g .rules)) ≡ b → 1 ≤ length (cond b (rightOf (ruleAt g i)) (stringOf (entryAt t (i - length (g .rules))))) → Known
       go true e l = of-rule (ruleAt g i) refl l
       go false e l = of-entry (entryAt t (i - length (g .rules))) (leb-false i (length (g .rules)) e) refl l
@@ -94,11 +98,12 @@ module _ (g : Grammar) (W : grammar.WellFormed g) (t : Table) (same : t .entries
   bounded {i = i} {k = k} {X = X} {β = β} h =
       let l : length (symbolsOf g t i) - k ≡ suc (length β) = sym (length-drop k (symbolsOf g t i)) ∙ ap length (h .before) in
       let s = symbols-short i in
-      record
-        { dot = omega (arith, l, s)
-        ; within = omega (arith, l)
-        ; item = symbols-low i (omega (arith, l))
-        ; kind = symbols-declared g t (declared g W) (entries-meet g t same) i X (in-drop k (symbolsOf g t i) (subst (λ (m : List ℕ). In X m) (sym (h .before)) here)) }
+      record {
+        dot = omega (arith, l, s);
+        within = omega (arith, l);
+        item = symbols-low i (omega (arith, l));
+        kind = symbols-declared g t (declared g W) (entries-meet g t same) i X (in-drop k (symbolsOf g t i) (subst (λ (m : List ℕ). In X m) (sym (h .before)) here));
+      }
 
   -- a symbol's code
   pub code-low : {X : ℕ} → IsTerminal g X ⊎ IsNonterminal g X → (1 ≤ X) × (X < 128)

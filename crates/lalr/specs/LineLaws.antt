@@ -58,7 +58,7 @@ module _ (g : Grammar) (F : List ℕ → ℕ → ℕ → Type 0) (F? : (β : Lis
   unfolding codesAt
   code-every q x d l h =
       keep-every (Lookahead g F q (itemOf x) (dotOf x)) (lookahead? g F F? first-codes F-in q (itemOf x) (dotOf x))
-          (in-range 0 (suc (g .terminals)) d (omega arith) (omega (arith, l))) h
+      (in-range 0 (suc (g .terminals)) d (omega arith) (omega (arith, l))) h
 
   -- "Codes are the context, at least one, rising."
   pub codes-rising : (q x : ℕ) → RisingFrom 0 (codes q x)
@@ -128,8 +128,15 @@ module _ (g : Grammar) (F : List ℕ → ℕ → ℕ → Type 0) (F? : (β : Lis
   line-of q i n σ m =
       let r = all-in 1 (states g) q i n σ m in
       let z : suc (r .0) ≡ q = omega (arith, r .1) in
-      record { number = r .3 .number; stands = subst (λ (p : ℕ). In (r .3 .number) (kernelOf g p)) z (r .3 .stands); item = r .3 .item; dot = r .3 .dot; codes-are = r .3 .codes-are
-             ; low = omega (arith, r .1); high = omega (arith, r .1, r .2) }
+      record {
+        number = r .3 .number;
+        stands = subst (λ (p : ℕ). In (r .3 .number) (kernelOf g p)) z (r .3 .stands);
+        item = r .3 .item;
+        dot = r .3 .dot;
+        codes-are = r .3 .codes-are;
+        low = omega (arith, r .1);
+        high = omega (arith, r .1, r .2);
+      }
 
   pub of-line : (q x : ℕ) → 1 ≤ q → q ≤ length (states g) → In x (kernelOf g q) → KernelAt g book q (itemOf x) (dotOf x) (codes q x)
   unfolding items
@@ -146,15 +153,19 @@ module _ (g : Grammar) (F : List ℕ → ℕ → ℕ → Type 0) (F? : (β : Lis
 
   to-alone : (q i n : ℕ) (σ : List ℕ) → KernelAt g book q i n σ → (τ : List ℕ) × KernelAt g (alone g (kernelOf g q)) 1 i n τ
   to-alone q i n σ m =
-      let l = line-of q i n σ m in
-      ([], subst (λ (z : ℕ). KernelAt g (alone g (kernelOf g q)) 1 z n []) (sym (l .item))
-          (subst (λ (z : ℕ). KernelAt g (alone g (kernelOf g q)) 1 (itemOf (l .number)) z []) (sym (l .dot)) (line-alone g (l .stands))))
+      let l = line-of q i n σ m in (
+        [],
+        subst (λ (z : ℕ). KernelAt g (alone g (kernelOf g q)) 1 z n []) (sym (l .item))
+            (subst (λ (z : ℕ). KernelAt g (alone g (kernelOf g q)) 1 (itemOf (l .number)) z []) (sym (l .dot)) (line-alone g (l .stands))),
+      )
 
   from-alone : (q : ℕ) → 1 ≤ q → q ≤ length (states g) → (i n : ℕ) (σ : List ℕ) → KernelAt g (alone g (kernelOf g q)) 1 i n σ → (τ : List ℕ) × KernelAt g book q i n τ
   from-alone q l h i n σ m =
-      let a = alone-line g m in
-      (codes q (a .0), subst (λ (z : ℕ). KernelAt g book q z n (codes q (a .0))) (sym (a .2))
-          (subst (λ (z : ℕ). KernelAt g book q (itemOf (a .0)) z (codes q (a .0))) (sym (a .3)) (of-line q (a .0) l h (a .1))))
+      let a = alone-line g m in (
+        codes q (a .0),
+        subst (λ (z : ℕ). KernelAt g book q z n (codes q (a .0))) (sym (a .2))
+            (subst (λ (z : ℕ). KernelAt g book q (itemOf (a .0)) z (codes q (a .0))) (sym (a .3)) (of-line q (a .0) l h (a .1))),
+      )
 
   pub moved-alone : {q X i n : ℕ} → MovedBy g book q X i n → MovedBy g (alone g (kernelOf g q)) 1 X i n
   moved-alone {q = q} m = moved-over g book (alone g (kernelOf g q)) same-entries q 1 (to-alone q) m

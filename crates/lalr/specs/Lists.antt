@@ -43,6 +43,7 @@ module _ (Φ : ℕ → Type 0) (test : (x : ℕ) → Dec (Φ x)) where
       one : Φ y → (x ≡ y) ⊎ In x (keep Φ test l) → (In x (keep Φ test l) → Φ x × In x l) → Φ x × In x (y ∷ l)
       one p (inl e) rec = (subst Φ (sym e) p, subst (λ (z : ℕ). In x (z ∷ l)) e here)
       one p (inr n) rec = let r = rec n in (r .0, there (r .1))
+
       go : (d : Dec (Φ y)) → In x (keepIf d y (keep Φ test l)) → (In x (keep Φ test l) → Φ x × In x l) → Φ x × In x (y ∷ l)
       go (yes p) n rec = one p (in-cons n) rec
       go (no f) n rec = let r = rec n in (r .0, there (r .1))

@@ -47,6 +47,7 @@ in-group {X = X} (γ ∷ γs) m = go (in-either γ m) (λ n. in-group γs n)
   where
     Found : List (List ℕ) → Type 0
     Found l = (δs : List (List ℕ)) × (γ : List ℕ) × (εs : List (List ℕ)) × (l ≡ δs ++ γ ∷ εs) × In X γ
+
     go : In X γ ⊎ In X (concat γs) → (In X (concat γs) → Found γs) → Found (γ ∷ γs)
     go (inl n) rec = ([], γ, γs, refl, n)
     go (inr n) rec = let r = rec n in (γ ∷ (r .0), r .1, r .2, ap (λ (l : List (List ℕ)). γ ∷ l) (r .3), r .4)

@@ -43,12 +43,14 @@ splits-any? (x ∷ l) Φ test = go (test x l) (splits-any? l Φ test)
   where
     Split : List (List ℕ) → Type 0
     Split m = (δs : List (List ℕ)) × (γ : List ℕ) × (εs : List (List ℕ)) × (m ≡ δs ++ γ ∷ εs) × Φ γ εs
+
     off : (Φ x l → ⊥) → (Split l → ⊥) → (δs : List (List ℕ)) (γ : List ℕ) (εs : List (List ℕ)) → x ∷ l ≡ δs ++ γ ∷ εs → Φ γ εs → ⊥
     off f h [] γ εs e p =
         let a : γ ≡ x = cc in
         let b : εs ≡ l = cc in
         f (subst (λ (z : List ℕ). Φ z l) a (subst (λ (z : List (List ℕ)). Φ γ z) b p))
     off f h (δ ∷ δs) γ εs e p = let b : l ≡ δs ++ γ ∷ εs = cc in h (δs, γ, εs, b, p)
+
     go : Dec (Φ x l) → Dec (Split l) → Dec (Split (x ∷ l))
     go (yes p) d = yes ([], x, l, refl, p)
     go (no f) (yes h) = yes (x ∷ (h .0), h .1, h .2, ap (λ (z : List (List ℕ)). x ∷ z) (h .3), h .4)
@@ -101,9 +103,11 @@ module _ (g : Grammar) (F : List ℕ → ℕ → ℕ → Type 0) (F? : (β : Lis
     where
       Ends : ℕ → Type 0
       Ends X = (p ≡ goto g q X) × ((j ≡ i) × ((n ≡ suc k) × (c ≡ d)))
+
       fit : (a : Next g (bare g) i k) → Dec (Ends (a .0)) → Dec (Moves q i k d p j n c)
       fit a (yes e) = yes (a .0, a .1, a .2, e)
       fit a (no f) = no (λ h. f (subst Ends (same-next g (bare g) (h .2) (a .2) .0) (h .3)))
+
       go : Dec (Next g (bare g) i k) → Dec (Moves q i k d p j n c)
       go (yes a) = fit a (both? (ℕ-discrete p (goto g q (a .0))) (both? (ℕ-discrete j i) (both? (ℕ-discrete n (suc k)) (ℕ-discrete c d))))
       go (no f) = no (λ h. f (h .0, h .1, h .2))
@@ -111,8 +115,8 @@ module _ (g : Grammar) (F : List ℕ → ℕ → ℕ → Type 0) (F? : (β : Lis
   unfoldable pub groups? : (i k d p j n c : ℕ) → Dec (Groups i k d p j n c)
   groups? i k d p j n c =
       rule-any? (ruleAt g i) _ (λ r. both? (ℕ-discrete k (length (r .before)))
-        (splits-any? (r .groups) (ToGroup d p j n c) (λ γ εs. both? (F? (concat εs) d c)
-            (both? (ℕ-discrete p (entryOf g γ)) (both? (ℕ-discrete j (entryItem g (bare g) (entryOf g γ))) (ℕ-discrete n zero))))))
+      (splits-any? (r .groups) (ToGroup d p j n c) (λ γ εs. both? (F? (concat εs) d c)
+      (both? (ℕ-discrete p (entryOf g γ)) (both? (ℕ-discrete j (entryItem g (bare g) (entryOf g γ))) (ℕ-discrete n zero))))))
 
   unfoldable pub step? : (a b : Look) → Dec (Step a b)
   step? (look q i k d) (look p j n c) =
@@ -144,13 +148,21 @@ module _ (g : Grammar) (F : List ℕ → ℕ → ℕ → Type 0) (F? : (β : Lis
       record { state = b .state; item = omega (arith, rule-less g (bare g) j r e); dot = omega arith; code = code-in (F-in β d c f) (b .code) }
   inside (of-move {q = q} {i = i} {k = k} {X = X} {β = β} h go) =
       let b = inside h in
-      record { state = omega (arith, find-low (move g (kernelOf g q) X) (states g)); item = b .item
-             ; dot = omega (arith, sym (length-drop k (symbolsOf g (bare g) i)) ∙ ap length (go .before)); code = b .code }
+      record {
+        state = omega (arith, find-low (move g (kernelOf g q) X) (states g));
+        item = b .item;
+        dot = omega (arith, sym (length-drop k (symbolsOf g (bare g) i)) ∙ ap length (go .before));
+        code = b .code;
+      }
   inside (of-group {d = d} {c = c} i {r = r} δs γ εs e h p f) =
       let b = inside h in
       let n = entry-low 0 (bare g .entries) γ in
-      record { state = omega (arith, n, lines-length 1 (entryStrings g)); item = omega (arith, n, lines-length 1 (entryStrings g)); dot = omega arith
-             ; code = code-in (F-in (concat εs) d c f) (b .code) }
+      record {
+        state = omega (arith, n, lines-length 1 (entryStrings g));
+        item = omega (arith, n, lines-length 1 (entryStrings g));
+        dot = omega arith;
+        code = code-in (F-in (concat εs) d c f) (b .code);
+      }
 
   unfoldable pub spotsOf : ℕ → List Spot
   spotsOf i = map (spot i) (upto (suc (length (symbolsOf g (bare g) i))))
@@ -176,15 +188,15 @@ module _ (g : Grammar) (F : List ℕ → ℕ → ℕ → Type 0) (F? : (β : Lis
   unfolding looks
   in-looks {q = q} {i = i} {k = k} {d = d} b =
       in-pairs with-state q (coded i k d) (upto (suc lastState)) (pairs with-code (spotsBelow (suc lastItem)) (0 ∷ first-codes))
-          (in-upto (suc lastState) q (omega (arith, b .state)))
-        (in-pairs with-code (spot i k) d (spotsBelow (suc lastItem)) (0 ∷ first-codes) (in-spots (suc lastItem) i k (omega (arith, b .item)) (b .dot)) (b .code))
+      (in-upto (suc lastState) q (omega (arith, b .state)))
+      (in-pairs with-code (spot i k) d (spotsBelow (suc lastItem)) (0 ∷ first-codes) (in-spots (suc lastItem) i k (omega (arith, b .item)) (b .dot)) (b .code))
 
   -- ---- the same family
 
   same-look : {q i k d p j n c : ℕ} → q ≡ p → i ≡ j → k ≡ n → d ≡ c → Lookahead g F q i k d → Lookahead g F p j n c
   same-look {i = i} {k = k} {d = d} {p = p} {j = j} {n = n} a b c e h =
       subst (λ (z : ℕ). Lookahead g F p j n z) e (subst (λ (z : ℕ). Lookahead g F p j z d) c
-          (subst (λ (z : ℕ). Lookahead g F p z k d) b (subst (λ (z : ℕ). Lookahead g F z i k d) a h)))
+      (subst (λ (z : ℕ). Lookahead g F p z k d) b (subst (λ (z : ℕ). Lookahead g F z i k d) a h)))
 
   one-step : (q i k d p j n c : ℕ) → Lookahead g F q i k d → Step (look q i k d) (look p j n c) → Lookahead g F p j n c
   one-step q i k d p j n c h (inl s) =
@@ -194,7 +206,7 @@ module _ (g : Grammar) (F : List ℕ → ℕ → ℕ → Type 0) (F? : (β : Lis
       let x = s .2 .1 in
       let e = x .4 in
       same-look (sym (e .1 .0)) (sym (e .1 .1 .0)) (sym (e .1 .1 .1)) refl
-        (of-group i (x .0) (x .1) (x .2) (s .1) (same-look refl refl (s .2 .0) refl h) (x .3) (e .0))
+      (of-group i (x .0) (x .1) (x .2) (s .1) (same-look refl refl (s .2 .0) refl h) (x .3) (e .0))
 
   pub reach-look : (a : Look) → Reach Seed Step a → (q i k d : ℕ) → a ≡ look q i k d → Lookahead g F q i k d
   reach-look (look p j n c) (seed s) q i k d e =
@@ -214,12 +226,12 @@ module _ (g : Grammar) (F : List ℕ → ℕ → ℕ → Type 0) (F? : (β : Lis
   look-reach of-goal = seed {a = look 1 (entryItem g (bare g) 1) zero zero} (refl, (refl, (refl, refl)))
   look-reach (of-closure {q = q} {i = i} {k = k} {d = d} {X = X} j {c = c} {β = β} {r = r} h go e l f) =
       step {a = look q i k d} {b = look q j zero c} (look-reach h)
-        (inl (record { added = record { symbol = X; rest = β; by = r; goes = go; is = e; of = l }; first = f }, (refl, refl)))
+      (inl (record { added = record { symbol = X; rest = β; by = r; goes = go; is = e; of = l }; first = f }, (refl, refl)))
   look-reach (of-move {q = q} {i = i} {k = k} {d = d} {X = X} {β = β} h go) =
       step {a = look q i k d} {b = look (goto g q X) i (suc k) d} (look-reach h) (inr (inl (X, β, go, (refl, (refl, (refl, refl))))))
   look-reach (of-group {q = q} {d = d} {c = c} i {r = r} δs γ εs e h p f) =
       step {a = look q i (length (r .before)) d} {b = look (entryOf g γ) (entryItem g (bare g) (entryOf g γ)) zero c} (look-reach h)
-        (inr (inr (r, e, (refl, (δs, γ, εs, p, (f, (refl, (refl, refl))))))))
+      (inr (inr (r, e, (refl, (δs, γ, εs, p, (f, (refl, (refl, refl))))))))
 
   pub stays-inside : (a : Look) → Reach Seed Step a → In a looks
   stays-inside (look q i k d) r = in-looks (inside (reach-look (look q i k d) r q i k d refl))
@@ -233,13 +245,14 @@ module _ (g : Grammar) (F : List ℕ → ℕ → ℕ → Type 0) (F? : (β : Lis
   unfolding allLooks
   lookahead? q i k d = map-dec (λ h. from (h .0) (h .1) (h .2))
       (λ h. (look q i k d, members Seed Step seed? step? looks stays-inside .every (look q i k d) (look-reach h), refl))
-          (any? (λ (a : Look). a ≡ look q i k d) same? allLooks)
+      (any? (λ (a : Look). a ≡ look q i k d) same? allLooks)
     where
       from : (a : Look) → In a allLooks → a ≡ look q i k d → Lookahead g F q i k d
       from a m e = reach-look a (members Seed Step seed? step? looks stays-inside .only a m) q i k d e
+
       same? : (a : Look) → Dec (a ≡ look q i k d)
       same? (look p j n c) =
           map-dec (λ h. ap (λ (x : ℕ). look x j n c) (h .0) ∙ ap (λ (x : ℕ). look q x n c) (h .1 .0)
-              ∙ ap (λ (x : ℕ). look q i x c) (h .1 .1 .0) ∙ ap (λ (x : ℕ). look q i k x) (h .1 .1 .1))
-            (λ e. (let a : p ≡ q = cc in a, (let a : j ≡ i = cc in a, (let a : n ≡ k = cc in a, let a : c ≡ d = cc in a))))
-            (both? (ℕ-discrete p q) (both? (ℕ-discrete j i) (both? (ℕ-discrete n k) (ℕ-discrete c d))))
+          ∙ ap (λ (x : ℕ). look q i x c) (h .1 .1 .0) ∙ ap (λ (x : ℕ). look q i k x) (h .1 .1 .1))
+          (λ e. (let a : p ≡ q = cc in a, (let a : j ≡ i = cc in a, (let a : n ≡ k = cc in a, let a : c ≡ d = cc in a))))
+          (both? (ℕ-discrete p q) (both? (ℕ-discrete j i) (both? (ℕ-discrete n k) (ℕ-discrete c d))))

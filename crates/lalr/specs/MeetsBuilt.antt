@@ -41,16 +41,18 @@ module _ (g : Grammar) (F : List ℕ → ℕ → ℕ → Type 0) (F? : (β : Lis
 
   kernel-line : (q x i n : ℕ) → 1 ≤ q → q ≤ length (states g) → In x (kernelOf g q) → itemOf x ≡ i → dotOf x ≡ n → (σ : List ℕ) × KernelAt g u q i n σ
   kernel-line q x i n l h m a c =
-      let σ = codes g F F? first-codes F-in q x in
-      (σ, to-built g F F? first-codes F-in q i n σ (subst (λ (z : ℕ). KernelAt g t q i z σ) c
-          (subst (λ (z : ℕ). KernelAt g t q z (dotOf x) σ) a (of-line g F F? first-codes F-in q x l h m))))
+      let σ = codes g F F? first-codes F-in q x in (
+        σ,
+        to-built g F F? first-codes F-in q i n σ (subst (λ (z : ℕ). KernelAt g t q i z σ) c
+            (subst (λ (z : ℕ). KernelAt g t q z (dotOf x) σ) a (of-line g F F? first-codes F-in q x l h m))),
+      )
 
   pub entry-has : (k q : ℕ) (γ : List ℕ) → EntryAt g u k q γ → (σ : List ℕ) × KernelAt g u q (entryItem g u k) zero σ
   entry-has k q γ e =
       let l = entry-line g u same k e in
       let w = entry-kernel g k (l .1) (l .2) in
       let r = kernel-line k ((length (g .rules) + k) * 16) (entryItem g u k) zero (l .1) (omega (arith, l .2, more-states g))
-                (subst (λ (z : Kernel). In ((length (g .rules) + k) * 16) z) (sym w) here) (omega arith) (omega arith) in
+      (subst (λ (z : Kernel). In ((length (g .rules) + k) * 16) z) (sym w) here) (omega arith) (omega arith) in
       (r .0, subst (λ (z : ℕ). KernelAt g u z (entryItem g u k) zero (r .0)) (sym (l .0)) (r .1))
 
   entry-only : (k q : ℕ) (γ : List ℕ) → EntryAt g u k q γ → (i n : ℕ) (σ : List ℕ) → KernelAt g u q i n σ → (i ≡ entryItem g u k) × (n ≡ zero)
@@ -87,7 +89,7 @@ module _ (g : Grammar) (F : List ℕ → ℕ → ℕ → Type 0) (F? : (β : Lis
       let d = moved-dot g L (kernelOf g q) v in
       let z = y .goes in
       let r = kernel-line (goto g q X) (i * 16 + n) i n (z .low) (z .high)
-          (subst (λ (k : Kernel). In (i * 16 + n) k) (sym (z .kernel)) (in-move g L (kernelOf g q) v)) (item-of i n d) (dot-of i n d) in
+      (subst (λ (k : Kernel). In (i * 16 + n) k) (sym (z .kernel)) (in-move g L (kernelOf g q) v)) (item-of i n d) (dot-of i n d) in
       (r .0, subst (λ (p : ℕ). KernelAt g u p i n (r .0)) (sym (y .next-is)) (r .1))
 
   moves-only : (q X s : ℕ) (x : Action) → ActionAt g u q X x → nextState x ≡ some s → (j m : ℕ) (σ : List ℕ) → KernelAt g u s j m σ → MovedBy g u q X j m
@@ -96,8 +98,8 @@ module _ (g : Grammar) (F : List ℕ → ℕ → ℕ → Type 0) (F? : (β : Lis
       let w = built-line g F F? first-codes F-in s j m σ h in
       let v = move-only g (kernelOf g q) X (w .number) (subst (λ (k : Kernel). In (w .number) k) (ap (kernelOf g) (y .next-is) ∙ y .goes .kernel) (w .stands)) in
       from-items (alone-moved g F F? first-codes F-in (y .low) (y .high)
-        (subst (λ (z : ℕ). MovedBy g (alone g (kernelOf g q)) 1 X z m) (sym (w .item))
-            (subst (λ (z : ℕ). MovedBy g (alone g (kernelOf g q)) 1 X (itemOf (w .number)) z) (sym (w .dot)) v)))
+      (subst (λ (z : ℕ). MovedBy g (alone g (kernelOf g q)) 1 X z m) (sym (w .item))
+      (subst (λ (z : ℕ). MovedBy g (alone g (kernelOf g q)) 1 X (itemOf (w .number)) z) (sym (w .dot)) v)))
 
   named : (q : ℕ) → 1 ≤ q → q ≤ u .states → ((k : ℕ) × (γ : List ℕ) × EntryAt g u k q γ) ⊎ ((p : ℕ) × (X : ℕ) × (x : Action) × ActionAt g u p X x × (nextState x ≡ some q))
   named q l h = go (entry-or g q (omega (arith, h, states-both g F F? first-codes F-in)))
@@ -111,17 +113,23 @@ module _ (g : Grammar) (F : List ℕ → ℕ → ℕ → Type 0) (F? : (β : Lis
           let hp : p ≤ length (states g) = omega (arith, r .earlier, h, states-both g F F? first-codes F-in) in
           let m = alone-moved g F F? first-codes F-in (r .low) hp (move-only g (kernelOf g p) X (r .some-item .0) (r .some-item .1)) in
           let x = asked-place g F F? first-codes F-in L codes-low (to-move m) in
-          inr (p, X, goesTo g F F? first-codes F-in p X, is-action g F F? first-codes F-in p X (goesTo g F F? first-codes F-in p X) (r .low) hp (x .2)
-              (cell-move g F F? first-codes F-in p X (to-move m)),
-               move-next g F F? first-codes F-in p X ∙ ap (λ (z : ℕ). some z) (r .back))
+          inr (
+            p,
+            X,
+            goesTo g F F? first-codes F-in p X,
+            is-action g F F? first-codes F-in p X (goesTo g F F? first-codes F-in p X) (r .low) hp (x .2)
+                (cell-move g F F? first-codes F-in p X (to-move m)),
+            move-next g F F? first-codes F-in p X ∙ ap (λ (z : ℕ). some z) (r .back),
+          )
 
   pub built-items : (q : ℕ) → ItemsMeet g u q
-  built-items q = record
-    { entry-has = λ k γ e. entry-has k q γ e
-    ; entry-only = λ k γ e. entry-only k q γ e
-    ; move-has = λ X s i n x. move-has q X s i n x
-    ; move-only = λ X s i n x a e _. moves-only q X s x a e
-    ; named = named q }
+  built-items q = record {
+    entry-has = λ k γ e. entry-has k q γ e;
+    entry-only = λ k γ e. entry-only k q γ e;
+    move-has = λ X s i n x. move-has q X s i n x;
+    move-only = λ X s i n x a e _. moves-only q X s x a e;
+    named = named q;
+  }
 
   -- ---- lookaheads
 
@@ -133,22 +141,23 @@ module _ (g : Grammar) (F : List ℕ → ℕ → ℕ → Type 0) (F? : (β : Lis
   in-codes q i k d σ m c =
       let w = built-line g F F? first-codes F-in q i k σ m in
       subst (λ (z : List ℕ). In d z) (sym (w .codes-are))
-        (code-every g F F? first-codes F-in q (w .number) d (look-low g F F? first-codes F-in L codes-low c)
-          (subst (λ (z : ℕ). Lookahead g F q z (dotOf (w .number)) d) (w .item) (subst (λ (z : ℕ). Lookahead g F q i z d) (w .dot) c)))
+      (code-every g F F? first-codes F-in q (w .number) d (look-low g F F? first-codes F-in L codes-low c)
+      (subst (λ (z : ℕ). Lookahead g F q z (dotOf (w .number)) d) (w .item) (subst (λ (z : ℕ). Lookahead g F q i z d) (w .dot) c)))
 
   pub built-lookaheads : (q : ℕ) → LookaheadsMeet g u F q
-  built-lookaheads q = record
-    { of-move = λ p X i k d β σ x a n c go m.
+  built-lookaheads q = record {
+    of-move = λ p X i k d β σ x a n c go m.
         in-codes q i (suc k) d σ m
-          (subst (λ (z : ℕ). Lookahead g F z i (suc k) d) (sym (target p X q x a n .next-is)) (look.of-move (looks c) (goes-over g u (bare g) same go)))
-    ; of-group = λ k p i d c γ σ r δs εs e re ge h f m.
+        (subst (λ (z : ℕ). Lookahead g F z i (suc k) d) (sym (target p X q x a n .next-is)) (look.of-move (looks c) (goes-over g u (bare g) same go)));
+    of-group = λ k p i d c γ σ r δs εs e re ge h f m.
         let z : entryOf g γ ≡ q = entry-number g (bare g) refl k (bare-entry k e) ∙ sym (entry-line g u same k e .0) in
         let w : entryOf g γ ≡ k = entry-number g (bare g) refl k (bare-entry k e) in
         in-codes q (entryItem g u k) zero c σ m
-          (subst (λ (n : ℕ). Lookahead g F q (entryItem g (bare g) n) zero c) w
-              (subst (λ (n : ℕ). Lookahead g F n (entryItem g (bare g) (entryOf g γ)) zero c) z (look.of-group i δs γ εs re (looks h) ge f)))
-    ; of-goal = λ γ σ e m. in-codes q (entryItem g u 1) zero 0 σ m
-        (subst (λ (n : ℕ). Lookahead g F n (entryItem g (bare g) 1) zero zero) (sym (entry-line g u same 1 e .0)) look.of-goal) }
+        (subst (λ (n : ℕ). Lookahead g F q (entryItem g (bare g) n) zero c) w
+        (subst (λ (n : ℕ). Lookahead g F n (entryItem g (bare g) (entryOf g γ)) zero c) z (look.of-group i δs γ εs re (looks h) ge f)));
+    of-goal = λ γ σ e m. in-codes q (entryItem g u 1) zero 0 σ m
+        (subst (λ (n : ℕ). Lookahead g F n (entryItem g (bare g) 1) zero zero) (sym (entry-line g u same 1 e .0)) look.of-goal);
+  }
     where
       bare-entry : (k : ℕ) {s : ℕ} {γ : List ℕ} → EntryAt g u k s γ → EntryAt g (bare g) k s γ
       bare-entry zero e = e
@@ -167,16 +176,18 @@ module _ (g : Grammar) (F : List ℕ → ℕ → ℕ → Type 0) (F? : (β : Lis
         (y .0, is-action g F F? first-codes F-in q X (y .0) (p .0) (p .1) (p .2) (y .1), agree q .one X (forget (y .0)) x (cell-asked g F F? first-codes F-in q X (y .0) (y .1)) a)
 
     pub built-cells : (q : ℕ) → CellsMeet g u F q
-    built-cells q = record
-      { filled = λ X x a. filled q X x (built-asked g F F? first-codes F-in a)
-      ; asked = λ X y m. asked-built g F F? first-codes F-in (cell-asked g F F? first-codes F-in q X y (action-is g F F? first-codes F-in q X y m .holds)) }
+    built-cells q = record {
+      filled = λ X x a. filled q X x (built-asked g F F? first-codes F-in a);
+      asked = λ X y m. asked-built g F F? first-codes F-in (cell-asked g F F? first-codes F-in q X y (action-is g F F? first-codes F-in q X y m .holds));
+    }
 
     -- for every grammar whose nonterminals are all reached, with a first that is never empty
     pub meets-built : ((β : List ℕ) → AllDeclared g β → (d : ℕ) → (c : ℕ) × F β d c) → ((X : ℕ) → IsNonterminal g X → Reachable g X) → MeetsWith g u F
-    meets-built F-some reach = record
-      { form = built-form g F F? first-codes F-in L codes-low F-some reach
-      ; entries = entries-meet g u same
-      ; items = built-items
-      ; lookaheads = built-lookaheads
-      ; agree = built-agree
-      ; cells = built-cells }
+    meets-built F-some reach = record {
+      form = built-form g F F? first-codes F-in L codes-low F-some reach;
+      entries = entries-meet g u same;
+      items = built-items;
+      lookaheads = built-lookaheads;
+      agree = built-agree;
+      cells = built-cells;
+    }

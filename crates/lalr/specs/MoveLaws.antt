@@ -59,8 +59,8 @@ module _ (g : Grammar) where
         let s = small k m in
         let x = i * 16 + n in
         keep-every (λ x. MovedBy g (alone g k) 1 X (itemOf x) (dotOf x)) (λ x. moved? g (alone g k) 1 X (itemOf x) (dotOf x))
-            (in-range 0 4096 x (omega arith) (omega (arith, s .number)))
-          (subst (λ (z : ℕ). MovedBy g (alone g k) 1 X z (dotOf x)) (sym (item-of i n (s .dot))) (subst (λ (z : ℕ). MovedBy g (alone g k) 1 X i z) (sym (dot-of i n (s .dot))) m))
+        (in-range 0 4096 x (omega arith) (omega (arith, s .number)))
+        (subst (λ (z : ℕ). MovedBy g (alone g k) 1 X z (dotOf x)) (sym (item-of i n (s .dot))) (subst (λ (z : ℕ). MovedBy g (alone g k) 1 X i z) (sym (dot-of i n (s .dot))) m))
 
     -- the dot is below 16
     pub moved-dot : (k : Kernel) {X i n : ℕ} → MovedBy g (alone g k) 1 X i n → n < 16

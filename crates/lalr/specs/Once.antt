@@ -76,6 +76,7 @@ module _ (g : Grammar) (F : List ℕ → ℕ → ℕ → Type 0) (F? : (β : Lis
           let c : x % 16 ≡ y % 16 = f ∙ w .dot in
           omega (arith, rising-in (suc x) k y (r .1) (w .stands), a, c)
       split i n τ e f (inr m) = off i n τ m
+
       apart : (y : KernelLine) → In y (lines g F F? first-codes F-in q k ++ rest) → SameItem (K q (itemOf x) (dotOf x) []) y → ⊥
       apart (K p i n τ) m e = split i n τ (e .1) (e .2) (in-either (lines g F F? first-codes F-in q k)
           (subst (λ (z : ℕ). In (K z i n τ) (lines g F F? first-codes F-in q k ++ rest)) (sym (e .0)) m))
@@ -84,8 +85,8 @@ module _ (g : Grammar) (F : List ℕ → ℕ → ℕ → Type 0) (F? : (β : Lis
   kernels-once a [] r = tt
   kernels-once a (k ∷ ks) r =
       lines-once a 0 k (allOf g F F? first-codes F-in (suc a) ks) (r 0 (omega arith))
-        (λ i n τ m. let w = all-in g F F? first-codes F-in (suc a) ks a i n τ m in omega (arith, w .1))
-        (kernels-once (suc a) ks (λ j l. r (suc j) (omega (arith, l))))
+      (λ i n τ m. let w = all-in g F F? first-codes F-in (suc a) ks a i n τ m in omega (arith, w .1))
+      (kernels-once (suc a) ks (λ j l. r (suc j) (omega (arith, l))))
 
   lines-count : (q : ℕ) (k : Kernel) → length (lines g F F? first-codes F-in q k) ≡ length k
   lines-count q [] = refl
@@ -104,11 +105,14 @@ module _ (g : Grammar) (F : List ℕ → ℕ → ℕ → Type 0) (F? : (β : Lis
     where
       more : List ActionLine
       more = actionsOn g F F? first-codes F-in q (range (suc a) n) rest
+
       split : (X : ℕ) (y : Action) → a ≡ X → ((q ≡ q) × In X (range (suc a) n) × (cell g F F? first-codes F-in q X ≡ some y)) ⊎ In (L q X y) rest → ⊥
       split X y e (inl h) = let z = range-in (suc a) n X (h .1) .0 in omega (arith, z, e)
       split X y e (inr m) = off X y m
+
       apart : (x : Action) (y : ActionLine) → In y more → SameCell (L q a x) y → ⊥
       apart x (L p X y) m e = split X y (e .1) (on-in g F F? first-codes F-in q (range (suc a) n) rest q X y (subst (λ (z : ℕ). In (L z X y) more) (sym (e .0)) m))
+
       go : (c : Option Action) → Once SameCell more → Once SameCell (lineIf g F F? first-codes F-in q a c more)
       go none h = h
       go (some x) h = (apart x, h)
@@ -117,5 +121,5 @@ module _ (g : Grammar) (F : List ℕ → ℕ → ℕ → Type 0) (F? : (β : Lis
   actions-once a zero = tt
   actions-once a (suc n) =
       cells-once a 0 128 (actionsOf g F F? first-codes F-in (range (suc a) n))
-        (λ X y m. let w = of-in g F F? first-codes F-in (range (suc a) n) a X y m in let z = range-in (suc a) n a (w .0) .0 in omega (arith, z))
-        (actions-once (suc a) n)
+      (λ X y m. let w = of-in g F F? first-codes F-in (range (suc a) n) a X y m in let z = range-in (suc a) n a (w .0) .0 in omega (arith, z))
+      (actions-once (suc a) n)

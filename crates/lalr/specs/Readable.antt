@@ -105,11 +105,12 @@ module _ (g : Grammar) (F : List ℕ → ℕ → ℕ → Type 0) (F? : (β : Lis
   entry-form s γ m =
       let a = in-at m in
       let w = entry-line g u same (suc (a .0)) (a .1) in
-      record
-        { state = R .entry-state (suc (a .0)) s γ (a .1)
-        ; some-symbol = wanted-filled (w .3)
-        ; short = wanted-short g (L .formed) u same (w .3)
-        ; symbols = wanted-declared g u (declared g (L .formed)) γ (w .3) }
+      record {
+        state = R .entry-state (suc (a .0)) s γ (a .1);
+        some-symbol = wanted-filled (w .3);
+        short = wanted-short g (L .formed) u same (w .3);
+        symbols = wanted-declared g u (declared g (L .formed)) γ (w .3);
+      }
 
   -- ---- kernel lines
 
@@ -122,6 +123,7 @@ module _ (g : Grammar) (F : List ℕ → ℕ → ℕ → Type 0) (F? : (β : Lis
           let w = bounded g (L .formed) (alone g k) refl go in
           let s = ap length (symbols-over g (alone g k) u (sym same) i) in
           omega (arith, w .within, s)
+
       go : (q ≤ length (entryStrings g)) ⊎ Reached g q → dotOf x ≤ length (symbolsOf g u (itemOf x))
       go (inl e) =
           let z = in-one (subst (λ (k : Kernel). In x k) (entry-kernel g q l e) m) in
@@ -137,14 +139,15 @@ module _ (g : Grammar) (F : List ℕ → ℕ → ℕ → Type 0) (F? : (β : Lis
   kernel-form q i k σ m =
       let w = built-line g F F? first-codes F-in q i k σ m in
       let d = dot-within q (w .number) (w .low) (w .high) (w .stands) in
-      record
-        { state = R .kernel-state q i k σ m
-        ; item = item-range i (R .item-declared q i k σ m)
-        ; dot = subst (λ (z : ℕ). k ≤ length (symbolsOf g u z)) (sym (w .item)) (omega (arith, d, w .dot))
-        ; small = omega (arith, w .dot)
-        ; some-code = R .some-code q i k σ m
-        ; rising = subst (RisingFrom 0) (sym (w .codes-are)) (codes-rising g F F? first-codes F-in q (w .number))
-        ; codes-low = λ c n. code-only g F F? first-codes F-in q (w .number) c (subst (λ (z : List ℕ). In c z) (w .codes-are) n) .1 }
+      record {
+        state = R .kernel-state q i k σ m;
+        item = item-range i (R .item-declared q i k σ m);
+        dot = subst (λ (z : ℕ). k ≤ length (symbolsOf g u z)) (sym (w .item)) (omega (arith, d, w .dot));
+        small = omega (arith, w .dot);
+        some-code = R .some-code q i k σ m;
+        rising = subst (RisingFrom 0) (sym (w .codes-are)) (codes-rising g F F? first-codes F-in q (w .number));
+        codes-low = λ c n. code-only g F F? first-codes F-in q (w .number) c (subst (λ (z : List ℕ). In c z) (w .codes-are) n) .1;
+      }
 
   -- ---- action lines
 
@@ -192,16 +195,17 @@ module _ (g : Grammar) (F : List ℕ → ℕ → ℕ → Type 0) (F? : (β : Lis
   goal-line = let k = entry-has g F F? first-codes F-in L codes-low 1 1 (g .goal ∷ []) (entry-at g u same 0 (goal-at g)) in has-line (k .1)
 
   pub readable : Readable g u
-  readable = record
-    { some-state = omega (arith, states-many, some-entry g, more-states g)
-    ; few-states = omega (arith, states-many, L .few-states)
-    ; some-entry = omega (arith, entries-many, some-entry g)
-    ; few-entries = omega (arith, entries-many, L .few-entries)
-    ; some-kernel = goal-line
-    ; few-kernels = omega (arith, lines-many, L .few-lines)
-    ; entries-once = subst (Once SameEntry) (sym same) (entries-once 1 (entryStrings g) (strings-distinct g))
-    ; kernels-once = lines-once
-    ; actions-once = cells-once
-    ; entry = entry-form
-    ; kernel = kernel-form
-    ; action = λ q X x a. let s = R .action-state q X x a in (s .0, s .1, names q X x a) }
+  readable = record {
+    some-state = omega (arith, states-many, some-entry g, more-states g);
+    few-states = omega (arith, states-many, L .few-states);
+    some-entry = omega (arith, entries-many, some-entry g);
+    few-entries = omega (arith, entries-many, L .few-entries);
+    some-kernel = goal-line;
+    few-kernels = omega (arith, lines-many, L .few-lines);
+    entries-once = subst (Once SameEntry) (sym same) (entries-once 1 (entryStrings g) (strings-distinct g));
+    kernels-once = lines-once;
+    actions-once = cells-once;
+    entry = entry-form;
+    kernel = kernel-form;
+    action = λ q X x a. let s = R .action-state q X x a in (s .0, s .1, names q X x a);
+  }

@@ -83,14 +83,15 @@ module _ (g : Grammar) where
   reached zero l h = absurd (omega (arith, l))
   reached (suc p) l h =
       let c = found .origin p (omega (arith, l, kernels-length (suc (length (g .rules))) (entryStrings g))) h in
-      record
-        { from = suc (c .from)
-        ; symbol = c .symbol
-        ; low = omega arith
-        ; earlier = omega (arith, c .earlier)
-        ; kernel = c .is
-        ; some-item = some-in (move g (kernelOf g (suc (c .from))) (c .symbol)) (λ e. c .filled (c .is ∙ e))
-        ; back = ap suc (ap (λ (k : Kernel). find k (states g)) (sym (c .is)) ∙ find-at (states g) p states-distinct h) }
+      record {
+        from = suc (c .from);
+        symbol = c .symbol;
+        low = omega arith;
+        earlier = omega (arith, c .earlier);
+        kernel = c .is;
+        some-item = some-in (move g (kernelOf g (suc (c .from))) (c .symbol)) (λ e. c .filled (c .is ∙ e));
+        back = ap suc (ap (λ (k : Kernel). find k (states g)) (sym (c .is)) ∙ find-at (states g) p states-distinct h);
+      }
 
   -- every state is an entry's, or reached
   pub entry-or : (q : ℕ) → q ≤ length (states g) → (q ≤ length (entryStrings g)) ⊎ Reached q
@@ -122,6 +123,7 @@ module _ (g : Grammar) where
       where
         v : In (i * 16 + n) (move g (kernelOf g (suc p)) X)
         v = in-move g L (kernelOf g (suc p)) m
+
         go : Target (move g (kernelOf g (suc p)) X) (states g) → Goto (suc p) X
         go (inl e) = elim (subst (λ (k : Kernel). In (i * 16 + n) k) e v) [ ]
         go (inr u) = let f = find-is u in record { low = omega arith; high = f .0; kernel = f .1 }
