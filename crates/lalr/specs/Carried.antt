@@ -76,10 +76,10 @@ module _ (g : Grammar) (F : List ℕ → ℕ → ℕ → Type 0) (F? : (β : Lis
     after-move {q = q} {i = i} {k = k} {d = d} {X = X} h m c =
         let s = has-state g F F? first-codes F-in (has-of g t h) in
         let a = moved-alone g F F? first-codes F-in m in
-        let n = moved-dot g L (kernelOf g q) a in
+        let n = moved-dot g (L .formed) (L .few-entries) (kernelOf g q) a in
         let y = goes-to g L q X i (suc k) (s .0) (s .1) a in
         on-kernel (goto g q X) (i * 16 + suc k) i (suc k) d (y .low) (y .high)
-        (subst (λ (z : Kernel). In (i * 16 + suc k) z) (sym (y .kernel)) (in-move g L (kernelOf g q) a)) (item-of i (suc k) n) (dot-of i (suc k) n) c
+        (subst (λ (z : Kernel). In (i * 16 + suc k) z) (sym (y .kernel)) (in-move g (L .formed) (L .few-entries) (kernelOf g q) a)) (item-of i (suc k) n) (dot-of i (suc k) n) c
 
     pub carried : {q i k d : ℕ} → Lookahead g F q i k d → Carries g t F q i k d
     carried look.of-goal = on-entry 1 zero (omega arith) (some-entry g) look.of-goal

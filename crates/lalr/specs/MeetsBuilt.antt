@@ -86,10 +86,10 @@ module _ (g : Grammar) (F : List ℕ → ℕ → ℕ → Type 0) (F? : (β : Lis
   move-has q X s i n x a e m =
       let y = target q X s x a e in
       let v = moved-alone g F F? first-codes F-in (to-items m) in
-      let d = moved-dot g L (kernelOf g q) v in
+      let d = moved-dot g (L .formed) (L .few-entries) (kernelOf g q) v in
       let z = y .goes in
       let r = kernel-line (goto g q X) (i * 16 + n) i n (z .low) (z .high)
-      (subst (λ (k : Kernel). In (i * 16 + n) k) (sym (z .kernel)) (in-move g L (kernelOf g q) v)) (item-of i n d) (dot-of i n d) in
+      (subst (λ (k : Kernel). In (i * 16 + n) k) (sym (z .kernel)) (in-move g (L .formed) (L .few-entries) (kernelOf g q) v)) (item-of i n d) (dot-of i n d) in
       (r .0, subst (λ (p : ℕ). KernelAt g u p i n (r .0)) (sym (y .next-is)) (r .1))
 
   moves-only : (q X s : ℕ) (x : Action) → ActionAt g u q X x → nextState x ≡ some s → (j m : ℕ) (σ : List ℕ) → KernelAt g u s j m σ → MovedBy g u q X j m

@@ -3,6 +3,7 @@ use Prim.Native.Nat.{ℕ, _+_, _*_, _≤_, _<_}
 use native.Mathlib.Omega.{arith}
 use mathlib.Core.Path.{_≡_, refl, sym, subst}
 use mathlib.Core.List.{List, []}
+use lib.ListN.{length}
 use Rattle.language.specs.Grammar.{Grammar}
 use Rattle.language.specs.Sentence.{In}
 use Rattle.language.specs.WellFormed as grammar
@@ -10,9 +11,10 @@ use Rattle.language.specs.Member.{in-map}
 use Rattle.leftcorner.specs.Construction.{KernelAt, MovedBy, moved}
 use Rattle.verdict.specs.ItemsDecided.{moved?}
 use Rattle.verdict.specs.Closure.{image-in}
+use Rattle.lalr.specs.Strings.{entryStrings}
 use Rattle.lalr.specs.States.{Kernel, itemOf, dotOf, range, kernelLine, alone, move}
-use Rattle.lalr.specs.Lists.{in-range, RisingFrom, keep-only, keep-every, keep-rising}
-use Rattle.lalr.specs.Limits.{Limits, bounded, code-low}
+use Rattle.lalr.specs.Lists.{in-range, RisingFrom, rising-same, keep-only, keep-every, keep-rising}
+use Rattle.lalr.specs.Limits.{bounded, code-low}
 
 -- an item with its dot as a number, and back
 pub item-of : (i n : ℕ) → n < 16 → itemOf (i * 16 + n) ≡ i
@@ -40,7 +42,8 @@ module _ (g : Grammar) where
   unfolding move
   move-rising k X = keep-rising (λ x. MovedBy g (alone g k) 1 X (itemOf x) (dotOf x)) (λ x. moved? g (alone g k) 1 X (itemOf x) (dotOf x)) 0 4096
 
-  module _ (L : Limits g) where
+  -- where the grammar was read and its entries are within the limit
+  module _ (W : grammar.WellFormed g) (few : length (entryStrings g) ≤ 127) where
     record Small (X i n : ℕ) : Type 0 where
       dot : n < 16
       number : i * 16 + n < 4096
@@ -49,9 +52,9 @@ module _ (g : Grammar) where
 
     small : (k : Kernel) {X i n : ℕ} → MovedBy g (alone g k) 1 X i n → Small X i n
     small k {i = i} (moved {k = d} h go) =
-        let b = bounded g (L .formed) (alone g k) refl go in
-        let c = code-low g (L .formed) (alone g k) refl (b .kind) in
-        record { dot = omega (arith, b .dot); number = omega (arith, b .dot, b .item, L .few-entries, L .formed .few-rules); low = c .0; high = c .1 }
+        let b = bounded g W (alone g k) refl go in
+        let c = code-low g W (alone g k) refl (b .kind) in
+        record { dot = omega (arith, b .dot); number = omega (arith, b .dot, b .item, few, W .few-rules); low = c .0; high = c .1 }
 
     pub in-move : (k : Kernel) {X i n : ℕ} → MovedBy g (alone g k) 1 X i n → In (i * 16 + n) (move g k X)
     unfolding move
@@ -69,3 +72,15 @@ module _ (g : Grammar) where
     -- the symbol is one that states are left by
     pub moved-symbol : (k : Kernel) {X i n : ℕ} → MovedBy g (alone g k) 1 X i n → In X (range 1 127)
     moved-symbol k {X = X} m = let s = small k m in in-range 1 127 X (s .low) (omega (arith, s .high))
+
+    -- the rising list of the moved items is the move's
+    pub move-is : (k m : Kernel) (X : ℕ) → RisingFrom 0 m → ((x : ℕ) → In x m → MovedBy g (alone g k) 1 X (itemOf x) (dotOf x))
+        → ((i n : ℕ) → MovedBy g (alone g k) 1 X i n → In (i * 16 + n) m) → move g k X ≡ m
+    move-is k m X r only every = rising-same 0 0 (move g k X) m (move-rising k X) r (λ x h. there-in x (move-only k X x h)) (λ x h. here-in x (only x h))
+      where
+        whole : (x : ℕ) → itemOf x * 16 + dotOf x ≡ x
+        whole x = omega arith
+        there-in : (x : ℕ) → MovedBy g (alone g k) 1 X (itemOf x) (dotOf x) → In x m
+        there-in x h = subst (λ (z : ℕ). In z m) (whole x) (every (itemOf x) (dotOf x) h)
+        here-in : (x : ℕ) → MovedBy g (alone g k) 1 X (itemOf x) (dotOf x) → In x (move g k X)
+        here-in x h = subst (λ (z : ℕ). In z (move g k X)) (whole x) (in-move k h)

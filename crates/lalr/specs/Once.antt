@@ -13,7 +13,7 @@ use Rattle.leftcorner.specs.Table.{EntryLine, E, KernelLine, K, Action, ActionL
 use Rattle.lalr.specs.Strings.{entryLines}
 use Rattle.lalr.specs.Distinct.{Distinct}
 use Rattle.lalr.specs.States.{Kernel, itemOf, dotOf, range, total}
-use Rattle.lalr.specs.Lists.{range-in, RisingFrom}
+use Rattle.lalr.specs.Lists.{range-in, RisingFrom, rising-in}
 use Rattle.lalr.specs.Built.{lineIf, actionsOn, actionsOf}
 use Rattle.lalr.specs.LineLaws.{in-either, lines, allOf, lines-in, all-in}
 use Rattle.lalr.specs.CellLaws.{cell, on-in, of-in}
@@ -54,11 +54,6 @@ entries-once a (γ ∷ l) d = (off, entries-once (suc a) l (d .1))
     off (E u δ) m e = d .0 (subst (λ (z : List ℕ). In z l) (sym e) (lines-string (suc a) l m))
 
 -- ---- kernel lines
-
-rising-in : (a : ℕ) (l : List ℕ) (y : ℕ) → RisingFrom a l → In y l → a ≤ y
-rising-in a [] y r m = elim m [ ]
-rising-in a (x ∷ l) y r here = r .0
-rising-in a (x ∷ l) y r (there m) = let z = rising-in (suc x) l y (r .1) m in omega (arith, z, r .0)
 
 module _ (g : Grammar) (F : List ℕ → ℕ → ℕ → Type 0) (F? : (β : List ℕ) (d c : ℕ) → Dec (F β d c)) (first-codes : List ℕ)
     (F-in : (β : List ℕ) (d c : ℕ) → F β d c → (c ≡ d) ⊎ In c first-codes) where

@@ -119,10 +119,10 @@ module _ (g : Grammar) where
     pub goes-to : (q X i n : ℕ) → 1 ≤ q → q ≤ length (states g) → MovedBy g (alone g (kernelOf g q)) 1 X i n → Goto q X
     unfolding goto
     goes-to zero X i n l h m = absurd (omega (arith, l))
-    goes-to (suc p) X i n l h m = go (found .closed (record { states = L .few-states; lines = L .few-lines }) p h X (moved-symbol g L (kernelOf g (suc p)) m))
+    goes-to (suc p) X i n l h m = go (found .closed (record { states = L .few-states; lines = L .few-lines }) p h X (moved-symbol g (L .formed) (L .few-entries) (kernelOf g (suc p)) m))
       where
         v : In (i * 16 + n) (move g (kernelOf g (suc p)) X)
-        v = in-move g L (kernelOf g (suc p)) m
+        v = in-move g (L .formed) (L .few-entries) (kernelOf g (suc p)) m
 
         go : Target (move g (kernelOf g (suc p)) X) (states g) → Goto (suc p) X
         go (inl e) = elim (subst (λ (k : Kernel). In (i * 16 + n) k) e v) [ ]
