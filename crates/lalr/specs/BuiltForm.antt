@@ -27,7 +27,7 @@ use Rattle.lalr.specs.MoveLaws.{move-only}
 use Rattle.lalr.specs.StateLaws.{more-states, entry-kernel, Reached, entry-or}
 use Rattle.lalr.specs.Built.{items, built}
 use Rattle.lalr.specs.LineLaws.{book, same-entries, code-every, Line, line-of, has-state}
-use Rattle.lalr.specs.Carried.{looked, look-low}
+use Rattle.lalr.specs.Carried.{looked, first-low, look-low}
 use Rattle.lalr.specs.Live.{in-one, every-live}
 use Rattle.lalr.specs.CellLaws.{cell, cell-moves, of-in, in-of}
 
@@ -97,17 +97,13 @@ module _ (g : Grammar) (F : List ℕ → ℕ → ℕ → Type 0) (F? : (β : Lis
     moved-state : {q X i n : ℕ} → MovedBy g t q X i n → (1 ≤ q) × (q ≤ length (states g))
     moved-state (moved h go) = has-state g F F? first-codes F-in h
 
-    first-low : {X d : ℕ} → d ≤ g .terminals → (X ≡ d) ⊎ In X first-codes → X ≤ g .terminals
-    first-low l (inl e) = omega (arith, l, e)
-    first-low {X = X} l (inr m) = codes-low X m
-
     pub asked-place : {q X : ℕ} {x : Action} → Asked g t F q X x → (1 ≤ q) × (q ≤ length (states g)) × (X < 128)
     asked-place (to-move m) =
         let s = moved-state m in
         (s .0, s .1, code-low g (L .formed) t (same-entries g F F? first-codes F-in) (moved-kind m) .1)
-    asked-place {X = X} (to-announce i {d = d} {r = r} e h f) =
+    asked-place (to-announce i {r = r} e h f) =
         let s = has-state g F F? first-codes F-in (has-of g t h) in
-        let n = first-low (look-low g F F? first-codes F-in L codes-low (looked g F F? first-codes F-in h)) (F-in (concat (r .groups)) d X f) in
+        let n = first-low g F F? first-codes F-in L codes-low (concat (r .groups)) (look-low g F F? first-codes F-in L codes-low (looked g F F? first-codes F-in h)) f in
         (s .0, s .1, omega (arith, n, L .formed .few-terminals))
     asked-place (to-pop k e h) =
         let s = has-state g F F? first-codes F-in (has-of g t h) in

@@ -15,13 +15,14 @@ use Rattle.leftcorner.specs.Closure.{has-of}
 use Rattle.lalr.specs.Strings.{entryStrings}
 use Rattle.lalr.specs.EntryLaws.{entry-line, found-entry, some-entry}
 use Rattle.lalr.specs.States.{Kernel, itemOf, dotOf, states, kernelOf, goto}
+use Rattle.lalr.specs.Lists.{RisingFrom, rising-same}
 use Rattle.lalr.specs.Over.{goes-over}
 use Rattle.lalr.specs.Limits.{Limits}
 use Rattle.lalr.specs.MoveLaws.{item-of, dot-of, in-move, moved-dot}
 use Rattle.lalr.specs.StateLaws.{more-states, entry-kernel, goes-to}
 use Rattle.lalr.specs.Lookaheads as look
 use Rattle.lalr.specs.Lookaheads.{bare, entryOf, Lookahead}
-use Rattle.lalr.specs.LineLaws.{book, codes, same-entries, code-only, code-every, line-of, of-line, has-state, moved-alone}
+use Rattle.lalr.specs.LineLaws.{book, codes, same-entries, codes-rising, code-only, code-every, line-of, of-line, has-state, moved-alone}
 
 -- a group of a rule is wanted
 pub group-wanted : (g : Grammar) (i : ℕ) {r : Rule} (δs : List (List ℕ)) (γ : List ℕ) (εs : List (List ℕ)) → ruleAt g i ≡ some r → r .groups ≡ δs ++ γ ∷ εs → Wanted g γ
@@ -40,16 +41,26 @@ module _ (g : Grammar) (F : List ℕ → ℕ → ℕ → Type 0) (F? : (β : Lis
   looked (in-closure j h go e l f) = look.of-closure j (looked h) (goes-over g t (bare g) (same-entries g F F? first-codes F-in) go) e l f
 
   module _ (L : Limits g) (codes-low : (c : ℕ) → In c first-codes → c ≤ g .terminals) where
-    first-low : {c d : ℕ} → d ≤ g .terminals → (c ≡ d) ⊎ In c first-codes → c ≤ g .terminals
-    first-low l (inl e) = omega (arith, l, e)
-    first-low {c = c} l (inr m) = codes-low c m
+    of-first : {c d : ℕ} → d ≤ g .terminals → (c ≡ d) ⊎ In c first-codes → c ≤ g .terminals
+    of-first l (inl e) = omega (arith, l, e)
+    of-first {c = c} l (inr m) = codes-low c m
+
+    pub first-low : {c d : ℕ} (β : List ℕ) → d ≤ g .terminals → F β d c → c ≤ g .terminals
+    first-low {c = c} {d = d} β l f = of-first l (F-in β d c f)
 
     -- every code is that of a terminal, or 0
     pub look-low : {q i k d : ℕ} → Lookahead g F q i k d → d ≤ g .terminals
     look-low look.of-goal = omega arith
-    look-low (look.of-closure {d = d} j {c = c} {β = β} h go e l f) = first-low (look-low h) (F-in β d c f)
+    look-low (look.of-closure j {β = β} h go e l f) = first-low β (look-low h) f
     look-low (look.of-move h go) = look-low h
-    look-low (look.of-group {d = d} {c = c} i δs γ εs e h p f) = first-low (look-low h) (F-in (concat εs) d c f)
+    look-low (look.of-group i δs γ εs e h p f) = first-low (concat εs) (look-low h) f
+
+    -- the rising list of a kernel item's lookaheads is its codes
+    pub codes-is : (q x : ℕ) (m : List ℕ) → RisingFrom 0 m → ((d : ℕ) → In d m → Lookahead g F q (itemOf x) (dotOf x) d)
+        → ((d : ℕ) → Lookahead g F q (itemOf x) (dotOf x) d → In d m) → codes g F F? first-codes F-in q x ≡ m
+    codes-is q x m r only every =
+        rising-same 0 0 (codes g F F? first-codes F-in q x) m (codes-rising g F F? first-codes F-in q x) r
+        (λ d h. every d (code-only g F F? first-codes F-in q x d h .0)) (λ d h. code-every g F F? first-codes F-in q x d (look-low (only d h)) (only d h))
 
     -- a lookahead of a kernel item stands in its line
     pub on-line : (q x i k d : ℕ) → 1 ≤ q → q ≤ length (states g) → In x (kernelOf g q) → itemOf x ≡ i → dotOf x ≡ k → Lookahead g F q i k d

@@ -15,6 +15,7 @@ pub mod LineLaws
 pub mod Carried
 pub mod Live
 pub mod CellLaws
+pub mod CellCases
 pub mod Once
 pub mod BuiltForm
 pub mod MeetsBuilt

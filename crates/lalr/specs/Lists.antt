@@ -47,12 +47,13 @@ rising-same a b (x ∷ l) [] r s to from = elim (to x here) [ ]
 rising-same a b (x ∷ l) (y ∷ m) r s to from =
     let z : x ≡ y = same (in-cons (to x here)) (in-cons (from y here)) in
     ap₂ (λ (n : ℕ) (k : List ℕ). n ∷ k) z
-      (rising-same (suc x) (suc y) l m (r .1) (s .1) (λ w n. later x y l m w (r .1) z n (to w (there n))) (λ w n. later y x m l w (s .1) (sym z) n (from w (there n))))
+    (rising-same (suc x) (suc y) l m (r .1) (s .1) (λ w n. later x y l m w (r .1) z n (to w (there n))) (λ w n. later y x m l w (s .1) (sym z) n (from w (there n))))
   where
     same : (x ≡ y) ⊎ In x m → (y ≡ x) ⊎ In y l → x ≡ y
     same (inl e) h = e
     same (inr n) (inl e) = sym e
     same (inr n) (inr k) = absurd (omega (arith, rising-in (suc y) m x (s .1) n, rising-in (suc x) l y (r .1) k))
+
     later : (x y : ℕ) (l m : List ℕ) (w : ℕ) → RisingFrom (suc x) l → x ≡ y → In w l → In w (y ∷ m) → In w m
     later x y l m w r z n k = go (in-cons k)
       where

@@ -23,7 +23,8 @@ use Rattle.lalr.specs.Lookaheads.{bare, entryOf, Lookahead}
 use Rattle.lalr.specs.LineLaws.{book, codes, code-every, of-line, moved-alone, alone-moved}
 use Rattle.lalr.specs.Carried.{looked, look-low}
 use Rattle.lalr.specs.Live.{in-one}
-use Rattle.lalr.specs.CellLaws.{goesTo, move-next, cell-asked, cell-moves, cell-some, cell-move}
+use Rattle.lalr.specs.CellLaws.{goesTo, move-next, cell-asked, cell-moves, cell-move}
+use Rattle.lalr.specs.CellCases.{cell-filled}
 use Rattle.lalr.specs.BuiltForm.{b, states-both, built-entries, entries-both, to-built, from-built, asked-built, built-asked, built-line, action-is, is-action, asked-place, asked-moved, entry-of, built-form}
 
 module _ (g : Grammar) (F : List ℕ → ℕ → ℕ → Type 0) (F? : (β : List ℕ) (d c : ℕ) → Dec (F β d c)) (first-codes : List ℕ)
@@ -172,8 +173,8 @@ module _ (g : Grammar) (F : List ℕ → ℕ → ℕ → Type 0) (F? : (β : Lis
     filled : (q X : ℕ) (x : Action) → Asked g t F q X x → (y : Action) × ActionAt g u q X y × (forget y ≡ x)
     filled q X x a =
         let p = asked-place g F F? first-codes F-in L codes-low a in
-        let y = cell-some g F F? first-codes F-in a in
-        (y .0, is-action g F F? first-codes F-in q X (y .0) (p .0) (p .1) (p .2) (y .1), agree q .one X (forget (y .0)) x (cell-asked g F F? first-codes F-in q X (y .0) (y .1)) a)
+        let y = cell-filled g F F? first-codes F-in q (agree q) a in
+        (y .0, is-action g F F? first-codes F-in q X (y .0) (p .0) (p .1) (p .2) (y .1), y .2)
 
     pub built-cells : (q : ℕ) → CellsMeet g u F q
     built-cells q = record {

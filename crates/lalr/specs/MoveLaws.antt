@@ -80,7 +80,9 @@ module _ (g : Grammar) where
       where
         whole : (x : ℕ) → itemOf x * 16 + dotOf x ≡ x
         whole x = omega arith
+
         there-in : (x : ℕ) → MovedBy g (alone g k) 1 X (itemOf x) (dotOf x) → In x m
         there-in x h = subst (λ (z : ℕ). In z m) (whole x) (every (itemOf x) (dotOf x) h)
+
         here-in : (x : ℕ) → MovedBy g (alone g k) 1 X (itemOf x) (dotOf x) → In x (move g k X)
         here-in x h = subst (λ (z : ℕ). In z (move g k X)) (whole x) (in-move k h)

@@ -24,7 +24,7 @@ use Rattle.lalr.specs.MoveLaws.{move-only}
 use Rattle.lalr.specs.StateLaws.{more-states, entry-kernel, kernels-rising, Reached, entry-or}
 use Rattle.lalr.specs.Built.{items, built}
 use Rattle.lalr.specs.LineLaws.{book, same-entries, codes-rising, code-only}
-use Rattle.lalr.specs.Carried.{looked, look-low}
+use Rattle.lalr.specs.Carried.{looked, first-low, look-low}
 use Rattle.lalr.specs.Live.{in-one}
 use Rattle.lalr.specs.CellLaws.{cell-asked}
 use Rattle.lalr.specs.Once.{Once, SameEntry, SameItem, SameCell, entries-once, kernels-once, kernels-count, actions-once}
@@ -157,13 +157,9 @@ module _ (g : Grammar) (F : List ℕ → ℕ → ℕ → Type 0) (F? : (β : Lis
       (omega (arith, y .next-is, y .goes .low), omega (arith, y .next-is, y .goes .high, states-many))
 
   announced : (X i : ℕ) {q : ℕ} → Asked g t F q X (A i) → Names g u X (A i)
-  announced X i (to-announce _ {d = d} {r = r} e h f) =
+  announced X i (to-announce _ {r = r} e h f) =
       let n = rule-range g i e in
-      (first-low (look-low g F F? first-codes F-in L codes-low (looked g F F? first-codes F-in h)) (F-in (concat (r .groups)) d X f), n .0, n .1)
-    where
-      first-low : {d : ℕ} → d ≤ g .terminals → (X ≡ d) ⊎ In X first-codes → X ≤ g .terminals
-      first-low l (inl e) = omega (arith, l, e)
-      first-low l (inr m) = codes-low X m
+      (first-low g F F? first-codes F-in L codes-low (concat (r .groups)) (look-low g F F? first-codes F-in L codes-low (looked g F F? first-codes F-in h)) f, n .0, n .1)
 
   popped : (X n : ℕ) {q : ℕ} → Asked g t F q X (P n) → Names g u X (P n)
   popped X n (to-pop k {γ = γ} e h) =
