@@ -28,8 +28,8 @@ use Rattle.verdict.specs.Verdict.{if-fails, lowest, none-fails, lowest-none, lo
 use Rattle.lalr.specs.Strings.{entryStrings}
 use Rattle.lalr.specs.States.{total, states}
 use Rattle.lalr.specs.Limits.{Limits}
-use Rattle.lalr.specs.LineLaws.{book, has-state}
-use Rattle.lalr.specs.BuiltForm.{b}
+use Rattle.lalr.specs.LineLaws.{itemTable, has-state}
+use Rattle.lalr.specs.BuiltForm.{fullTable}
 use Rattle.lalr.specs.MeetsBuilt.{meets-built}
 use Rattle.lalr.specs.Conflicts.{TwoActions, two-actions}
 use Rattle.lalr.specs.Book.{bookText, afterConflicts, afterLimits, buildReply, written, buildSlice}
@@ -59,7 +59,7 @@ limits g W w = record { formed = W; few-entries = w .few-entries; few-states = w
 module _ (g : Grammar) (F : List ℕ → ℕ → ℕ → Type 0) (F? : (β : List ℕ) (d c : ℕ) → Dec (F β d c)) (first-codes : List ℕ)
     (F-in : (β : List ℕ) (d c : ℕ) → F β d c → (c ≡ d) ⊎ In c first-codes) where
   abbrev t : Table
-  t = book g F F? first-codes F-in
+  t = itemTable g F F? first-codes F-in
 
   abbrev text : List ℕ
   text = bookText g F F? first-codes F-in
@@ -204,7 +204,7 @@ module _ (g : Grammar) (F : List ℕ → ℕ → ℕ → Type 0) (F? : (β : Lis
 
   module _ (W : grammar.WellFormed g) (codes-low : (c : ℕ) → In c first-codes → c ≤ g .terminals) where
     pub book-meets : ((β : List ℕ) → AllDeclared g β → (d : ℕ) → (c : ℕ) × F β d c) → ((X : ℕ) → IsNonterminal g X → Reachable g X)
-        → (room : ℕ) → reply room ≡ Accepted 0 → MeetsWith g (b g F F? first-codes F-in) F
+        → (room : ℕ) → reply room ≡ Accepted 0 → MeetsWith g (fullTable g F F? first-codes F-in) F
     book-meets F-some reach room e =
         let w = accepted-writes room e in
         meets-built g F F? first-codes F-in (limits g W (w .within)) codes-low (w .agree) F-some reach

@@ -26,7 +26,7 @@ use Rattle.lalr.specs.Limits.{Limits, bounded, code-low, symbols-item}
 use Rattle.lalr.specs.MoveLaws.{move-only}
 use Rattle.lalr.specs.StateLaws.{more-states, entry-kernel, Reached, entry-or}
 use Rattle.lalr.specs.Built.{items, built}
-use Rattle.lalr.specs.LineLaws.{book, same-entries, code-every, Line, line-of, has-state}
+use Rattle.lalr.specs.LineLaws.{itemTable, same-entries, code-every, Line, line-of, has-state}
 use Rattle.lalr.specs.Carried.{looked, first-low, look-low}
 use Rattle.lalr.specs.Live.{in-one, every-live}
 use Rattle.lalr.specs.CellLaws.{cell, cell-moves, of-in, in-of}
@@ -34,40 +34,40 @@ use Rattle.lalr.specs.CellLaws.{cell, cell-moves, of-in, in-of}
 module _ (g : Grammar) (F : List ℕ → ℕ → ℕ → Type 0) (F? : (β : List ℕ) (d c : ℕ) → Dec (F β d c)) (first-codes : List ℕ)
     (F-in : (β : List ℕ) (d c : ℕ) → F β d c → (c ≡ d) ⊎ In c first-codes) where
   abbrev t : Table
-  t = book g F F? first-codes F-in
+  t = itemTable g F F? first-codes F-in
 
-  abbrev pub b : Table
-  b = built g F F? first-codes F-in
+  abbrev pub fullTable : Table
+  fullTable = built g F F? first-codes F-in
 
   -- ---- it is `items`, with action lines
 
-  pub built-entries : b .entries ≡ entryLines 1 (entryStrings g)
+  pub built-entries : fullTable .entries ≡ entryLines 1 (entryStrings g)
   unfolding built items
   built-entries = refl
 
-  pub entries-both : t .entries ≡ b .entries
+  pub entries-both : t .entries ≡ fullTable .entries
   unfolding built
   entries-both = refl
 
-  pub to-built : (q i k : ℕ) (σ : List ℕ) → KernelAt g t q i k σ → KernelAt g b q i k σ
+  pub to-built : (q i k : ℕ) (σ : List ℕ) → KernelAt g t q i k σ → KernelAt g fullTable q i k σ
   unfolding built
   to-built q i k σ m = m
 
-  pub from-built : (q i k : ℕ) (σ : List ℕ) → KernelAt g b q i k σ → KernelAt g t q i k σ
+  pub from-built : (q i k : ℕ) (σ : List ℕ) → KernelAt g fullTable q i k σ → KernelAt g t q i k σ
   unfolding built
   from-built q i k σ m = m
 
-  pub states-both : b .states ≡ length (states g)
+  pub states-both : fullTable .states ≡ length (states g)
   unfolding built items
   states-both = refl
 
-  pub asked-built : {q X : ℕ} {x : Action} → Asked g t F q X x → Asked g b F q X x
-  asked-built a = asked-over g t b entries-both F to-built a
+  pub asked-built : {q X : ℕ} {x : Action} → Asked g t F q X x → Asked g fullTable F q X x
+  asked-built a = asked-over g t fullTable entries-both F to-built a
 
-  pub built-asked : {q X : ℕ} {x : Action} → Asked g b F q X x → Asked g t F q X x
-  built-asked a = asked-over g b t (sym entries-both) F from-built a
+  pub built-asked : {q X : ℕ} {x : Action} → Asked g fullTable F q X x → Asked g t F q X x
+  built-asked a = asked-over g fullTable t (sym entries-both) F from-built a
 
-  pub built-line : (q i n : ℕ) (σ : List ℕ) → KernelAt g b q i n σ → Line g F F? first-codes F-in q i n σ
+  pub built-line : (q i n : ℕ) (σ : List ℕ) → KernelAt g fullTable q i n σ → Line g F F? first-codes F-in q i n σ
   built-line q i n σ m = line-of g F F? first-codes F-in q i n σ (from-built q i n σ m)
 
   -- an action line of the book is what its cell holds
@@ -76,14 +76,14 @@ module _ (g : Grammar) (F : List ℕ → ℕ → ℕ → Type 0) (F? : (β : Lis
     pub high : q ≤ length (states g)
     pub holds : cell g F F? first-codes F-in q X ≡ some x
 
-  pub action-is : (q X : ℕ) (x : Action) → ActionAt g b q X x → Action-is q X x
+  pub action-is : (q X : ℕ) (x : Action) → ActionAt g fullTable q X x → Action-is q X x
   unfolding built
   action-is q X x m =
       let r = of-in g F F? first-codes F-in (range 1 (length (states g))) q X x m in
       let z = range-in 1 (length (states g)) q (r .0) in
       record { low = z .0; high = omega (arith, z .1); holds = r .2 }
 
-  pub is-action : (q X : ℕ) (x : Action) → 1 ≤ q → q ≤ length (states g) → X < 128 → cell g F F? first-codes F-in q X ≡ some x → ActionAt g b q X x
+  pub is-action : (q X : ℕ) (x : Action) → 1 ≤ q → q ≤ length (states g) → X < 128 → cell g F F? first-codes F-in q X ≡ some x → ActionAt g fullTable q X x
   unfolding built
   is-action q X x l h n e = in-of g F F? first-codes F-in q X (range 1 (length (states g))) x (in-range 1 (length (states g)) q l (omega (arith, h)))
       (in-range 0 128 X (omega arith) (omega (arith, n))) e
@@ -135,12 +135,12 @@ module _ (g : Grammar) (F : List ℕ → ℕ → ℕ → Type 0) (F? : (β : Lis
         go false h e (inr k) = k
 
     abbrev Known : ℕ → Type 0
-    Known i = ((r : Rule) × (ruleAt g i ≡ some r)) ⊎ ((j : ℕ) × (s : ℕ) × (γ : List ℕ) × (i ≡ entryItem g b j) × EntryAt g b j s γ)
+    Known i = ((r : Rule) × (ruleAt g i ≡ some r)) ⊎ ((j : ℕ) × (s : ℕ) × (γ : List ℕ) × (i ≡ entryItem g fullTable j) × EntryAt g fullTable j s γ)
 
     -- entry q's line
-    pub entry-of : (q : ℕ) → 1 ≤ q → q ≤ length (entryStrings g) → (γ : List ℕ) × EntryAt g b q q γ
+    pub entry-of : (q : ℕ) → 1 ≤ q → q ≤ length (entryStrings g) → (γ : List ℕ) × EntryAt g fullTable q q γ
     entry-of zero l h = absurd (omega (arith, l))
-    entry-of (suc j) l h = let a = at-below (entryStrings g) j h in (a .0, entry-at g b built-entries j (a .1))
+    entry-of (suc j) l h = let a = at-below (entryStrings g) j h in (a .0, entry-at g fullTable built-entries j (a .1))
 
     moved-known : (k : Kernel) {X i n : ℕ} → MovedBy g (alone g k) 1 X i n → Known i
     moved-known k {i = i} (moved h go) = over (symbols-item g (L .formed) (alone g k) refl i (let w = bounded g (L .formed) (alone g k) refl go .within in omega (arith, w)))
@@ -149,7 +149,7 @@ module _ (g : Grammar) (F : List ℕ → ℕ → ℕ → Type 0) (F? : (β : Lis
         over (inl r) = inl r
         over (inr e) = inr (e .0, e .1, e .2, e .3, entry-over (e .0) (e .4))
           where
-            entry-over : (j : ℕ) {s : ℕ} {γ : List ℕ} → EntryAt g (alone g k) j s γ → EntryAt g b j s γ
+            entry-over : (j : ℕ) {s : ℕ} {γ : List ℕ} → EntryAt g (alone g k) j s γ → EntryAt g fullTable j s γ
             entry-over zero e = e
             entry-over (suc j) e = ap (λ (l : List EntryLine). at l j) built-entries ∙ e
 
@@ -164,7 +164,7 @@ module _ (g : Grammar) (F : List ℕ → ℕ → ℕ → Type 0) (F? : (β : Lis
         go (inr r) = moved-known (kernelOf g (r .from)) (move-only g (kernelOf g (r .from)) (r .symbol) x (subst (λ (z : Kernel). In x z) (r .kernel) m))
 
     module _ (F-some : (β : List ℕ) → AllDeclared g β → (d : ℕ) → (c : ℕ) × F β d c) (reach : (X : ℕ) → IsNonterminal g X → Reachable g X) where
-      some-code : (q i k : ℕ) (σ : List ℕ) → KernelAt g b q i k σ → (d : ℕ) × In d σ
+      some-code : (q i k : ℕ) (σ : List ℕ) → KernelAt g fullTable q i k σ → (d : ℕ) × In d σ
       some-code q i k σ m =
           let l = built-line q i k σ m in
           let c = every-live g F (L .formed) F-some reach L q (l .number) (l .low) (l .high) (l .stands) in (
@@ -173,14 +173,14 @@ module _ (g : Grammar) (F : List ℕ → ℕ → ℕ → Type 0) (F? : (β : Lis
                 (code-every g F F? first-codes F-in q (l .number) (c .0) (look-low g F F? first-codes F-in L codes-low (c .1)) (c .1)),
           )
 
-      pub built-form : WellFormed g b
+      pub built-form : WellFormed g fullTable
       built-form = record {
-        one-entry = one-entry g b built-entries;
+        one-entry = one-entry g fullTable built-entries;
         one-action = λ q X x y a c. let u = action-is q X x a .holds in let v = action-is q X y c .holds in let w : x ≡ y = cc in w;
         some-code = some-code;
         item-declared = λ q i k σ m. let l = built-line q i k σ m in subst Known (sym (l .item)) (kernel-known q (l .number) (l .low) (l .high) (l .stands));
         kernel-state = λ q i k σ m. let l = built-line q i k σ m in (l .low, omega (arith, l .high, states-both));
-        entry-state = λ k s γ e. let l = entry-line g b built-entries k e in (omega (arith, l .0, l .1), omega (arith, l .0, l .2, more-states g, states-both));
+        entry-state = λ k s γ e. let l = entry-line g fullTable built-entries k e in (omega (arith, l .0, l .1), omega (arith, l .0, l .2, more-states g, states-both));
         action-state = λ q X x a. let w = action-is q X x a in (w .low, omega (arith, w .high, states-both));
         shift-kind = λ q a s m. let w = cell-moves g F F? first-codes F-in q a s (S s) (action-is q a (S s) m .holds) refl in kind-shift a s q (w .is) (asked-kind (w .asked));
         goto-kind = λ q X s m. let w = cell-moves g F F? first-codes F-in q X s (N s) (action-is q X (N s) m .holds) refl in kind-goto X s q (w .is) (asked-kind (w .asked));

@@ -22,7 +22,7 @@ use Rattle.lalr.specs.MoveLaws.{item-of, dot-of, in-move, moved-dot}
 use Rattle.lalr.specs.StateLaws.{more-states, entry-kernel, goes-to}
 use Rattle.lalr.specs.Lookaheads as look
 use Rattle.lalr.specs.Lookaheads.{bare, entryOf, Lookahead}
-use Rattle.lalr.specs.LineLaws.{book, codes, same-entries, codes-rising, code-only, code-every, line-of, of-line, has-state, moved-alone}
+use Rattle.lalr.specs.LineLaws.{itemTable, codes, same-entries, codes-rising, code-only, code-every, line-of, of-line, has-state, moved-alone}
 
 -- a group of a rule is wanted
 pub group-wanted : (g : Grammar) (i : ℕ) {r : Rule} (δs : List (List ℕ)) (γ : List ℕ) (εs : List (List ℕ)) → ruleAt g i ≡ some r → r .groups ≡ δs ++ γ ∷ εs → Wanted g γ
@@ -31,7 +31,7 @@ group-wanted g i δs γ εs e p = of-group i e (subst (λ (l : List (List ℕ)).
 module _ (g : Grammar) (F : List ℕ → ℕ → ℕ → Type 0) (F? : (β : List ℕ) (d c : ℕ) → Dec (F β d c)) (first-codes : List ℕ)
     (F-in : (β : List ℕ) (d c : ℕ) → F β d c → (c ≡ d) ⊎ In c first-codes) where
   abbrev t : Table
-  t = book g F F? first-codes F-in
+  t = itemTable g F F? first-codes F-in
 
   pub looked : {q i k d : ℕ} → Carries g t F q i k d → Lookahead g F q i k d
   looked {q = q} {i = i} {k = k} {d = d} (in-kernel {σ = σ} h m) =

@@ -9,7 +9,7 @@ use Rattle.language.specs.Sentence.{In}
 use Rattle.leftcorner.specs.Table.{Action, S, N, A, P, Table}
 use Rattle.leftcorner.specs.Construction.{forget, Asked, CellsAgree}
 use Rattle.leftcorner.specs.ReadOff.{clash}
-use Rattle.lalr.specs.LineLaws.{book}
+use Rattle.lalr.specs.LineLaws.{itemTable}
 use Rattle.lalr.specs.CellLaws.{cell, cell-asked, cell-some}
 
 announce-same : (y : Action) (i : ℕ) → forget y ≡ A i → y ≡ A i
@@ -27,7 +27,7 @@ pop-same (P m) n e = e
 module _ (g : Grammar) (F : List ℕ → ℕ → ℕ → Type 0) (F? : (β : List ℕ) (d c : ℕ) → Dec (F β d c)) (first-codes : List ℕ)
     (F-in : (β : List ℕ) (d c : ℕ) → F β d c → (c ≡ d) ⊎ In c first-codes) where
   abbrev t : Table
-  t = book g F F? first-codes F-in
+  t = itemTable g F F? first-codes F-in
 
   -- "No other cell is filled."
   pub cell-empty : (q X : ℕ) → ((x : Action) → Asked g t F q X x → ⊥) → cell g F F? first-codes F-in q X ≡ none

@@ -18,7 +18,7 @@ use Rattle.leftcorner.specs.Construction.{forget, EntryAt, Asked, to-move, to-a
 use Rattle.leftcorner.specs.ReadOff.{clash}
 use Rattle.lalr.specs.States.{range, goto}
 use Rattle.lalr.specs.Built.{orElse, cellAsked?, moveTo, announced, finished, firstOf, cellAction, lineIf, actionsOn, actionsOf}
-use Rattle.lalr.specs.LineLaws.{book}
+use Rattle.lalr.specs.LineLaws.{itemTable}
 
 -- ---- the first that there is
 
@@ -40,7 +40,7 @@ else-there (no f) x o h = h
 module _ (g : Grammar) (F : List ℕ → ℕ → ℕ → Type 0) (F? : (β : List ℕ) (d c : ℕ) → Dec (F β d c)) (first-codes : List ℕ)
     (F-in : (β : List ℕ) (d c : ℕ) → F β d c → (c ≡ d) ⊎ In c first-codes) where
   abbrev t : Table
-  t = book g F F? first-codes F-in
+  t = itemTable g F F? first-codes F-in
 
   abbrev Asks : ℕ → ℕ → Action → Type 0
   Asks q X x = Asked g t F q X x

@@ -19,7 +19,7 @@ use Rattle.verdict.specs.CellsDecided.{act?, asked?}
 use Rattle.lalr.specs.States.{range}
 use Rattle.lalr.specs.Lists.{in-range}
 use Rattle.lalr.specs.Limits.{Limits}
-use Rattle.lalr.specs.LineLaws.{book}
+use Rattle.lalr.specs.LineLaws.{itemTable}
 use Rattle.lalr.specs.BuiltForm.{asked-place}
 
 abbrev pops : List EntryLine → List Action
@@ -34,7 +34,7 @@ in-pops (E u δ ∷ l) (suc j) s γ e = there (in-pops l j s γ e)
 module _ (g : Grammar) (F : List ℕ → ℕ → ℕ → Type 0) (F? : (β : List ℕ) (d c : ℕ) → Dec (F β d c)) (first-codes : List ℕ)
     (F-in : (β : List ℕ) (d c : ℕ) → F β d c → (c ≡ d) ⊎ In c first-codes) where
   abbrev t : Table
-  t = book g F F? first-codes F-in
+  t = itemTable g F F? first-codes F-in
 
   -- "one cell would hold two different actions"
   pub record TwoActions (q : ℕ) : Type 0 where

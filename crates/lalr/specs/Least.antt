@@ -21,20 +21,20 @@ use Rattle.lalr.specs.MoveLaws.{move-only}
 use Rattle.lalr.specs.StateLaws.{entry-kernel, Reached, entry-or}
 use Rattle.lalr.specs.Lookaheads as look
 use Rattle.lalr.specs.Lookaheads.{bare, entryOf, Lookahead}
-use Rattle.lalr.specs.LineLaws.{book, same-entries, code-only, Line}
+use Rattle.lalr.specs.LineLaws.{itemTable, same-entries, code-only, Line}
 use Rattle.lalr.specs.Carried.{group-wanted, carried}
 use Rattle.lalr.specs.Live.{in-one}
 use Rattle.lalr.specs.CellLaws.{goesTo, move-next, cell-move}
-use Rattle.lalr.specs.BuiltForm.{b, built-entries, built-line, is-action, asked-place}
+use Rattle.lalr.specs.BuiltForm.{fullTable, built-entries, built-line, is-action, asked-place}
 use Rattle.lalr.specs.MeetsBuilt.{entry-has, move-has, from-items}
 
 module _ (g : Grammar) (F : List ℕ → ℕ → ℕ → Type 0) (F? : (β : List ℕ) (d c : ℕ) → Dec (F β d c)) (first-codes : List ℕ)
     (F-in : (β : List ℕ) (d c : ℕ) → F β d c → (c ≡ d) ⊎ In c first-codes) (L : Limits g) (codes-low : (c : ℕ) → In c first-codes → c ≤ g .terminals) where
   abbrev t : Table
-  t = book g F F? first-codes F-in
+  t = itemTable g F F? first-codes F-in
 
   abbrev u : Table
-  u = b g F F? first-codes F-in
+  u = fullTable g F F? first-codes F-in
 
   -- an item that moves has its action line in the book, and its line in the next state
   record Moved (q X i n : ℕ) : Type 0 where

@@ -30,8 +30,8 @@ in-either {x = x} (y ∷ l) {m = m} (there n) = go (in-either l n)
 
 module _ (g : Grammar) (F : List ℕ → ℕ → ℕ → Type 0) (F? : (β : List ℕ) (d c : ℕ) → Dec (F β d c)) (first-codes : List ℕ)
     (F-in : (β : List ℕ) (d c : ℕ) → F β d c → (c ≡ d) ⊎ In c first-codes) where
-  abbrev pub book : Table
-  book = items g F F? first-codes F-in
+  abbrev pub itemTable : Table
+  itemTable = items g F F? first-codes F-in
 
   abbrev pub codes : ℕ → ℕ → List ℕ
   codes q x = codesAt g F F? first-codes F-in q x
@@ -42,7 +42,7 @@ module _ (g : Grammar) (F : List ℕ → ℕ → ℕ → Type 0) (F? : (β : Lis
   abbrev pub allOf : ℕ → List Kernel → List KernelLine
   allOf q ks = allLines g F F? first-codes F-in q ks
 
-  pub same-entries : book .entries ≡ entryLines 1 (entryStrings g)
+  pub same-entries : itemTable .entries ≡ entryLines 1 (entryStrings g)
   unfolding items
   same-entries = refl
 
@@ -123,7 +123,7 @@ module _ (g : Grammar) (F : List ℕ → ℕ → ℕ → Type 0) (F? : (β : Lis
     pub low : 1 ≤ q
     pub high : q ≤ length (states g)
 
-  pub line-of : (q i n : ℕ) (σ : List ℕ) → KernelAt g book q i n σ → Line q i n σ
+  pub line-of : (q i n : ℕ) (σ : List ℕ) → KernelAt g itemTable q i n σ → Line q i n σ
   unfolding items
   line-of q i n σ m =
       let r = all-in 1 (states g) q i n σ m in
@@ -138,7 +138,7 @@ module _ (g : Grammar) (F : List ℕ → ℕ → ℕ → Type 0) (F? : (β : Lis
         high = omega (arith, r .1, r .2);
       }
 
-  pub of-line : (q x : ℕ) → 1 ≤ q → q ≤ length (states g) → In x (kernelOf g q) → KernelAt g book q (itemOf x) (dotOf x) (codes q x)
+  pub of-line : (q x : ℕ) → 1 ≤ q → q ≤ length (states g) → In x (kernelOf g q) → KernelAt g itemTable q (itemOf x) (dotOf x) (codes q x)
   unfolding items
   of-line zero x l h m = absurd (omega (arith, l))
   of-line (suc j) x l h m =
@@ -147,11 +147,11 @@ module _ (g : Grammar) (F : List ℕ → ℕ → ℕ → Type 0) (F? : (β : Lis
 
   -- ---- what a state holds is what its kernel set holds alone
 
-  pub has-state : {q i n : ℕ} → Has g book q i n → (1 ≤ q) × (q ≤ length (states g))
+  pub has-state : {q i n : ℕ} → Has g itemTable q i n → (1 ≤ q) × (q ≤ length (states g))
   has-state {q = q} {i = i} {n = n} (in-kernel {σ = σ} h) = let l = line-of q i n σ h in (l .low, l .high)
   has-state (in-closure j h go e l) = has-state h
 
-  to-alone : (q i n : ℕ) (σ : List ℕ) → KernelAt g book q i n σ → (τ : List ℕ) × KernelAt g (alone g (kernelOf g q)) 1 i n τ
+  to-alone : (q i n : ℕ) (σ : List ℕ) → KernelAt g itemTable q i n σ → (τ : List ℕ) × KernelAt g (alone g (kernelOf g q)) 1 i n τ
   to-alone q i n σ m =
       let l = line-of q i n σ m in (
         [],
@@ -159,16 +159,16 @@ module _ (g : Grammar) (F : List ℕ → ℕ → ℕ → Type 0) (F? : (β : Lis
             (subst (λ (z : ℕ). KernelAt g (alone g (kernelOf g q)) 1 (itemOf (l .number)) z []) (sym (l .dot)) (line-alone g (l .stands))),
       )
 
-  from-alone : (q : ℕ) → 1 ≤ q → q ≤ length (states g) → (i n : ℕ) (σ : List ℕ) → KernelAt g (alone g (kernelOf g q)) 1 i n σ → (τ : List ℕ) × KernelAt g book q i n τ
+  from-alone : (q : ℕ) → 1 ≤ q → q ≤ length (states g) → (i n : ℕ) (σ : List ℕ) → KernelAt g (alone g (kernelOf g q)) 1 i n σ → (τ : List ℕ) × KernelAt g itemTable q i n τ
   from-alone q l h i n σ m =
       let a = alone-line g m in (
         codes q (a .0),
-        subst (λ (z : ℕ). KernelAt g book q z n (codes q (a .0))) (sym (a .2))
-            (subst (λ (z : ℕ). KernelAt g book q (itemOf (a .0)) z (codes q (a .0))) (sym (a .3)) (of-line q (a .0) l h (a .1))),
+        subst (λ (z : ℕ). KernelAt g itemTable q z n (codes q (a .0))) (sym (a .2))
+            (subst (λ (z : ℕ). KernelAt g itemTable q (itemOf (a .0)) z (codes q (a .0))) (sym (a .3)) (of-line q (a .0) l h (a .1))),
       )
 
-  pub moved-alone : {q X i n : ℕ} → MovedBy g book q X i n → MovedBy g (alone g (kernelOf g q)) 1 X i n
-  moved-alone {q = q} m = moved-over g book (alone g (kernelOf g q)) same-entries q 1 (to-alone q) m
+  pub moved-alone : {q X i n : ℕ} → MovedBy g itemTable q X i n → MovedBy g (alone g (kernelOf g q)) 1 X i n
+  moved-alone {q = q} m = moved-over g itemTable (alone g (kernelOf g q)) same-entries q 1 (to-alone q) m
 
-  pub alone-moved : {q X i n : ℕ} → 1 ≤ q → q ≤ length (states g) → MovedBy g (alone g (kernelOf g q)) 1 X i n → MovedBy g book q X i n
-  alone-moved {q = q} l h m = moved-over g (alone g (kernelOf g q)) book (sym same-entries) 1 q (from-alone q l h) m
+  pub alone-moved : {q X i n : ℕ} → 1 ≤ q → q ≤ length (states g) → MovedBy g (alone g (kernelOf g q)) 1 X i n → MovedBy g itemTable q X i n
+  alone-moved {q = q} l h m = moved-over g (alone g (kernelOf g q)) itemTable (sym same-entries) 1 q (from-alone q l h) m

@@ -20,20 +20,20 @@ use Rattle.lalr.specs.MoveLaws.{item-of, dot-of, in-move, move-only, mov
 use Rattle.lalr.specs.StateLaws.{more-states, entry-kernel, Reached, entry-or, Goto, goes-to}
 use Rattle.lalr.specs.Lookaheads as look
 use Rattle.lalr.specs.Lookaheads.{bare, entryOf, Lookahead}
-use Rattle.lalr.specs.LineLaws.{book, codes, code-every, of-line, moved-alone, alone-moved}
+use Rattle.lalr.specs.LineLaws.{itemTable, codes, code-every, of-line, moved-alone, alone-moved}
 use Rattle.lalr.specs.Carried.{looked, look-low}
 use Rattle.lalr.specs.Live.{in-one}
 use Rattle.lalr.specs.CellLaws.{goesTo, move-next, cell-asked, cell-moves, cell-move}
 use Rattle.lalr.specs.CellCases.{cell-filled}
-use Rattle.lalr.specs.BuiltForm.{b, states-both, built-entries, entries-both, to-built, from-built, asked-built, built-asked, built-line, action-is, is-action, asked-place, asked-moved, entry-of, built-form}
+use Rattle.lalr.specs.BuiltForm.{fullTable, states-both, built-entries, entries-both, to-built, from-built, asked-built, built-asked, built-line, action-is, is-action, asked-place, asked-moved, entry-of, built-form}
 
 module _ (g : Grammar) (F : List ℕ → ℕ → ℕ → Type 0) (F? : (β : List ℕ) (d c : ℕ) → Dec (F β d c)) (first-codes : List ℕ)
     (F-in : (β : List ℕ) (d c : ℕ) → F β d c → (c ≡ d) ⊎ In c first-codes) (L : Limits g) (codes-low : (c : ℕ) → In c first-codes → c ≤ g .terminals) where
   abbrev t : Table
-  t = book g F F? first-codes F-in
+  t = itemTable g F F? first-codes F-in
 
   abbrev u : Table
-  u = b g F F? first-codes F-in
+  u = fullTable g F F? first-codes F-in
 
   same : u .entries ≡ entryLines 1 (entryStrings g)
   same = built-entries g F F? first-codes F-in

@@ -23,12 +23,12 @@ use Rattle.lalr.specs.Limits.{Limits, declared, bounded, wanted-short}
 use Rattle.lalr.specs.MoveLaws.{move-only}
 use Rattle.lalr.specs.StateLaws.{more-states, entry-kernel, kernels-rising, Reached, entry-or}
 use Rattle.lalr.specs.Built.{items, built}
-use Rattle.lalr.specs.LineLaws.{book, same-entries, codes-rising, code-only}
+use Rattle.lalr.specs.LineLaws.{itemTable, same-entries, codes-rising, code-only}
 use Rattle.lalr.specs.Carried.{looked, first-low, look-low}
 use Rattle.lalr.specs.Live.{in-one}
 use Rattle.lalr.specs.CellLaws.{cell-asked}
 use Rattle.lalr.specs.Once.{Once, SameEntry, SameItem, SameCell, entries-once, kernels-once, kernels-count, actions-once}
-use Rattle.lalr.specs.BuiltForm.{b, built-entries, states-both, built-line, action-is}
+use Rattle.lalr.specs.BuiltForm.{fullTable, built-entries, states-both, built-line, action-is}
 use Rattle.lalr.specs.MeetsBuilt.{entry-has, target}
 
 -- "at least one symbol", at most 15, each declared
@@ -75,12 +75,12 @@ has-line (there m) = omega arith
 
 module _ (g : Grammar) (F : List ℕ → ℕ → ℕ → Type 0) (F? : (β : List ℕ) (d c : ℕ) → Dec (F β d c)) (first-codes : List ℕ)
     (F-in : (β : List ℕ) (d c : ℕ) → F β d c → (c ≡ d) ⊎ In c first-codes) (L : Limits g) (codes-low : (c : ℕ) → In c first-codes → c ≤ g .terminals)
-    (R : WellFormed g (b g F F? first-codes F-in)) where
+    (R : WellFormed g (fullTable g F F? first-codes F-in)) where
   abbrev t : Table
-  t = book g F F? first-codes F-in
+  t = itemTable g F F? first-codes F-in
 
   abbrev u : Table
-  u = b g F F? first-codes F-in
+  u = fullTable g F F? first-codes F-in
 
   same : u .entries ≡ entryLines 1 (entryStrings g)
   same = built-entries g F F? first-codes F-in
