@@ -1,0 +1,37 @@
+use Rattle.walker.specs.Memory.{gotoOf}
+use mathlib.Core.Path.{_≡_, refl, sym, ap, subst, _∙_}
+use mathlib.Core.Logic.{⊎-elim}
+use Prim.Native.Nat.{ℕ, zero, suc, _+_, _*_, _≤_, _<_, _-_}
+use native.Mathlib.Omega.{arith}
+use borrow.Author.Count.{below-more, below-none}
+use lib.ListN.{length, getD, set, length-set, replicate}
+use borrow.Author.Needs.{needs}
+use Rattle.walker.proofs.goto_at.Statement.{statement}
+use Rattle.walker.proofs.goto_at.Tie as tie
+use Rattle.walker.proofs.goto_at.Reads as reads
+use Rattle.walker.proofs.goto_at.Lts as lts
+use Rattle.walker.proofs.wide.Reads as wide-reads
+
+wide-requires : tie.Need-wide-requires
+wide-requires c κs = search needs
+
+mul-result : tie.Need-mul-result
+mul-result c = search needs
+
+wide-requires-2 : tie.Need-wide-requires-2
+wide-requires-2 c κs = search needs
+
+add-result : tie.Need-add-result
+add-result c = search needs
+
+shared-slice-read-result : tie.Need-shared-slice-read-result
+shared-slice-read-result c = search needs
+
+returns : tie.Need-returns
+unfolding gotoOf
+returns c = simp (c .before .before .wide .ensures .0, c .before .wide2 .ensures .0)
+
+pub goto-at-spec : {M : Type 1} → statement M
+goto-at-spec =
+    tie.close
+    (tie.spec wide-requires mul-result wide-requires-2 add-result shared-slice-read-result returns)
