@@ -94,3 +94,54 @@ module _ (g : Grammar) (t : Table) (kinds values gotos rules : List ℕ) (start 
   step-same l c h lc =
       ap (λ (x : Cell). act k m x l c) (cell-is (next l 0) c (low-top l h) lc)
       ∙ act-same (actionFor (t .actions) (next l 0) c) (next l 0) c l refl h
+
+-- a table's automaton leads from stacks of states that fit bytes to such stacks
+module _ (g : Grammar) (t : Table) (F : Fits g t) where
+  next-low : (o : Option Action) (q X : ℕ) → actionFor (t .actions) q X ≡ o → gotoState o < 256
+  next-low none q X e = omega arith
+  next-low (some (S s)) q X e = omega (arith, F .few-states, F .next-declared q X s (S s) (action-back (t .actions) q X (S s) e) refl .1)
+  next-low (some (N s)) q X e = omega (arith, F .few-states, F .next-declared q X s (N s) (action-back (t .actions) q X (N s) e) refl .1)
+  next-low (some (A i)) q X e = omega arith
+  next-low (some (P n)) q X e = omega arith
+
+  enter-low : (e : ℕ) → automaton g t .enter e < 256
+  enter-low e = go (entryAt t e) refl
+    where
+      go : (o : Option EntryLine) → entryAt t e ≡ o → stateOf o < 256
+      go none h = omega arith
+      go (some (E s γ)) h = omega (arith, F .few-states, F .form .entry-state e s γ h .1)
+
+  enters-low : (es : List ℕ) → AllLow (map (automaton g t .enter) es)
+  enters-low [] = tt
+  enters-low (e ∷ es) = (enter-low e, enters-low es)
+
+  low-on : {e f : Event} {a b : List ℕ} → on e a ≡ on f b → AllLow a → AllLow b
+  low-on {a = a} {b = b} h x = subst AllLow (let y : a ≡ b = cc in y) x
+
+  land-low : (i : ℕ) (r : Rule) (es l : List ℕ) {e : Event} {U : List ℕ} → land g (automaton g t) i r es l ≡ on e U → AllLow l → AllLow U
+  land-low i r es [] h x = let z : _≡_ {A = ℕ} 0 1 = cc in absurd (omega arith)
+  land-low i r es (q ∷ l) h x = low-on h (low-append (map (automaton g t .enter) es) _ (enters-low es) (next-low (actionFor (t .actions) q (r .left)) q (r .left) refl, x))
+
+  tell-low : (o : Option Rule) (i : ℕ) (es l : List ℕ) {e : Event} {U : List ℕ} → tell g (automaton g t) o i es l ≡ on e U → AllLow l → AllLow U
+  tell-low none i es l h x = let z : _≡_ {A = ℕ} 0 1 = cc in absurd (omega arith)
+  tell-low (some r) i es l h x = land-low i r es (drop (length (r .before)) l) h (low-drop (length (r .before)) l x)
+
+  shift-low : (s : ℕ) (l : List ℕ) (c : ℕ) {e : Event} {U : List ℕ} → s < 256 → shiftTo s l c ≡ on e U → AllLow l → AllLow U
+  shift-low s l zero b h x = let z : _≡_ {A = ℕ} 0 1 = cc in absurd (omega arith)
+  shift-low s l (suc c) b h x = low-on h (b, x)
+
+  pop-low : (l : List ℕ) (c : ℕ) {e : Event} {U : List ℕ} → popTo l c ≡ on e U → AllLow l → AllLow U
+  pop-low [] zero h x = let z : _≡_ {A = ℕ} 0 1 = cc in absurd (omega arith)
+  pop-low [] (suc c) h x = let z : _≡_ {A = ℕ} 0 1 = cc in absurd (omega arith)
+  pop-low (q ∷ l) c h x = low-on h x
+
+  act-low : (o : Option Action) (q c : ℕ) (l : List ℕ) {e : Event} {U : List ℕ} → actionFor (t .actions) q c ≡ o
+      → act g (automaton g t) (cellOf g t o) l c ≡ on e U → AllLow l → AllLow U
+  act-low none q c l k h x = let z : _≡_ {A = ℕ} 0 1 = cc in absurd (omega arith)
+  act-low (some (S s)) q c l k h x = shift-low s l c (next-low (some (S s)) q c k) h x
+  act-low (some (N s)) q c l k h x = let z : _≡_ {A = ℕ} 0 1 = cc in absurd (omega arith)
+  act-low (some (A i)) q c l k h x = tell-low (ruleAt g i) i (groupEntries g t i) l h x
+  act-low (some (P n)) q c l k h x = pop-low (drop n l) c h (low-drop n l x)
+
+  pub step-low : (l : List ℕ) (c : ℕ) {e : Event} {U : List ℕ} → step g (automaton g t) l c ≡ on e U → AllLow l → AllLow U
+  step-low l c h x = act-low (actionFor (t .actions) (next l 0) c) (next l 0) c l refl h x
