@@ -5,3 +5,4 @@ pub mod MoveLaws
 pub mod StepLaws
 pub mod RunLaws
 pub mod EndLaws
+pub mod AgreeLaws

@@ -11,7 +11,7 @@ use Rattle.language.specs.Grammar.{Rule, at, ruleAt}
 use Rattle.language.specs.First.{next}
 use Rattle.language.specs.Listing.{unitOf, isUnit}
 use Rattle.leftcorner.specs.Machine.{Outcome, on, wrong, announced, land, tell}
-use Rattle.walker.specs.Memory.{figureOf, gotoOf, memoryRule, rulesFrom, memoryGrammar, entryState, groupEntries, memoryAutomaton}
+use Rattle.walker.specs.Memory.{cellAt, meaning, figureOf, gotoOf, memoryRule, rulesFrom, memoryGrammar, entryState, groupEntries, memoryAutomaton}
 use Rattle.walker.specs.Turn.{groupsOver, ruleOver}
 
 rules-at : (rules : List ℕ) (n i j : ℕ) → j < n → at (rulesFrom rules n i) j ≡ some (memoryRule rules (i + j))
@@ -40,12 +40,20 @@ pub unit-is : (rules : List ℕ) (r : ℕ) → 0 < r → r < 256 → isUnit (rul
 unit-is rules r pos lt = ap isUnit (rule-is rules r pos lt) ∙ odd-unit (figureOf rules r 2)
 
 module _ (kinds values gotos rules : List ℕ) (start : ℕ) where
-  groups-enter : (r j : ℕ) (S : List ℕ) → map ((memoryAutomaton kinds values gotos rules start) .enter) (groupEntries rules r j) ++ S ≡ groupsOver rules r j S
+  pub start-is : (memoryAutomaton kinds values gotos rules start) .enter 1 ≡ start
+  unfolding memoryAutomaton
+  start-is = refl
+
+  pub cell-is : (q c : ℕ) → (memoryAutomaton kinds values gotos rules start) .cell q c ≡ meaning rules (cellAt kinds values q c)
+  unfolding memoryAutomaton
+  cell-is q c = refl
+
+  pub groups-enter : (r j : ℕ) (S : List ℕ) → map ((memoryAutomaton kinds values gotos rules start) .enter) (groupEntries rules r j) ++ S ≡ groupsOver rules r j S
   unfolding memoryAutomaton
   groups-enter r zero S = refl
   groups-enter r (suc j) S = ap (λ (l : List ℕ). figureOf rules r (4 + j) ∷ l) (groups-enter r j S)
 
-  goto-is : (q x : ℕ) → (memoryAutomaton kinds values gotos rules start) .goto q (64 + x) ≡ gotoOf gotos q x
+  pub goto-is : (q x : ℕ) → (memoryAutomaton kinds values gotos rules start) .goto q (64 + x) ≡ gotoOf gotos q x
   unfolding memoryAutomaton
   goto-is q x = let e : 64 + x - 64 ≡ x = omega arith in ap (gotoOf gotos q) e
 
