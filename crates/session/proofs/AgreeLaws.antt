@@ -2,6 +2,7 @@
 use Prim.Native.Nat.{ℕ, zero, suc, _+_, _*_, _-_, _≤_, _<_}
 use native.Mathlib.Omega.{arith}
 use mathlib.Core.Path.{_≡_, refl, sym, ap, ap₂, _∙_, subst}
+use mathlib.Core.Logic.{_⊎_, inl, inr}
 use mathlib.Core.Bool.{Bool, true, false, cond, _&&_}
 use mathlib.Core.List.{List, [], _∷_, _++_, map}
 use mathlib.Core.Option.{Option, some, none}
@@ -10,7 +11,9 @@ use lib.ListN.{length, drop, getD, replicate, length-replicate}
 use borrow.Author.Tests.{le-leb}
 use Rattle.language.specs.Grammar.{Grammar, Rule, ruleAt, IsNonterminal}
 use Rattle.language.specs.First.{next}
-use Rattle.leftcorner.specs.Machine.{Automaton, Cell, Outcome, on, Event, announced, act, step, tell, land, shiftTo, popTo, shift, announce, pop, empty}
+use Rattle.language.specs.Listing.{unitsIn}
+use Rattle.language.specs.Sentence.{In}
+use Rattle.leftcorner.specs.Machine.{Automaton, Cell, Outcome, on, Event, announced, act, step, tell, land, shiftTo, popTo, walk, shift, announce, pop, empty}
 use Rattle.leftcorner.specs.Table.{EntryLine, E, Action, S, N, A, P, Table, entryAt, stateOf, actionFor, gotoState, cellOf, groupEntries, automaton}
 use Rattle.leftcorner.specs.Construction.{ActionAt}
 use Rattle.leftcorner.specs.ReadOff.{action-back}
@@ -18,7 +21,9 @@ use Rattle.memory.specs.Memory.{HoldsActions, kindOf, valueOf, popValue}
 use Rattle.memory.specs.Fits.{Fits}
 use Rattle.walker.specs.Memory.{figureOf, gotoOf, cellAt, memoryRule, memoryGrammar, entryState, meaning, memoryAutomaton}
 use Rattle.walker.specs.Memory as memory
+use Rattle.walker.specs.Walked.{memoryWalk}
 use Rattle.walker.proofs.MemoryLaws.{rule-is}
+use Rattle.walker.proofs.AgreeLaws.{CodeOf, walk-agree, units-agree}
 use Rattle.session.specs.Linked.{Linked}
 
 -- every state of a stack fits a byte
@@ -145,3 +150,22 @@ module _ (g : Grammar) (t : Table) (F : Fits g t) where
 
   pub step-low : (l : List ℕ) (c : ℕ) {e : Event} {U : List ℕ} → step g (automaton g t) l c ≡ on e U → AllLow l → AllLow U
   step-low l c h x = act-low (actionFor (t .actions) (next l 0) c) (next l 0) c l refl h x
+
+-- the walk over tables in memory is the walk of the table's automaton
+module _ (g : Grammar) (t : Table) (kinds values gotos rules : List ℕ) (start : ℕ) (H : HoldsActions kinds values gotos t) (F : Fits g t)
+    (L : Linked rules start g t) (few : (i : ℕ) (r : Rule) → ruleAt g i ≡ some r → (i < 256) × (r .left < 128))
+    (pops : (q c n : ℕ) → ActionAt g t q c (P n) → (1 ≤ n) × (n ≤ 255)) (entry : automaton g t .enter 1 ≡ start) where
+  pub walk-same : (n k : ℕ) (w : List ℕ) → ((a : ℕ) → In a w → a < 64) → walk g (automaton g t) n k w ≡ memoryWalk kinds values gotos rules start n k w
+  unfolding memoryWalk memoryAutomaton
+  walk-same n k w tokens =
+      walk-agree g (memoryGrammar rules) (automaton g t) (memoryAutomaton kinds values gotos rules start) w AllLow
+        (λ S U c e s x h. step-low g t F S c h s)
+        (λ S c s x. sym (step-same g t kinds values gotos rules start H F L few pops S c s (code x)))
+        n k entry (enter-low g t F 1, tt)
+    where
+      code : {c : ℕ} → CodeOf w c → c < 64
+      code (inl e) = omega (arith, e)
+      code {c = c} (inr i) = tokens c i
+
+  pub units-same : (l : List ℕ) → unitsIn (memoryGrammar rules) l ≡ unitsIn g l
+  units-same l = units-agree (memoryGrammar rules) g (L .units-is) l
