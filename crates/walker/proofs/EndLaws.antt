@@ -1,16 +1,15 @@
 -- What the walk hands back, from what its loop left in the slices.
-use mathlib.Core.Path.{_≡_, refl, sym, ap, _∙_}
+use mathlib.Core.Path.{_≡_, refl, ap, _∙_}
 use mathlib.Core.List.{List, [], _∷_, _++_, append-nil}
-use Prim.Native.Nat.{ℕ, zero, suc, _+_, _-_, _≤_, _<_}
+use Prim.Native.Nat.{ℕ, _+_, _-_}
 use native.Mathlib.Omega.{arith}
-use lib.ListN.{length, take, drop, replicate, length-take, length-drop, drop-of-length-le}
+use lib.ListN.{length, take, drop, replicate, length-drop, drop-of-length-le}
 use lib.Seq.{take-all}
 use borrow.Rule.Slice.PartMut.{putMid}
 use Rattle.language.specs.Grammar.{Grammar}
 use Rattle.leftcorner.specs.Machine.{Verdict, whole-at, wrong-at, short-at}
 use Rattle.walker.specs.declared.Walked.{Walked}
 use Rattle.walker.specs.Walked.{answer, listed, padded, countOf, memoryWalk, Ended}
-use Rattle.walker.specs.Memory.{memoryGrammar}
 
 -- ---- a lent tail of a slice
 

@@ -1,17 +1,16 @@
 -- What the grammar and the machine in memory answer.
-use mathlib.Core.Path.{_≡_, refl, sym, ap, _∙_}
-use mathlib.Core.Bool.{Bool, true, false, cond}
+use mathlib.Core.Path.{_≡_, refl, ap, _∙_}
 use mathlib.Core.List.{List, [], _∷_, _++_, map}
-use mathlib.Core.Option.{Option, some, none}
+use mathlib.Core.Option.{some}
 use Prim.Native.Nat.{ℕ, zero, suc, _+_, _-_, _%_, _≤_, _<_}
 use native.Mathlib.Omega.{arith}
 use lib.Dec.{eqb}
-use lib.ListN.{length, replicate, drop, length-replicate, length-drop}
-use Rattle.language.specs.Grammar.{Rule, at, ruleAt}
+use lib.ListN.{length, drop, length-replicate, length-drop}
+use Rattle.language.specs.Grammar.{at, ruleAt}
 use Rattle.language.specs.First.{next}
 use Rattle.language.specs.Listing.{unitOf, isUnit}
-use Rattle.leftcorner.specs.Machine.{Outcome, on, wrong, announced, land, tell}
-use Rattle.walker.specs.Memory.{cellAt, meaning, figureOf, gotoOf, memoryRule, rulesFrom, memoryGrammar, entryState, groupEntries, memoryAutomaton}
+use Rattle.leftcorner.specs.Machine.{on, wrong, announced, land, tell}
+use Rattle.walker.specs.Memory.{cellAt, meaning, figureOf, gotoOf, memoryRule, rulesFrom, memoryGrammar, groupEntries, memoryAutomaton}
 use Rattle.walker.specs.Turn.{groupsOver, ruleOver}
 
 rules-at : (rules : List ℕ) (n i j : ℕ) → j < n → at (rulesFrom rules n i) j ≡ some (memoryRule rules (i + j))
@@ -63,34 +62,34 @@ module _ (kinds values gotos rules : List ℕ) (start : ℕ) where
 
   module _ (r : ℕ) (pos : 0 < r) (small : r < 256) (S : List ℕ) where
     told : tell (memoryGrammar rules) (memoryAutomaton kinds values gotos rules start) (ruleAt (memoryGrammar rules) r) r
-          (groupEntries rules r (figureOf rules r 3)) S
+        (groupEntries rules r (figureOf rules r 3)) S
         ≡ land (memoryGrammar rules) (memoryAutomaton kinds values gotos rules start) r (memoryRule rules r)
-          (groupEntries rules r (figureOf rules r 3)) (drop (figureOf rules r 0) S)
+        (groupEntries rules r (figureOf rules r 3)) (drop (figureOf rules r 0) S)
     told = rw (rule-is rules r pos small, length-replicate)
 
     -- an announce that would go below the bottom
     pub told-wrong : length S ≤ figureOf rules r 0
         → tell (memoryGrammar rules) (memoryAutomaton kinds values gotos rules start) (ruleAt (memoryGrammar rules) r) r
-          (groupEntries rules r (figureOf rules r 3)) S ≡ wrong
+        (groupEntries rules r (figureOf rules r 3)) S ≡ wrong
     told-wrong le = told ∙ go (drop (figureOf rules r 0) S) (length-drop (figureOf rules r 0) S)
       where
         go : (U : List ℕ) → length U ≡ length S - figureOf rules r 0
             → land (memoryGrammar rules) (memoryAutomaton kinds values gotos rules start) r (memoryRule rules r)
-              (groupEntries rules r (figureOf rules r 3)) U ≡ wrong
+            (groupEntries rules r (figureOf rules r 3)) U ≡ wrong
         go [] e = refl
         go (q ∷ U) e = absurd (omega arith)
 
     -- an announce
     pub told-on : figureOf rules r 0 < length S
         → tell (memoryGrammar rules) (memoryAutomaton kinds values gotos rules start) (ruleAt (memoryGrammar rules) r) r
-          (groupEntries rules r (figureOf rules r 3)) S
+        (groupEntries rules r (figureOf rules r 3)) S
         ≡ on (announced r) (ruleOver gotos rules r (figureOf rules r 3) (drop (figureOf rules r 0) S))
     unfolding ruleOver
     told-on lt = told ∙ go (drop (figureOf rules r 0) S) (length-drop (figureOf rules r 0) S)
       where
         go : (U : List ℕ) → length U ≡ length S - figureOf rules r 0
             → land (memoryGrammar rules) (memoryAutomaton kinds values gotos rules start) r (memoryRule rules r)
-              (groupEntries rules r (figureOf rules r 3)) U
+            (groupEntries rules r (figureOf rules r 3)) U
             ≡ on (announced r) (groupsOver rules r (figureOf rules r 3) (gotoOf gotos (next U 0) (figureOf rules r 1) ∷ U))
         go [] e = absurd (omega arith)
         go (q ∷ U) e = ap (on (announced r))

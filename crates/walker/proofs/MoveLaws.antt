@@ -4,15 +4,14 @@ use mathlib.Core.List.{List, [], _∷_, _++_, append-nil}
 use Prim.Native.Nat.{ℕ, zero, suc, _+_, _*_, _-_, _%_, _≤_, _<_}
 use native.Mathlib.Numerals.{add-one}
 use native.Mathlib.Omega.{arith}
-use lib.ListN.{length, getD, set, drop, take, length-set, length-append, length-drop}
+use lib.ListN.{length, getD, set, drop, take, length-set, length-drop}
 use lib.Seq.{length-take-le, take-suc-set, drop-drop, getD-set-same}
 use Rattle.language.specs.Grammar.{Grammar, ruleAt}
-use Rattle.language.specs.Listing.{unitsIn, isUnit}
 use Rattle.leftcorner.specs.Machine.{Automaton, Event, Outcome, on, rulesOf, toCome, taken, shiftTo, popTo, tell, Verdict}
-use Rattle.leftcorner.specs.Machine as machine
 use Rattle.walker.specs.declared.Position.{Position}
+use Rattle.walker.specs.declared.Turn.{Turn}
 use Rattle.walker.specs.Memory.{figureOf, groupEntries, memoryGrammar, memoryAutomaton}
-use Rattle.walker.specs.Turn.{tops, ruleOver, stepsLeft, Stands, Moves, proceeds}
+use Rattle.walker.specs.Turn.{tops, ruleOver, loweredTo, stepsLeft, Stands, Moves, Turned, proceeds}
 use Rattle.walker.proofs.StackLaws.{tops-push, tops-length, tops-drop}
 use Rattle.walker.proofs.MemoryLaws.{told-on, unit-is}
 use Rattle.walker.proofs.TurnLaws.{shift-on, pop-on, units-snoc, fits-yes}
@@ -34,13 +33,13 @@ module _ (g : Grammar) (m : Automaton) (n k : ℕ) (tokens stack listing : List 
   moves {o} {e} {U} {stack′} {listing′} {q} h eU ew ep el s less =
       let a : length U ≤ n = rw eU (omega (arith, tops-length stack′ (q .height), s .high)) in
       let b : length (take (p .listed) listing ++ rulesOf e) ≤ k =
-            rw el (omega (arith, length-take-le (q .listed) listing′ (omega (arith, s .room, s .listing-long)), s .room)) in
-      record
-        { stands = s
-        ; goes = λ again. ap (λ (x : Outcome). proceeds g m n k tokens stack listing p x again) h
-            ∙ fits-yes g m n k (p .taken) U (take (p .listed) listing ++ rulesOf e) _ a b ∙ again-same again eU ew ep el
-        ; less = less
-        }
+      rw el (omega (arith, length-take-le (q .listed) listing′ (omega (arith, s .room, s .listing-long)), s .room)) in
+      record {
+        stands = s;
+        goes = λ again. ap (λ (x : Outcome). proceeds g m n k tokens stack listing p x again) h
+            ∙ fits-yes g m n k (p .taken) U (take (p .listed) listing ++ rulesOf e) _ a b ∙ again-same again eU ew ep el;
+        less = less;
+      }
     where
       again-same : {a a′ b b′ d d′ : List ℕ} {c c′ : ℕ} (again : List ℕ → List ℕ → ℕ → List ℕ → Verdict) → a ≡ a′ → b ≡ b′ → c ≡ c′ → d ≡ d′
           → again a b c d ≡ again a′ b′ c′ d′
@@ -49,48 +48,49 @@ module _ (g : Grammar) (m : Automaton) (n k : ℕ) (tokens stack listing : List 
   pub move-shift : (s c code : ℕ) → Stands g n k tokens stack listing p → code ≡ p .code → (code ≡ 0 → ⊥) → p .height < length stack
       → c ≡ getD tokens (p .taken + 1) 0
       → Moves g m n k tokens stack listing p (shiftTo s (tops stack (p .height)) code) (set stack (p .height) s) listing
-        (record { height = p .height + 1; taken = p .taken + 1; listed = p .listed; units = p .units; top = s; code = c })
+      (record { height = p .height + 1; taken = p .taken + 1; listed = p .listed; units = p .units; top = s; code = c })
   unfolding stepsLeft
   move-shift s c code h ec ne lt e =
       let more : p .taken < length tokens = inside tokens (p .taken) (λ z. ne (ec ∙ h .code-is ∙ z)) in
       let one : p .height + 1 - 1 ≡ p .height = omega arith in
       let long : length (set stack (p .height) s) ≡ length stack = simp length-set in
       moves (shift-on s (tops stack (p .height)) code ne) (sym (tops-push stack (p .height) s lt)) (drop-drop 1 (p .taken) tokens) (sym (add-one (p .taken)))
-        (append-nil (take (p .listed) listing))
-        (record
-          { stack-long = long ∙ h .stack-long
-          ; listing-long = h .listing-long
-          ; started = omega arith
-          ; high = omega (arith, h .stack-long)
-          ; room = h .room
-          ; in-tokens = omega arith
-          ; counted = h .counted
-          ; top-is = sym (ap (λ (i : ℕ). getD (set stack (p .height) s) i 0) one ∙ getD-set-same stack (p .height) s 0 lt)
-          ; code-is = e
-          })
-        (fewer (k - p .listed + (length tokens - (p .taken + 1))) (k - p .listed + (length tokens - p .taken)) n (p .height) (p .height + 1) (omega arith) (omega (arith, h .stack-long)))
+      (append-nil (take (p .listed) listing))
+      (record {
+        stack-long = long ∙ h .stack-long;
+        listing-long = h .listing-long;
+        started = omega arith;
+        high = omega (arith, h .stack-long);
+        room = h .room;
+        in-tokens = omega arith;
+        counted = h .counted;
+        top-is = sym (ap (λ (i : ℕ). getD (set stack (p .height) s) i 0) one ∙ getD-set-same stack (p .height) s 0 lt);
+        code-is = e;
+      })
+      (fewer (k - p .listed + (length tokens - (p .taken + 1))) (k - p .listed + (length tokens - p .taken)) n (p .height) (p .height + 1) (omega arith) (omega (arith, h .stack-long)))
 
   pub move-pop : (symbols pops code : ℕ) → Stands g n k tokens stack listing p → code ≡ p .code → pops ≡ symbols + 1 → pops < p .height
-      → Moves g m n k tokens stack listing p (popTo (drop (suc symbols) (tops stack (p .height))) code) stack listing
-        (record { height = p .height - pops; taken = p .taken; listed = p .listed; units = p .units; top = getD stack (p .height - pops - 1) 0; code = code })
+      → {t : Turn} → t ≡ loweredTo stack (p .height - pops) code p
+      → Turned g m n k tokens stack listing p (popTo (drop (suc symbols) (tops stack (p .height))) code) stack listing t
   unfolding stepsLeft
-  move-pop symbols pops code h ec e lt =
+  move-pop symbols pops code h ec e lt et =
       let d : drop (suc symbols) (tops stack (p .height)) ≡ tops stack (p .height - pops) =
-            let z : p .height - suc symbols ≡ p .height - pops = omega arith in tops-drop stack (suc symbols) (p .height) (omega arith) ∙ ap (tops stack) z in
-      moves (pop-on (drop (suc symbols) (tops stack (p .height))) code (omega (arith, length-drop (suc symbols) (tops stack (p .height)), tops-length stack (p .height)))) d refl refl
-        (append-nil (take (p .listed) listing))
-        (record
-          { stack-long = h .stack-long
-          ; listing-long = h .listing-long
-          ; started = omega arith
-          ; high = omega (arith, h .high)
-          ; room = h .room
-          ; in-tokens = h .in-tokens
-          ; counted = h .counted
-          ; top-is = refl
-          ; code-is = ec ∙ h .code-is
-          })
-        (omega arith)
+      let z : p .height - suc symbols ≡ p .height - pops = omega arith in tops-drop stack (suc symbols) (p .height) (omega arith) ∙ ap (tops stack) z in
+      subst (Turned g m n k tokens stack listing p (popTo (drop (suc symbols) (tops stack (p .height))) code) stack listing) (sym et)
+      (moves (pop-on (drop (suc symbols) (tops stack (p .height))) code (omega (arith, length-drop (suc symbols) (tops stack (p .height)), tops-length stack (p .height)))) d refl refl
+      (append-nil (take (p .listed) listing))
+      (record {
+        stack-long = h .stack-long;
+        listing-long = h .listing-long;
+        started = omega arith;
+        high = omega (arith, h .high);
+        room = h .room;
+        in-tokens = h .in-tokens;
+        counted = h .counted;
+        top-is = refl;
+        code-is = ec ∙ h .code-is;
+      })
+      (omega arith))
 
 module _ (kinds values gotos rules : List ℕ) (start n k : ℕ) (tokens stack listing : List ℕ) (p : Position) where
   pub move-announce : (r code pops groups unit height : ℕ) (stack′ : List ℕ) → Stands (memoryGrammar rules) n k tokens stack listing p → code ≡ p .code
@@ -99,32 +99,37 @@ module _ (kinds values gotos rules : List ℕ) (start n k : ℕ) (tokens stack l
       → length stack′ ≡ length stack
       → tops stack′ height ≡ ruleOver gotos rules r groups (tops stack (p .height - pops))
       → Moves (memoryGrammar rules) (memoryAutomaton kinds values gotos rules start) n k tokens stack listing p
-          (tell (memoryGrammar rules) (memoryAutomaton kinds values gotos rules start) (ruleAt (memoryGrammar rules) r) r
-            (groupEntries rules r (figureOf rules r 3)) (tops stack (p .height)))
-          stack′ (set listing (p .listed) r)
-          (record
-            { height = height; taken = p .taken; listed = p .listed + 1; units = p .units + unit
-            ; top = getD stack′ (height - 1) 0; code = code })
+      (tell (memoryGrammar rules) (memoryAutomaton kinds values gotos rules start) (ruleAt (memoryGrammar rules) r) r
+      (groupEntries rules r (figureOf rules r 3)) (tops stack (p .height)))
+      stack′ (set listing (p .listed) r)
+      (record {
+        height = height;
+        taken = p .taken;
+        listed = p .listed + 1;
+        units = p .units + unit;
+        top = getD stack′ (height - 1) 0;
+        code = code;
+      })
   unfolding stepsLeft
   move-announce r code pops groups unit height stack′ h ec pos small ep lp eg eu slot fit eh es so =
       let a : drop (figureOf rules r 0) (tops stack (p .height)) ≡ tops stack (p .height - pops) = rw (← ep) (tops-drop stack pops (p .height) (omega arith)) in
       let b : ruleOver gotos rules r (figureOf rules r 3) (drop (figureOf rules r 0) (tops stack (p .height))) ≡ tops stack′ height =
-            rw (a, ← eg) (sym so) in
+      rw (a, ← eg) (sym so) in
       let o : take (p .listed + 1) (set listing (p .listed) r) ≡ take (p .listed) listing ++ r ∷ [] =
-            rw (add-one) (take-suc-set listing (p .listed) r slot) in
+      rw (add-one) (take-suc-set listing (p .listed) r slot) in
       let long : length (set listing (p .listed) r) ≡ length listing = simp length-set in
       moves (memoryGrammar rules) (memoryAutomaton kinds values gotos rules start) n k tokens stack listing p
-        (told-on kinds values gotos rules start r pos small (tops stack (p .height)) (omega (arith, tops-length stack (p .height)))) b refl refl (sym o)
-        (record
-          { stack-long = es ∙ h .stack-long
-          ; listing-long = long ∙ h .listing-long
-          ; started = omega arith
-          ; high = omega (arith, h .stack-long)
-          ; room = omega (arith, h .listing-long)
-          ; in-tokens = h .in-tokens
-          ; counted = rw (o, units-snoc, unit-is rules r pos small, ← eu, ← h .counted)
-          ; top-is = refl
-          ; code-is = ec ∙ h .code-is
-          })
-        (fewer (k - (p .listed + 1) + (length tokens - p .taken)) (k - p .listed + (length tokens - p .taken)) n (p .height) height
-          (omega (arith, h .listing-long)) (omega (arith, h .stack-long)))
+      (told-on kinds values gotos rules start r pos small (tops stack (p .height)) (omega (arith, tops-length stack (p .height)))) b refl refl (sym o)
+      (record {
+        stack-long = es ∙ h .stack-long;
+        listing-long = long ∙ h .listing-long;
+        started = omega arith;
+        high = omega (arith, h .stack-long);
+        room = omega (arith, h .listing-long);
+        in-tokens = h .in-tokens;
+        counted = rw (o, units-snoc, unit-is rules r pos small, ← eu, ← h .counted);
+        top-is = refl;
+        code-is = ec ∙ h .code-is;
+      })
+      (fewer (k - (p .listed + 1) + (length tokens - p .taken)) (k - p .listed + (length tokens - p .taken)) n (p .height) height
+      (omega (arith, h .listing-long)) (omega (arith, h .stack-long)))

@@ -35,35 +35,35 @@ module _ (kinds values gotos rules : List ℕ) (start n k : ℕ) (tokens : List 
         → Stands (memoryGrammar rules) n k tokens (set stack 0 start) listing (record { height = 1; taken = 0; listed = 0; units = 0; top = start; code = c })
     stands-first e ec =
         let l : length (set stack 0 start) ≡ length stack = simp length-set in
-        record
-          { stack-long = long
-          ; listing-long = e
-          ; started = omega arith
-          ; high = omega (arith, l)
-          ; room = omega arith
-          ; in-tokens = omega arith
-          ; counted = refl
-          ; top-is = sym (getD-set-same stack 0 start 0 some)
-          ; code-is = ec
-          }
+        record {
+          stack-long = long;
+          listing-long = e;
+          started = omega arith;
+          high = omega (arith, l);
+          room = omega arith;
+          in-tokens = omega arith;
+          counted = refl;
+          top-is = sym (getD-set-same stack 0 start 0 some);
+          code-is = ec;
+        }
 
     pub going-first : Going (set stack 0 start) listing (record { height = 1; taken = 0; listed = 0; units = 0; top = start; code = c })
     unfolding memoryWalk memoryAutomaton stepsLeft
     going-first =
         let l : length (set stack 0 start) ≡ length stack = simp length-set in
-        record
-          { fuel = suc (suc (k + length tokens) * suc n)
-          ; enough = enough-first (k - 0 + (length tokens - 0)) (k + length tokens) n (omega arith)
-          ; same = fits-yes (memoryGrammar rules) (memoryAutomaton kinds values gotos rules start) n k 0 (start ∷ []) [] _ (omega (arith, l)) (omega arith)
+        record {
+          fuel = suc (suc (k + length tokens) * suc n);
+          enough = enough-first (k - 0 + (length tokens - 0)) (k + length tokens) n (omega arith);
+          same = fits-yes (memoryGrammar rules) (memoryAutomaton kinds values gotos rules start) n k 0 (start ∷ []) [] _ (omega (arith, l)) (omega arith)
               ∙ ap (λ (q : ℕ). walkFor (memoryGrammar rules) (memoryAutomaton kinds values gotos rules start) n k (suc (suc (k + length tokens) * suc n)) (q ∷ []) tokens 0 [])
-                (sym (getD-set-same stack 0 start 0 some))
-          }
+              (sym (getD-set-same stack 0 start 0 some));
+        }
 
   -- ---- a step
 
   module _ (stack listing stack′ listing′ : List ℕ) (p : Position) (t : Turn)
-    (s : Stands (memoryGrammar rules) n k tokens stack listing p)
-    (h : Turned (memoryGrammar rules) (memoryAutomaton kinds values gotos rules start) (length stack) (length listing) tokens stack listing p
+      (s : Stands (memoryGrammar rules) n k tokens stack listing p)
+      (h : Turned (memoryGrammar rules) (memoryAutomaton kinds values gotos rules start) (length stack) (length listing) tokens stack listing p
       (step (memoryGrammar rules) (memoryAutomaton kinds values gotos rules start) (tops stack (p .height)) (next (drop (p .taken) tokens) 0)) stack′ listing′ t) where
     turned : Turned (memoryGrammar rules) (memoryAutomaton kinds values gotos rules start) n k tokens stack listing p
         (step (memoryGrammar rules) (memoryAutomaton kinds values gotos rules start) (tops stack (p .height)) (next (drop (p .taken) tokens) 0)) stack′ listing′ t
@@ -73,7 +73,7 @@ module _ (kinds values gotos rules : List ℕ) (start n k : ℕ) (tokens : List 
         (step (memoryGrammar rules) (memoryAutomaton kinds values gotos rules start) (tops stack (p .height)) (next (drop (p .taken) tokens) 0)) stack′ listing′ q
     moved e = subst
         (λ (u : Turn). Turned (memoryGrammar rules) (memoryAutomaton kinds values gotos rules start) n k tokens stack listing p
-          (step (memoryGrammar rules) (memoryAutomaton kinds values gotos rules start) (tops stack (p .height)) (next (drop (p .taken) tokens) 0)) stack′ listing′ u)
+        (step (memoryGrammar rules) (memoryAutomaton kinds values gotos rules start) (tops stack (p .height)) (next (drop (p .taken) tokens) 0)) stack′ listing′ u)
         e turned
 
     pub going-on : {q : Position} → t ≡ On q → Going stack listing p → Going stack′ listing′ q
@@ -83,11 +83,11 @@ module _ (kinds values gotos rules : List ℕ) (start n k : ℕ) (tokens : List 
             ≡ walkFor (memoryGrammar rules) (memoryAutomaton kinds values gotos rules start) n k f (tops stack (p .height)) (drop (p .taken) tokens) (p .taken) (take (p .listed) listing)
             → Going stack′ listing′ q
         go zero le same = absurd (omega (arith, (moved e) .less))
-        go (suc f) le same = record
-          { fuel = f
-          ; enough = omega (arith, (moved e) .less)
-          ; same = same ∙ (moved e) .goes (walkFor (memoryGrammar rules) (memoryAutomaton kinds values gotos rules start) n k f)
-          }
+        go (suc f) le same = record {
+          fuel = f;
+          enough = omega (arith, (moved e) .less);
+          same = same ∙ (moved e) .goes (walkFor (memoryGrammar rules) (memoryAutomaton kinds values gotos rules start) n k f);
+        }
 
     pub going-ends : {w : Walked} → t ≡ Ends w → Going stack listing p → Ended (memoryGrammar rules) (memoryWalk kinds values gotos rules start n k tokens) w listing′
     unfolding stepsLeft
@@ -97,8 +97,9 @@ module _ (kinds values gotos rules : List ℕ) (start n k : ℕ) (tokens : List 
             (step (memoryGrammar rules) (memoryAutomaton kinds values gotos rules start) (tops stack (p .height)) (next (drop (p .taken) tokens) 0)) listing′ w
         fin = subst
             (λ (u : Turn). Turned (memoryGrammar rules) (memoryAutomaton kinds values gotos rules start) n k tokens stack listing p
-              (step (memoryGrammar rules) (memoryAutomaton kinds values gotos rules start) (tops stack (p .height)) (next (drop (p .taken) tokens) 0)) stack′ listing′ u)
+            (step (memoryGrammar rules) (memoryAutomaton kinds values gotos rules start) (tops stack (p .height)) (next (drop (p .taken) tokens) 0)) stack′ listing′ u)
             e turned
+
         go : (f : ℕ) → stepsLeft n k tokens p ≤ f → memoryWalk kinds values gotos rules start n k tokens
             ≡ walkFor (memoryGrammar rules) (memoryAutomaton kinds values gotos rules start) n k f (tops stack (p .height)) (drop (p .taken) tokens) (p .taken) (take (p .listed) listing)
             → Ended (memoryGrammar rules) (memoryWalk kinds values gotos rules start n k tokens) w listing′

@@ -1,10 +1,10 @@
 -- A slice's bytes as a stack, top first, under pushes and pops.
-use mathlib.Core.Path.{_≡_, refl, ap, _∙_}
-use mathlib.Core.List.{List, [], _∷_}
+use mathlib.Core.Path.{_≡_, refl, sym, ap, _∙_}
+use mathlib.Core.List.{List, _∷_}
 use Prim.Native.Nat.{ℕ, zero, suc, _+_, _-_, _≤_, _<_}
 use native.Mathlib.Numerals.{add-one}
 use native.Mathlib.Omega.{arith}
-use lib.ListN.{length, getD, set, drop}
+use lib.ListN.{length, getD, set, drop, length-set}
 use lib.Seq.{getD-set-same, getD-set-other}
 use Rattle.language.specs.First.{next}
 use Rattle.walker.specs.Memory.{figureOf, gotoOf}
@@ -31,16 +31,39 @@ tops-top s zero lt = absurd (omega arith)
 tops-top s (suc h) lt = let e : h ≡ suc h - 1 = omega arith in ap (λ (i : ℕ). getD s i 0) e
 
 -- one group more
+push-group :
+    (rules s S : List ℕ) (r h j v : ℕ) → v ≡ figureOf rules r (4 + j) → h < length s → tops s h ≡ groupsOver rules r j S
+    → tops (set s h v) (h + 1) ≡ groupsOver rules r (suc j) S
+push-group rules s S r h j v e lt so = tops-push s h v lt ∙ rw (so, e)
+
 pub push-step :
     (rules s S : List ℕ) (r h j v : ℕ) → v ≡ figureOf rules r (4 + j) → h + j < length s → tops s (h + j) ≡ groupsOver rules r j S
     → tops (set s (h + j) v) (h + (j + 1)) ≡ groupsOver rules r (j + 1) S
 push-step rules s S r h j v e lt so =
     let n : h + (j + 1) ≡ h + j + 1 = omega arith in
-    let a : groupsOver rules r (j + 1) S ≡ figureOf rules r (4 + j) ∷ groupsOver rules r j S = rw (add-one) in
-    ap (tops (set s (h + j) v)) n ∙ tops-push s (h + j) v lt ∙ rw (so, e, a)
+    ap (tops (set s (h + j) v)) n ∙ push-group rules s S r (h + j) j v e lt so ∙ rw (add-one)
 
-pub push-end : (rules s S : List ℕ) (r g h j : ℕ) → j ≡ g → tops s (h + j) ≡ groupsOver rules r j S → tops s (h + j) ≡ groupsOver rules r g S
-push-end rules s S r g h j e so = so ∙ ap (λ (k : ℕ). groupsOver rules r k S) e
+-- one, two and three groups
+module _ (rules s : List ℕ) (r h u v w : ℕ) (a : u ≡ figureOf rules r 4) where
+  pub push-one : h < length s → tops (set s h u) (h + 1) ≡ groupsOver rules r 1 (tops s h)
+  push-one lt = push-group rules s (tops s h) r h 0 u a lt refl
+
+  pub push-two : v ≡ figureOf rules r 5 → h + 1 < length s → tops (set (set s h u) (h + 1) v) (h + 2) ≡ groupsOver rules r 2 (tops s h)
+  push-two b lt =
+      let n : h + 2 ≡ h + 1 + 1 = omega arith in
+      let l : length (set s h u) ≡ length s = simp length-set in
+      ap (tops (set (set s h u) (h + 1) v)) n ∙ push-group rules (set s h u) (tops s h) r (h + 1) 1 v b (omega arith) (push-one (omega arith))
+
+  pub push-three : v ≡ figureOf rules r 5 → w ≡ figureOf rules r 6 → h + 2 < length s
+      → tops (set (set (set s h u) (h + 1) v) (h + 2) w) (h + 3) ≡ groupsOver rules r 3 (tops s h)
+  push-three b c lt =
+      let n : h + 3 ≡ h + 2 + 1 = omega arith in
+      let l : length (set (set s h u) (h + 1) v) ≡ length s = simp length-set in
+      ap (tops (set (set (set s h u) (h + 1) v) (h + 2) w)) n
+      ∙ push-group rules (set (set s h u) (h + 1) v) (tops s h) r (h + 2) 2 w c (omega arith) (push-two b (omega arith))
+
+pub push-end : (rules s S : List ℕ) (r g h j : ℕ) → j ≡ g → tops s (h + j) ≡ groupsOver rules r j S → tops s (h + g) ≡ groupsOver rules r g S
+push-end rules s S r g h j e so = ap (λ (k : ℕ). tops s (h + k)) (sym e) ∙ so ∙ ap (λ (k : ℕ). groupsOver rules r k S) e
 
 -- the groups pushed above the goto
 pub push-rule :

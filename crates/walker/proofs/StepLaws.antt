@@ -2,8 +2,7 @@
 use mathlib.Core.Path.{_≡_, refl, sym, ap, ap₂, subst, _∙_}
 use mathlib.Core.List.{List, [], _∷_}
 use Prim.Native.Nat.{ℕ, zero, suc}
-use lib.ListN.{length, getD, drop}
-use Rattle.language.specs.Grammar.{Grammar}
+use lib.ListN.{getD, drop}
 use Rattle.language.specs.First.{next}
 use Rattle.leftcorner.specs.Machine.{Outcome, act, step}
 use Rattle.leftcorner.specs.Machine as machine
@@ -25,16 +24,16 @@ module _ (kinds values gotos rules : List ℕ) (start n k : ℕ) (tokens stack l
   pub turned-by : (x : Cell) (code : ℕ) (stack′ listing′ : List ℕ) (t : Turn) → Stands (memoryGrammar rules) n k tokens stack listing p
       → x ≡ cellAt kinds values (p .top) (p .code) → code ≡ p .code
       → Turned (memoryGrammar rules) (memoryAutomaton kinds values gotos rules start) n k tokens stack listing p
-          (act (memoryGrammar rules) (memoryAutomaton kinds values gotos rules start) (meaning rules x) (tops stack (p .height)) code) stack′ listing′ t
+      (act (memoryGrammar rules) (memoryAutomaton kinds values gotos rules start) (meaning rules x) (tops stack (p .height)) code) stack′ listing′ t
       → Turned (memoryGrammar rules) (memoryAutomaton kinds values gotos rules start) n k tokens stack listing p
-          (step (memoryGrammar rules) (memoryAutomaton kinds values gotos rules start) (tops stack (p .height)) (next (drop (p .taken) tokens) 0)) stack′ listing′ t
+      (step (memoryGrammar rules) (memoryAutomaton kinds values gotos rules start) (tops stack (p .height)) (next (drop (p .taken) tokens) 0)) stack′ listing′ t
   unfolding memoryAutomaton
   turned-by x code stack′ listing′ t s ex ec h =
       let top : p .top ≡ next (tops stack (p .height)) 0 = s .top-is ∙ sym (tops-top stack (p .height) (s .started)) in
       let c : code ≡ next (drop (p .taken) tokens) 0 = ec ∙ s .code-is ∙ sym (next-drop tokens (p .taken)) in
       let cell : meaning rules x ≡ meaning rules (cellAt kinds values (next (tops stack (p .height)) 0) (next (drop (p .taken) tokens) 0)) =
-            ap (meaning rules) (ex ∙ ap₂ (cellAt kinds values) top (sym ec ∙ c)) in
+      ap (meaning rules) (ex ∙ ap₂ (cellAt kinds values) top (sym ec ∙ c)) in
       subst
-        (λ (o : Outcome). Turned (memoryGrammar rules) (memoryAutomaton kinds values gotos rules start) n k tokens stack listing p o stack′ listing′ t)
-        (ap₂ (λ (y : machine.Cell) (d : ℕ). act (memoryGrammar rules) (memoryAutomaton kinds values gotos rules start) y (tops stack (p .height)) d) cell c)
-        h
+      (λ (o : Outcome). Turned (memoryGrammar rules) (memoryAutomaton kinds values gotos rules start) n k tokens stack listing p o stack′ listing′ t)
+      (ap₂ (λ (y : machine.Cell) (d : ℕ). act (memoryGrammar rules) (memoryAutomaton kinds values gotos rules start) y (tops stack (p .height)) d) cell c)
+      h

@@ -2,29 +2,24 @@
 use mathlib.Core.Path.{_≡_, refl, sym, ap, subst, _∙_}
 use mathlib.Core.Logic.{_⊎_, inl, inr}
 use mathlib.Core.Bool.{Bool, true, false, cond, _&&_}
-use mathlib.Core.List.{List, [], _∷_, _++_, append-nil}
+use mathlib.Core.List.{List, [], _∷_, _++_}
 use mathlib.Core.Option.{Option, some, none}
-use Prim.Native.Nat.{ℕ, zero, suc, _+_, _*_, _-_, _≤_, _<_}
-use native.Mathlib.Numerals.{add-one}
+use Prim.Native.Nat.{ℕ, zero, suc, _+_, _-_, _≤_, _<_}
 use native.Mathlib.Omega.{arith}
 use lib.Dec.{leb}
-use lib.ListN.{length, getD, set, drop, take, length-set, length-append}
-use lib.Seq.{length-take-le, take-suc-set, drop-drop, getD-set-same}
+use lib.ListN.{length, take}
+use lib.Seq.{length-take-le}
 use borrow.Author.Tests.{le-leb, lt-leb}
 use Rattle.language.specs.Grammar.{Grammar, Rule, ruleAt}
-use Rattle.language.specs.First.{next}
 use Rattle.language.specs.Listing.{unitsIn, isUnit, unitOf}
-use Rattle.leftcorner.specs.Machine.{Automaton, Event, Outcome, on, whole, wrong, rulesOf, toCome, taken, shiftTo, popTo, Verdict, wrong-at, short-at, whole-at, fits, proceed}
-use Rattle.leftcorner.specs.Machine as machine
+use Rattle.leftcorner.specs.Machine.{Automaton, Event, Outcome, on, whole, wrong, rulesOf, taken, shiftTo, popTo, Verdict, wrong-at, short-at, whole-at, fits}
 use Rattle.reply.specs.declared.Kind.the-variants.{BufferTooSmall, SyntaxError}
+use Rattle.leftcorner.specs.Machine as machine
 use Rattle.walker.specs.declared.Position.{Position}
 use Rattle.walker.specs.declared.Turn.{Turn}
-use Rattle.walker.specs.declared.Turn.the-variants.{On, Ends}
-use Rattle.walker.specs.declared.Walked.{Walked}
+use Rattle.walker.specs.declared.Turn.the-variants.{Ends}
 use Rattle.walker.specs.declared.Walked.the-variants.{Accepted, Refused}
-use Rattle.walker.specs.Walked.{Ended}
-use Rattle.walker.specs.Turn.{tops, stepsLeft, Stands, Moves, Finishes, Turned, proceeds}
-use Rattle.walker.proofs.StackLaws.{tops-push, tops-length, tops-drop}
+use Rattle.walker.specs.Turn.{Stands, Turned, proceeds}
 
 pub positive : (x : ℕ) → (x ≡ 0 → ⊥) → 0 < x
 positive zero ne = absurd (ne refl)
@@ -65,6 +60,7 @@ unit-few g i = go (ruleAt g i)
     of : (b : Bool) → unitOf b ≤ 1
     of true = omega arith
     of false = omega arith
+
     go : (o : Option Rule) → isUnit o ≤ 1
     go none = omega arith
     go (some r) = of (r .unit)
@@ -90,27 +86,27 @@ module _ (g : Grammar) (m : Automaton) (n k : ℕ) where
 
     pub turns-wrong : (stack′ listing′ : List ℕ) {o : Outcome} {t : Turn} → o ≡ wrong → t ≡ Ends (Refused (record { kind = SyntaxError; place = p .taken }))
         → Turned g m n k tokens stack listing p o stack′ listing′ t
-    turns-wrong stack′ listing′ {o} {t} e f = subst (Turned g m n k tokens stack listing p o stack′ listing′) (sym f) (record
-      { verdict = wrong-at (p .taken)
-      ; ends = λ again. ap (λ (x : Outcome). proceeds g m n k tokens stack listing p x again) e
-      ; ended = record { answered = refl; front = refl; within = omega arith }
-      })
+    turns-wrong stack′ listing′ {o} {t} e f = subst (Turned g m n k tokens stack listing p o stack′ listing′) (sym f) (record {
+      verdict = wrong-at (p .taken);
+      ends = λ again. ap (λ (x : Outcome). proceeds g m n k tokens stack listing p x again) e;
+      ended = record { answered = refl; front = refl; within = omega arith };
+    })
 
     pub turns-short : (stack′ listing′ : List ℕ) {o : Outcome} {e : Event} {U : List ℕ} {t : Turn} → o ≡ on e U
         → (n < length U) ⊎ (k < length (take (p .listed) listing ++ rulesOf e))
         → t ≡ Ends (Refused (record { kind = BufferTooSmall; place = p .taken })) → Turned g m n k tokens stack listing p o stack′ listing′ t
-    turns-short stack′ listing′ {o} {e} {U} {t} h over f = subst (Turned g m n k tokens stack listing p o stack′ listing′) (sym f) (record
-      { verdict = short-at (p .taken)
-      ; ends = λ again. ap (λ (x : Outcome). proceeds g m n k tokens stack listing p x again) h ∙ fits-no (p .taken) U (take (p .listed) listing ++ rulesOf e) _ over
-      ; ended = record { answered = refl; front = refl; within = omega arith }
-      })
+    turns-short stack′ listing′ {o} {e} {U} {t} h over f = subst (Turned g m n k tokens stack listing p o stack′ listing′) (sym f) (record {
+      verdict = short-at (p .taken);
+      ends = λ again. ap (λ (x : Outcome). proceeds g m n k tokens stack listing p x again) h ∙ fits-no (p .taken) U (take (p .listed) listing ++ rulesOf e) _ over;
+      ended = record { answered = refl; front = refl; within = omega arith };
+    })
 
     pub turns-whole : (stack′ : List ℕ) {o : Outcome} → o ≡ whole → Stands g n k tokens stack listing p
         → Turned g m n k tokens stack listing p o stack′ listing (Ends (Accepted (record { tokens = p .taken; rules = p .listed; units = p .units })))
     turns-whole stack′ {o} e s =
         let len : length (take (p .listed) listing) ≡ p .listed = length-take-le (p .listed) listing (omega (arith, s .room, s .listing-long)) in
-        record
-          { verdict = whole-at (p .taken) (take (p .listed) listing)
-          ; ends = λ again. ap (λ (x : Outcome). proceeds g m n k tokens stack listing p x again) e
-          ; ended = record { answered = rw (len, ← s .counted); front = rw len; within = omega (arith, len, s .room, s .listing-long) }
-          }
+        record {
+          verdict = whole-at (p .taken) (take (p .listed) listing);
+          ends = λ again. ap (λ (x : Outcome). proceeds g m n k tokens stack listing p x again) e;
+          ended = record { answered = rw (len, ← s .counted); front = rw len; within = omega (arith, len, s .room, s .listing-long) };
+        }

@@ -24,9 +24,19 @@ abbrev pub groupsOver : List ℕ → ℕ → ℕ → List ℕ → List ℕ
 groupsOver rules r zero S = S
 groupsOver rules r (suc j) S = figureOf rules r (4 + j) ∷ groupsOver rules r j S
 
+-- with the entry states of r's first `from` groups above a stack, those of the others are pushed
+abbrev pub PushesFrom : List ℕ → ℕ → ℕ → ℕ → ℕ → List ℕ → List ℕ → Type 0
+PushesFrom rules r from groups height slice slice′ =
+    (S : List ℕ) → tops slice (height + from) ≡ groupsOver rules r from S → tops slice′ (height + groups) ≡ groupsOver rules r groups S
+
 -- stack S under the goto of its top for rule r's left side and the entry states of r's groups
 unfoldable pub ruleOver : List ℕ → List ℕ → ℕ → ℕ → List ℕ → List ℕ
 ruleOver gotos rules r groups S = groupsOver rules r groups (gotoOf gotos (next S 0) (figureOf rules r 1) ∷ S)
+
+-- position p with the stack lowered to a height
+abbrev pub loweredTo : List ℕ → ℕ → ℕ → Position → Turn
+loweredTo stack height code p = On (record
+    { height = height; taken = p .taken; listed = p .listed; units = p .units; top = getD stack (height - 1) 0; code = code })
 
 -- a bound on the steps that are left: each takes a place of the listing or a token, or lowers the stack
 unfoldable pub stepsLeft : ℕ → ℕ → List ℕ → Position → ℕ

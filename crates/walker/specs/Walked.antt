@@ -1,12 +1,11 @@
 -- What a walk over tables in memory comes back with, by the walk of the theory.
 use Prim.Native.Nat.{ℕ, _-_, _≤_}
 use mathlib.Core.Path.{_≡_}
-use mathlib.Core.List.{List, [], _∷_, _++_}
+use mathlib.Core.List.{List, [], _++_}
 use lib.ListN.{length, take, replicate}
 use Rattle.language.specs.Grammar.{Grammar}
 use Rattle.language.specs.Listing.{unitsIn}
 use Rattle.leftcorner.specs.Machine.{Verdict, whole-at, wrong-at, short-at, walk}
-use Rattle.reply.specs.declared.Kind.{Kind}
 use Rattle.reply.specs.declared.Kind.the-variants.{BufferTooSmall, SyntaxError}
 use Rattle.walker.specs.declared.Walked.{Walked}
 use Rattle.walker.specs.declared.Walked.the-variants.{Accepted, Refused}

@@ -5,7 +5,7 @@ ghost use Prim.Native.Nat.{ℕ, _+_, _<_, _≤_};
 ghost use lib.ListN.{length, getD, replicate};
 ghost use Rattle.walker.specs.Memory.{Shaped, cellAt, figureOf, gotoOf, memoryGrammar};
 ghost use Rattle.walker.specs.Walked.{memoryWalk, answer, listed, padded, countOf, Ended};
-ghost use Rattle.walker.specs.Turn.{tops, groupsOver, ruleOver, Stands, Shifts, Announces, Pops, Advances};
+ghost use Rattle.walker.specs.Turn.{tops, groupsOver, ruleOver, PushesFrom, loweredTo, Stands, Shifts, Announces, Pops, Advances};
 use reply::Kind;
 use reply::Refusal;
 
@@ -123,18 +123,47 @@ fn code_at(tokens: &[u8], at: usize) -> u8
     0
 }
 
-// Pushes the entry states of the first `groups` groups in the order of the row.
-fn push_groups(rules: &[u8], rule: u8, groups: usize, stack: &mut [u8], height: usize) -> usize
-    requires { ⌜ (length (now rules) ≡ 8448) × (groups < 256) × (height + groups ≤ length (now stack)) ⌝ }
+// Pushes the entry states of the groups from number `from` on, in the order of the row, above those of the groups before.
+fn push_more(
+    rules: &[u8],
+    rule: u8,
+    from: usize,
+    groups: usize,
+    stack: &mut [u8],
+    height: usize,
+) -> usize
+    requires { ⌜ (length (now rules) ≡ 8448) × (from ≤ groups) × (groups < 256) × (height + groups ≤ length (now stack)) ⌝ }
     ensures { λ r. ⌜ r ≡ height + groups ⌝ }
-    ensures { λ r. ⌜ tops (now (stack .exit)) r ≡ groupsOver (now (rules .entry)) rule groups (tops (now (stack .entry)) height) ⌝ }
+    ensures { λ r. ⌜ PushesFrom (now (rules .entry)) rule from groups height (now (stack .entry)) (now (stack .exit)) ⌝ }
 {
-    let mut j = 0;
+    let mut j = from;
     while j < groups {
         stack[height + j] = figure(rules, rule, 4 + j);
         j += 1;
     }
     height + j
+}
+
+// Pushes the entry states of a rule's groups in the order of the row. Three groups stand here by themselves: for so few the
+// loop, a copy of bytes, is the slower.
+fn push_groups(rules: &[u8], rule: u8, groups: usize, stack: &mut [u8], height: usize) -> usize
+    requires { ⌜ (length (now rules) ≡ 8448) × (groups < 256) × (height + groups ≤ length (now stack)) ⌝ }
+    ensures { λ r. ⌜ r ≡ height + groups ⌝ }
+    ensures { λ r. ⌜ tops (now (stack .exit)) r ≡ groupsOver (now (rules .entry)) rule groups (tops (now (stack .entry)) height) ⌝ }
+{
+    if groups == 0 {
+        return height;
+    }
+    stack[height] = figure(rules, rule, 4);
+    if groups == 1 {
+        return height + 1;
+    }
+    stack[height + 1] = figure(rules, rule, 5);
+    if groups == 2 {
+        return height + 2;
+    }
+    stack[height + 2] = figure(rules, rule, 6);
+    push_more(rules, rule, 3, groups, stack, height)
 }
 
 // Pushes the goto of the state on top for the rule's left side, then its groups' entries.
@@ -222,22 +251,11 @@ fn announce(
     })
 }
 
-fn pop(stack: &[u8], symbols: u8, code: u8, p: Position) -> Turn
-    requires { ⌜ p .height ≤ length (now stack) ⌝ }
-    ensures { λ t. ⌜ Pops (now (stack .entry)) symbols code p t ⌝ }
+// The position with the stack lowered.
+fn lowered(stack: &[u8], height: usize, code: u8, p: Position) -> Turn
+    requires { ⌜ (0 < height) × (height ≤ length (now stack)) ⌝ }
+    ensures { λ t. ⌜ t ≡ loweredTo (now (stack .entry)) height code p ⌝ }
 {
-    let pops = wide(symbols) + 1;
-    if p.height <= pops {
-        if code == 0 {
-            return Turn::Ends(Walked::Accepted(Tally {
-                tokens: p.taken,
-                rules: p.listed,
-                units: p.units,
-            }));
-        }
-        return refused(Kind::SyntaxError, p.taken);
-    }
-    let height = p.height - pops;
     Turn::On(Position {
         height: height,
         taken: p.taken,
@@ -246,6 +264,31 @@ fn pop(stack: &[u8], symbols: u8, code: u8, p: Position) -> Turn
         top: stack[height - 1],
         code: code,
     })
+}
+
+// An entry of one symbol is told apart: the height after its pop does not wait for the cell to be loaded.
+fn pop(stack: &[u8], symbols: u8, code: u8, p: Position) -> Turn
+    requires { ⌜ p .height ≤ length (now stack) ⌝ }
+    ensures { λ t. ⌜ Pops (now (stack .entry)) symbols code p t ⌝ }
+{
+    let height = p.height;
+    if symbols == 1 {
+        if 2 < height {
+            return lowered(stack, height - 2, code, p);
+        }
+    }
+    let pops = wide(symbols) + 1;
+    if pops < height {
+        return lowered(stack, height - pops, code, p);
+    }
+    if code != 0 {
+        return refused(Kind::SyntaxError, p.taken);
+    }
+    Turn::Ends(Walked::Accepted(Tally {
+        tokens: p.taken,
+        rules: p.listed,
+        units: p.units,
+    }))
 }
 
 // One step of the walk.

@@ -1,25 +1,16 @@
+-- `walker::advance` meets its contract: what the cell does is the step of the theory. Assumes nothing.
+use lib.Seq.{length-take-le}
+use lib.ListN.{take, length}
+use mathlib.Core.Path.{refl, sym, _∙_}
+use Prim.Native.Nat.{_-_}
+use native.Mathlib.Omega.{arith}
+use borrow.Author.Needs.{needs}
 use Rattle.walker.proofs.StepLaws.{turned-by}
 use Rattle.walker.proofs.TurnLaws.{turns-wrong, units-few}
 use Rattle.walker.specs.Memory.{memoryGrammar, memoryAutomaton}
 use Rattle.walker.specs.declared.Cell.the-variants.{Shift, Announce, Pop, Empty}
-use lib.Seq.{length-take-le}
-use lib.ListN.{take}
-use mathlib.Core.Path.{_≡_, refl, sym, ap, subst, _∙_}
-use mathlib.Core.Logic.{⊎-elim}
-use Prim.Native.Nat.{ℕ, zero, suc, _+_, _*_, _≤_, _<_, _-_}
-use native.Mathlib.Omega.{arith}
-use borrow.Author.Count.{below-more, below-none}
-use lib.ListN.{length, getD, set, length-set, replicate}
-use borrow.Author.Needs.{needs}
 use Rattle.walker.proofs.advance.Statement.{statement}
 use Rattle.walker.proofs.advance.Tie as tie
-use Rattle.walker.proofs.advance.Reads as reads
-use Rattle.walker.proofs.advance.Lts as lts
-use Rattle.walker.proofs.announce.Reads as announce-reads
-use Rattle.walker.proofs.pop.Reads as pop-reads
-use Rattle.walker.proofs.refused.Reads as refused-reads
-use Rattle.walker.proofs.shift.Reads as shift-reads
-use Rattle.walker.proofs.step_at.Reads as step-at-reads
 
 step-at-requires : tie.Need-step-at-requires
 step-at-requires c κs = search needs
@@ -60,9 +51,9 @@ returns c = let f = c .before .before .before .before .before .before .before .b
     let a = f .args in
     let at = c .before .before .before .before .before .before .before .step-at in
     λ start.
-      turned-by (a .kinds .now) (a .values .now) (a .gotos .now) (a .rules .now) start (length (a .stack .now)) (length (a .listing .now)) (a .tokens .now) (a .stack .now) (a .listing .now) (a .p) (Shift (c .before .before .before .before .before .cell .given .0 .0)) (at .result .code) (c .before .before .shift .last .1 .0) (a .listing .now) (c .before .before .shift .result) (f .pre .1)
-        (sym (c .before .before .before .before .before .cell .given .1) ∙ at .ensures .0) (at .ensures .1)
-        (c .before .before .shift .ensures (memoryGrammar (a .rules .now)) (memoryAutomaton (a .kinds .now) (a .values .now) (a .gotos .now) (a .rules .now) start) _ _ (a .listing .now) (f .pre .1) (at .ensures .1))
+    turned-by (a .kinds .now) (a .values .now) (a .gotos .now) (a .rules .now) start (length (a .stack .now)) (length (a .listing .now)) (a .tokens .now) (a .stack .now) (a .listing .now) (a .p) (Shift (c .before .before .before .before .before .cell .given .0 .0)) (at .result .code) (c .before .before .shift .last .1 .0) (a .listing .now) (c .before .before .shift .result) (f .pre .1)
+    (sym (c .before .before .before .before .before .cell .given .1) ∙ at .ensures .0) (at .ensures .1)
+    (c .before .before .shift .ensures (memoryGrammar (a .rules .now)) (memoryAutomaton (a .kinds .now) (a .values .now) (a .gotos .now) (a .rules .now) start) _ _ (a .listing .now) (f .pre .1) (at .ensures .1))
 
 same-length-2 : tie.Need-same-length-2
 same-length-2 c = search needs
@@ -75,9 +66,9 @@ returns-2 c = let f = c .before .before .before .before .before .before .before 
     let a = f .args in
     let at = c .before .before .before .before .before .before .before .before .before .before .step-at in
     λ start.
-      turned-by (a .kinds .now) (a .values .now) (a .gotos .now) (a .rules .now) start (length (a .stack .now)) (length (a .listing .now)) (a .tokens .now) (a .stack .now) (a .listing .now) (a .p) (Announce (c .before .before .before .before .before .before .before .before .cell2 .given .0 .0)) (at .result .code) (c .before .before .before .before .announce .last .1 .1 .0) (c .before .before .before .before .announce .last .1 .1 .1 .0) (c .before .before .before .before .announce .result) (f .pre .1)
-        (sym (c .before .before .before .before .before .before .before .before .cell2 .given .1) ∙ at .ensures .0) (at .ensures .1)
-        (c .before .before .before .before .announce .ensures (a .kinds .now) (a .values .now) start (length (a .stack .now)) (length (a .listing .now)) (a .tokens .now) (f .pre .1) (at .ensures .1))
+    turned-by (a .kinds .now) (a .values .now) (a .gotos .now) (a .rules .now) start (length (a .stack .now)) (length (a .listing .now)) (a .tokens .now) (a .stack .now) (a .listing .now) (a .p) (Announce (c .before .before .before .before .before .before .before .before .cell2 .given .0 .0)) (at .result .code) (c .before .before .before .before .announce .last .1 .1 .0) (c .before .before .before .before .announce .last .1 .1 .1 .0) (c .before .before .before .before .announce .result) (f .pre .1)
+    (sym (c .before .before .before .before .before .before .before .before .cell2 .given .1) ∙ at .ensures .0) (at .ensures .1)
+    (c .before .before .before .before .announce .ensures (a .kinds .now) (a .values .now) start (length (a .stack .now)) (length (a .listing .now)) (a .tokens .now) (f .pre .1) (at .ensures .1))
 
 same-length-4 : tie.Need-same-length-4
 same-length-4 c = search needs
@@ -87,18 +78,18 @@ returns-3 c = let f = c .before .before .before .before .before .before .before 
     let a = f .args in
     let at = c .before .before .before .before .before .step-at in
     λ start.
-      turned-by (a .kinds .now) (a .values .now) (a .gotos .now) (a .rules .now) start (length (a .stack .now)) (length (a .listing .now)) (a .tokens .now) (a .stack .now) (a .listing .now) (a .p) (Pop (c .before .before .before .cell3 .given .0 .0)) (at .result .code) (a .stack .now) (a .listing .now) (c .pop .result) (f .pre .1)
-        (sym (c .before .before .before .cell3 .given .1) ∙ at .ensures .0) (at .ensures .1)
-        (c .pop .ensures (memoryGrammar (a .rules .now)) (memoryAutomaton (a .kinds .now) (a .values .now) (a .gotos .now) (a .rules .now) start) _ _ (a .tokens .now) (a .listing .now) (f .pre .1) (at .ensures .1))
+    turned-by (a .kinds .now) (a .values .now) (a .gotos .now) (a .rules .now) start (length (a .stack .now)) (length (a .listing .now)) (a .tokens .now) (a .stack .now) (a .listing .now) (a .p) (Pop (c .before .before .before .cell3 .given .0 .0)) (at .result .code) (a .stack .now) (a .listing .now) (c .pop .result) (f .pre .1)
+    (sym (c .before .before .before .cell3 .given .1) ∙ at .ensures .0) (at .ensures .1)
+    (c .pop .ensures (memoryGrammar (a .rules .now)) (memoryAutomaton (a .kinds .now) (a .values .now) (a .gotos .now) (a .rules .now) start) _ _ (a .tokens .now) (a .listing .now) (f .pre .1) (at .ensures .1))
 
 returns-4 : tie.Need-returns-4
 returns-4 c = let f = c .before .before .before .before .before .before .before .before .before .before .before in
     let a = f .args in
     let at = c .before .before .before .step-at in
     λ start.
-      turned-by (a .kinds .now) (a .values .now) (a .gotos .now) (a .rules .now) start (length (a .stack .now)) (length (a .listing .now)) (a .tokens .now) (a .stack .now) (a .listing .now) (a .p) Empty (at .result .code) (a .stack .now) (a .listing .now) (c .refused .result) (f .pre .1)
-        (sym (c .before .enum-told .given .1) ∙ at .ensures .0) (at .ensures .1)
-        (turns-wrong (memoryGrammar (a .rules .now)) (memoryAutomaton (a .kinds .now) (a .values .now) (a .gotos .now) (a .rules .now) start) (length (a .stack .now)) (length (a .listing .now)) (a .tokens .now) (a .stack .now) (a .listing .now) (a .p) (a .stack .now) (a .listing .now) refl (c .refused .ensures))
+    turned-by (a .kinds .now) (a .values .now) (a .gotos .now) (a .rules .now) start (length (a .stack .now)) (length (a .listing .now)) (a .tokens .now) (a .stack .now) (a .listing .now) (a .p) Empty (at .result .code) (a .stack .now) (a .listing .now) (c .refused .result) (f .pre .1)
+    (sym (c .before .enum-told .given .1) ∙ at .ensures .0) (at .ensures .1)
+    (turns-wrong (memoryGrammar (a .rules .now)) (memoryAutomaton (a .kinds .now) (a .values .now) (a .gotos .now) (a .rules .now) start) (length (a .stack .now)) (length (a .listing .now)) (a .tokens .now) (a .stack .now) (a .listing .now) (a .p) (a .stack .now) (a .listing .now) refl (c .refused .ensures))
 
 pub advance-spec : {M : Type 1} → statement M
 advance-spec =

@@ -1,16 +1,9 @@
-use Rattle.walker.specs.Memory.{gotoOf}
-use mathlib.Core.Path.{_≡_, refl, sym, ap, subst, _∙_}
-use mathlib.Core.Logic.{⊎-elim}
-use Prim.Native.Nat.{ℕ, zero, suc, _+_, _*_, _≤_, _<_, _-_}
-use native.Mathlib.Omega.{arith}
-use borrow.Author.Count.{below-more, below-none}
-use lib.ListN.{length, getD, set, length-set, replicate}
+-- `walker::goto_at` meets its contract. Assumes nothing.
+use Prim.Native.Nat.{_-_}
 use borrow.Author.Needs.{needs}
+use Rattle.walker.specs.Memory.{gotoOf}
 use Rattle.walker.proofs.goto_at.Statement.{statement}
 use Rattle.walker.proofs.goto_at.Tie as tie
-use Rattle.walker.proofs.goto_at.Reads as reads
-use Rattle.walker.proofs.goto_at.Lts as lts
-use Rattle.walker.proofs.wide.Reads as wide-reads
 
 wide-requires : tie.Need-wide-requires
 wide-requires c κs = search needs

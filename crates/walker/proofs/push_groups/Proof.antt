@@ -1,80 +1,118 @@
-use Rattle.walker.specs.Turn.{tops, groupsOver}
-use Rattle.walker.proofs.StackLaws.{push-step, push-end}
-use mathlib.Core.Path.{_≡_, refl, sym, ap, subst, _∙_}
-use mathlib.Core.Logic.{⊎-elim}
-use Prim.Native.Nat.{ℕ, zero, suc, _+_, _*_, _≤_, _<_, _-_}
+-- `walker::push_groups` meets its contract, by the laws of one, two and three pushes. Assumes nothing.
+use mathlib.Core.Path.{_≡_, sym, ap, _∙_}
+use Prim.Native.Nat.{ℕ, _+_, _-_}
 use native.Mathlib.Omega.{arith}
-use borrow.Author.Count.{below-more, below-none}
-use lib.ListN.{length, getD, set, length-set, replicate}
+use lib.ListN.{length, set, length-set}
 use borrow.Author.Needs.{needs}
+use Rattle.walker.proofs.StackLaws.{push-one, push-two, push-three}
+use Rattle.walker.specs.Turn.{tops, groupsOver}
 use Rattle.walker.proofs.push_groups.Statement.{statement}
 use Rattle.walker.proofs.push_groups.Tie as tie
-use Rattle.walker.proofs.push_groups.Reads as reads
-use Rattle.walker.proofs.push_groups.Lts as lts
-use Rattle.walker.proofs.figure.Reads as figure-reads
 
-abbrev Inv-loop : tie.InvT-loop
-Inv-loop rules rule groups stack₀ height j₀ stack j = (j ≤ groups) × (length stack ≡ length stack₀) × (tops stack (height + j) ≡ groupsOver rules rule j (tops stack₀ height))
+returns : tie.Need-returns
+returns c = let f = c .before .before .before in
+    let a = f .args in
+    (omega (arith, c .if1 .taken), sym (ap (λ (g : ℕ). groupsOver (a .rules .now) (a .rule) g (tops (a .stack .now) (a .height))) (c .if1 .taken)))
 
-abbrev μ-loop : tie.MeasureT-loop
-μ-loop rules rule groups stack₀ height j₀ stack j = groups - j
-
-loop-holds : tie.Need-loop-holds Inv-loop μ-loop
-loop-holds c = let a = c .before .before .args in
-    let e : a .height + 0 ≡ a .height = omega arith in (search needs, search needs, ap (tops (a .stack .now)) e)
-
-add-figure : tie.Need-add-figure Inv-loop μ-loop
-add-figure c = search needs
-
-figure-requires : tie.Need-figure-requires Inv-loop μ-loop
+figure-requires : tie.Need-figure-requires
 figure-requires c κs = search needs
 
-add-stack : tie.Need-add-stack Inv-loop μ-loop
-add-stack c = search needs
-
-slice-write-stack : tie.Need-slice-write-stack Inv-loop μ-loop
+slice-write-stack : tie.Need-slice-write-stack
 slice-write-stack c = search needs
 
-add-j : tie.Need-add-j Inv-loop μ-loop
-add-j c = search needs
-
-loop-less : tie.Need-loop-less Inv-loop μ-loop
-loop-less c = search needs
-
-loop-again : tie.Need-loop-again Inv-loop μ-loop
-loop-again c = let l = c .before .before .loop in
-    let a = c .before .before .before .before .before .args in
-    (
-      search needs,
-      simp length-set (l .inv .1),
-      push-step (a .rules .now) (l .stack) (tops (a .stack .now) (a .height)) (a .rule) (a .height) (l .j) (c .figure .result) (c .figure .ensures) (omega arith) (l .inv .2)
-    )
-
-add-result : tie.Need-add-result Inv-loop μ-loop
+add-result : tie.Need-add-result
 add-result c = search needs
 
-same-length : tie.Need-same-length Inv-loop μ-loop
+same-length : tie.Need-same-length
 same-length c = search needs
 
-returns : tie.Need-returns Inv-loop μ-loop
-returns c = let l = c .before .loop in
-    let a = c .before .before .before .before .args in
-    (search needs, push-end (a .rules .now) (l .stack) (tops (a .stack .now) (a .height)) (a .rule) (a .groups) (a .height) (l .j) (omega arith) (l .inv .2))
+returns-2 : tie.Need-returns-2
+returns-2 c = let f = c .before .before .before .before .before in
+    let a = f .args in (
+      omega (arith, c .if2 .taken),
+      push-one (a .rules .now) (a .stack .now) (a .rule) (a .height) (c .before .figure .result) 0 0 (c .before .figure .ensures) (omega (arith, f .pre .2, c .if2 .taken))
+          ∙ sym (ap (λ (g : ℕ). groupsOver (a .rules .now) (a .rule) g (tops (a .stack .now) (a .height))) (c .if2 .taken)),
+    )
+
+figure-requires-2 : tie.Need-figure-requires-2
+figure-requires-2 c κs = search needs
+
+add-stack : tie.Need-add-stack
+add-stack c = search needs
+
+slice-write-stack-2 : tie.Need-slice-write-stack-2
+slice-write-stack-2 c = let f = c .before .before .before .before .before .before in
+    let a = f .args in
+    let e : length (set (a .stack .now) (a .height) (c .before .before .figure .result)) ≡ length (a .stack .now) = simp length-set in
+    omega (arith, e, f .pre .2, c .before .if2 .left, c .before .before .before .if1 .left)
+
+add-result-2 : tie.Need-add-result-2
+add-result-2 c = search needs
+
+same-length-2 : tie.Need-same-length-2
+same-length-2 c = search needs
+
+returns-3 : tie.Need-returns-3
+returns-3 c = let f = c .before .before .before .before .before .before .before in
+    let a = f .args in (
+      omega (arith, c .if3 .taken),
+      push-two (a .rules .now) (a .stack .now) (a .rule) (a .height) (c .before .before .before .figure .result) (c .before .figure2 .result) 0
+          (c .before .before .before .figure .ensures) (c .before .figure2 .ensures) (omega (arith, f .pre .2, c .if3 .taken))
+          ∙ sym (ap (λ (g : ℕ). groupsOver (a .rules .now) (a .rule) g (tops (a .stack .now) (a .height))) (c .if3 .taken)),
+    )
+
+figure-requires-3 : tie.Need-figure-requires-3
+figure-requires-3 c κs = search needs
+
+add-stack-2 : tie.Need-add-stack-2
+add-stack-2 c = search needs
+
+slice-write-stack-3 : tie.Need-slice-write-stack-3
+slice-write-stack-3 c = let f = c .before .before .before .before .before .before .before .before in
+    let a = f .args in
+    let e : length (set (set (a .stack .now) (a .height) (c .before .before .before .before .figure .result)) (a .height + 1) (c .before .before .figure2 .result)) ≡ length (a .stack .now) = simp length-set in
+    omega (arith, e, f .pre .2, c .before .if3 .left, c .before .before .before .if2 .left, c .before .before .before .before .before .if1 .left)
+
+push-more-requires : tie.Need-push-more-requires
+push-more-requires c κs = let f = c .before .before .before .before .before .before .before .before .before in
+    let a = f .args in
+    let e : length (set (set (set (a .stack .now) (a .height) (c .before .before .before .before .before .figure .result)) (a .height + 1) (c .before .before .before .figure2 .result)) (a .height + 2) (c .before .figure3 .result)) ≡ length (a .stack .now) = simp length-set in
+    (f .pre .0, omega (arith, c .before .before .if3 .left, c .before .before .before .before .if2 .left, c .before .before .before .before .before .before .if1 .left), f .pre .1, omega (arith, e, f .pre .2))
+
+same-length-3 : tie.Need-same-length-3
+same-length-3 c = c .before .before .push-more .kept .1 .1 .1 .1 .0 ∙ simp length-set
+
+returns-4 : tie.Need-returns-4
+returns-4 c = let f = c .before .before .before .before .before .before .before .before .before .before .before .before in
+    let a = f .args in
+    let r = c .before .before .push-more in (
+      r .ensures .0,
+      ap (tops (r .last .1 .1 .1 .1 .0)) (r .ensures .0)
+          ∙ r .ensures .1 (tops (a .stack .now) (a .height))
+          (push-three (a .rules .now) (a .stack .now) (a .rule) (a .height) (c .before .before .before .before .before .before .before .before .figure .result) (c .before .before .before .before .before .before .figure2 .result) (c .before .before .before .before .figure3 .result)
+          (c .before .before .before .before .before .before .before .before .figure .ensures) (c .before .before .before .before .before .before .figure2 .ensures) (c .before .before .before .before .figure3 .ensures)
+          (omega (arith, f .pre .2, c .before .before .before .before .before .if3 .left, c .before .before .before .before .before .before .before .if2 .left, c .before .before .before .before .before .before .before .before .before .if1 .left))),
+    )
 
 pub push-groups-spec : {M : Type 1} → statement M
 push-groups-spec =
     tie.close
     (tie.spec
-    Inv-loop
-    μ-loop
-    loop-holds
-    add-figure
+    returns
     figure-requires
-    add-stack
     slice-write-stack
-    add-j
-    loop-less
-    loop-again
     add-result
     same-length
-    returns)
+    returns-2
+    figure-requires-2
+    add-stack
+    slice-write-stack-2
+    add-result-2
+    same-length-2
+    returns-3
+    figure-requires-3
+    add-stack-2
+    slice-write-stack-3
+    push-more-requires
+    same-length-3
+    returns-4)

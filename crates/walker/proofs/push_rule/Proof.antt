@@ -1,18 +1,12 @@
-use Rattle.walker.proofs.StackLaws.{push-rule}
-use mathlib.Core.Path.{_≡_, refl, sym, ap, subst, _∙_}
-use mathlib.Core.Logic.{⊎-elim}
-use Prim.Native.Nat.{ℕ, zero, suc, _+_, _*_, _≤_, _<_, _-_}
+-- `walker::push_rule` meets its contract. Assumes nothing.
+use mathlib.Core.Path.{_≡_, _∙_}
+use Prim.Native.Nat.{_-_}
 use native.Mathlib.Omega.{arith}
-use borrow.Author.Count.{below-more, below-none}
-use lib.ListN.{length, getD, set, length-set, replicate}
+use lib.ListN.{length, set, length-set}
 use borrow.Author.Needs.{needs}
+use Rattle.walker.proofs.StackLaws.{push-rule}
 use Rattle.walker.proofs.push_rule.Statement.{statement}
 use Rattle.walker.proofs.push_rule.Tie as tie
-use Rattle.walker.proofs.push_rule.Reads as reads
-use Rattle.walker.proofs.push_rule.Lts as lts
-use Rattle.walker.proofs.figure.Reads as figure-reads
-use Rattle.walker.proofs.goto_at.Reads as goto-at-reads
-use Rattle.walker.proofs.push_groups.Reads as push-groups-reads
 
 sub-below : tie.Need-sub-below
 sub-below c = search needs
@@ -44,11 +38,10 @@ returns : tie.Need-returns
 returns c = let s = c .before .before .before .before .before .before .before .before .before .before in
     let a = s .args in
     let pushed = c .before .before .push-groups in
-    let at = c .before .before .before .before in
-    (
+    let at = c .before .before .before .before in (
       omega (arith, pushed .ensures .0),
       push-rule (a .gotos .now) (a .rules .now) (a .stack .now) _ (a .rule) (a .groups) (a .height) (pushed .result) (at .goto-at .result)
-        (at .before .figure .result) (s .pre .1 .0) (omega (arith, s .pre .1 .1)) (at .before .figure .ensures) (at .goto-at .ensures) (pushed .ensures .1)
+          (at .before .figure .result) (s .pre .1 .0) (omega (arith, s .pre .1 .1)) (at .before .figure .ensures) (at .goto-at .ensures) (pushed .ensures .1),
     )
 
 pub push-rule-spec : {M : Type 1} → statement M

@@ -1,22 +1,17 @@
+-- `walker::run` meets its contract. The invariant: the position stands in memory, and the walk of the theory goes on from it. The measure
+-- bounds the steps that are left. Assumes nothing.
+use mathlib.Core.Path.{_≡_, refl, _∙_}
+use Prim.Native.Nat.{_-_}
+use lib.ListN.{length, set, length-set}
+use borrow.Author.Needs.{needs}
 use Rattle.walker.proofs.RunLaws.{Going, stands-first, going-first, stands-own, moved, going-on, going-ends, ended-same}
 use Rattle.walker.specs.Turn.{Stands, stepsLeft}
 use Rattle.walker.specs.Memory.{memoryGrammar}
-use mathlib.Core.Path.{_≡_, refl, sym, ap, subst, _∙_}
-use mathlib.Core.Logic.{⊎-elim}
-use Prim.Native.Nat.{ℕ, zero, suc, _+_, _*_, _≤_, _<_, _-_}
-use native.Mathlib.Omega.{arith}
-use borrow.Author.Count.{below-more, below-none}
-use lib.ListN.{length, getD, set, length-set, replicate}
-use borrow.Author.Needs.{needs}
 use Rattle.walker.proofs.run.Statement.{statement}
 use Rattle.walker.proofs.run.Tie as tie
-use Rattle.walker.proofs.run.Reads as reads
-use Rattle.walker.proofs.run.Lts as lts
-use Rattle.walker.proofs.advance.Reads as advance-reads
-use Rattle.walker.proofs.code_at.Reads as code-at-reads
 
 abbrev Inv-loop : tie.InvT-loop
-Inv-loop kinds values gotos rules start tokens stack₀ listing₀ p₀ stack listing p =     Stands (memoryGrammar rules) (length stack₀) (length listing₀) tokens stack listing p
+Inv-loop kinds values gotos rules start tokens stack₀ listing₀ p₀ stack listing p = Stands (memoryGrammar rules) (length stack₀) (length listing₀) tokens stack listing p
     × Going kinds values gotos rules start (length stack₀) (length listing₀) tokens stack listing p
 
 abbrev μ-loop : tie.MeasureT-loop
@@ -30,10 +25,9 @@ code-at-requires c κs = search needs
 
 loop-holds : tie.Need-loop-holds Inv-loop μ-loop
 loop-holds c = let a = c .before .before .before .before .before .before .before .before .args in
-    let m = set (a .stack .now) 0 (a .start) in
-    (
+    let m = set (a .stack .now) 0 (a .start) in (
       stands-first (a .kinds .now) (a .values .now) (a .gotos .now) (a .rules .now) (a .start) (length m) (length (a .listing .now)) (a .tokens .now) (a .stack .now) (a .listing .now) (c .code-at .result) (c .before .before .before .before .before .before .before .before .pre .1) refl refl (c .code-at .ensures),
-      going-first (a .kinds .now) (a .values .now) (a .gotos .now) (a .rules .now) (a .start) (length m) (length (a .listing .now)) (a .tokens .now) (a .stack .now) (a .listing .now) (c .code-at .result) (c .before .before .before .before .before .before .before .before .pre .1) refl
+      going-first (a .kinds .now) (a .values .now) (a .gotos .now) (a .rules .now) (a .start) (length m) (length (a .listing .now)) (a .tokens .now) (a .stack .now) (a .listing .now) (c .code-at .result) (c .before .before .before .before .before .before .before .before .pre .1) refl,
     )
 
 advance-requires : tie.Need-advance-requires Inv-loop μ-loop
@@ -53,10 +47,9 @@ loop-again : tie.Need-loop-again Inv-loop μ-loop
 loop-again c = let a = c .before .before .before .before .before .before .before .before .before .before .before .before .before .before .before .before .before .before .before .args in
     let m = set (a .stack .now) 0 (a .start) in
     let l = c .before .before .before .before .before .before .before .before .before .before .loop in
-    let d = c .before .before .before .before .before .before .before .advance in
-    (
+    let d = c .before .before .before .before .before .before .before .advance in (
       (moved (a .kinds .now) (a .values .now) (a .gotos .now) (a .rules .now) (a .start) (length m) (length (a .listing .now)) (a .tokens .now) (l .stack) (l .listing) (d .last .1 .1 .1 .1 .1 .0) (d .last .1 .1 .1 .1 .1 .1 .0) (l .p) (d .result) (l .inv .0) (d .ensures (a .start)) (c .before .turn .given .1)) .stands,
-      going-on (a .kinds .now) (a .values .now) (a .gotos .now) (a .rules .now) (a .start) (length m) (length (a .listing .now)) (a .tokens .now) (l .stack) (l .listing) (d .last .1 .1 .1 .1 .1 .0) (d .last .1 .1 .1 .1 .1 .1 .0) (l .p) (d .result) (l .inv .0) (d .ensures (a .start)) (c .before .turn .given .1) (l .inv .1)
+      going-on (a .kinds .now) (a .values .now) (a .gotos .now) (a .rules .now) (a .start) (length m) (length (a .listing .now)) (a .tokens .now) (l .stack) (l .listing) (d .last .1 .1 .1 .1 .1 .0) (d .last .1 .1 .1 .1 .1 .1 .0) (l .p) (d .result) (l .inv .0) (d .ensures (a .start)) (c .before .turn .given .1) (l .inv .1),
     )
 
 enum-known-turn-2 : tie.Need-enum-known-turn-2 Inv-loop μ-loop
@@ -76,7 +69,7 @@ returns c = let a = c .before .before .before .before .before .before .before .b
     let d = c .before .before .before .before .before .before .before .advance in
     let e : length m ≡ length (a .stack .now) = simp length-set in
     ended-same (a .kinds .now) (a .values .now) (a .gotos .now) (a .rules .now) (a .start) (length m) (length (a .stack .now)) (length (a .listing .now)) (a .tokens .now) e
-      (going-ends (a .kinds .now) (a .values .now) (a .gotos .now) (a .rules .now) (a .start) (length m) (length (a .listing .now)) (a .tokens .now) (l .stack) (l .listing) (d .last .1 .1 .1 .1 .1 .0) (d .last .1 .1 .1 .1 .1 .1 .0) (l .p) (d .result) (l .inv .0) (d .ensures (a .start)) (c .before .turn2 .given .1) (l .inv .1))
+    (going-ends (a .kinds .now) (a .values .now) (a .gotos .now) (a .rules .now) (a .start) (length m) (length (a .listing .now)) (a .tokens .now) (l .stack) (l .listing) (d .last .1 .1 .1 .1 .1 .0) (d .last .1 .1 .1 .1 .1 .1 .0) (l .p) (d .result) (l .inv .0) (d .ensures (a .start)) (c .before .turn2 .given .1) (l .inv .1))
 
 pub run-spec : {M : Type 1} → statement M
 run-spec =

@@ -1,20 +1,14 @@
+-- `walker::walk_tokens` meets its contract: the two ends of the walk, and the slices cleared. Assumes nothing.
+use mathlib.Core.Path.{sym, ap, _∙_}
+use Prim.Native.Nat.{ℕ, _-_}
+use native.Mathlib.Omega.{arith}
+use lib.ListN.{length, replicate}
+use borrow.Author.Needs.{needs}
 use Rattle.walker.proofs.EndLaws.{short-first, zeros-all, no-element, count-within, end-listing}
 use Rattle.walker.specs.Walked.{memoryWalk, answer, listed}
 use Rattle.walker.specs.Memory.{memoryGrammar}
-use mathlib.Core.Path.{_≡_, refl, sym, ap, subst, _∙_}
-use mathlib.Core.Logic.{⊎-elim}
-use Prim.Native.Nat.{ℕ, zero, suc, _+_, _*_, _≤_, _<_, _-_}
-use native.Mathlib.Omega.{arith}
-use borrow.Author.Count.{below-more, below-none}
-use lib.ListN.{length, getD, set, length-set, replicate}
-use borrow.Author.Needs.{needs}
 use Rattle.walker.proofs.walk_tokens.Statement.{statement}
 use Rattle.walker.proofs.walk_tokens.Tie as tie
-use Rattle.walker.proofs.walk_tokens.Reads as reads
-use Rattle.walker.proofs.walk_tokens.Lts as lts
-use Rattle.reply.proofs.clear.Reads as clear-reads
-use Rattle.walker.proofs.rule_count.Reads as rule-count-reads
-use Rattle.walker.proofs.run.Reads as run-reads
 
 clear-requires : tie.Need-clear-requires
 clear-requires c κs = search needs
@@ -25,10 +19,9 @@ same-length c = search needs
 returns : tie.Need-returns
 returns c = let a = c .before .before .before .before .before .before .before .before .before .before .before .before .args in
     let none = c .before .before .before .before .if1 .taken in
-    let e = short-first (a .kinds .now) (a .values .now) (a .gotos .now) (a .rules .now) (a .start) (length (a .stack .now)) (length (a .listing .now)) (a .tokens .now) none in
-    (
+    let e = short-first (a .kinds .now) (a .values .now) (a .gotos .now) (a .rules .now) (a .start) (length (a .stack .now)) (length (a .listing .now)) (a .tokens .now) none in (
       sym (ap (answer (memoryGrammar (a .rules .now))) e),
-      (c .before .before .clear .ensures ∙ zeros-all (length (a .listing .now)) (memoryWalk (a .kinds .now) (a .values .now) (a .gotos .now) (a .rules .now) (a .start) (length (a .stack .now)) (length (a .listing .now)) (a .tokens .now)) (ap listed e), no-element (a .stack .now) none)
+      (c .before .before .clear .ensures ∙ zeros-all (length (a .listing .now)) (memoryWalk (a .kinds .now) (a .values .now) (a .gotos .now) (a .rules .now) (a .start) (length (a .stack .now)) (length (a .listing .now)) (a .tokens .now)) (ap listed e), no-element (a .stack .now) none),
     )
 
 run-requires : tie.Need-run-requires
@@ -64,14 +57,13 @@ same-length-3 c = search needs
 
 returns-2 : tie.Need-returns-2
 returns-2 c = let a = c .before .before .before .before .before .before .before .before .before .before .before .before .before .before .before .before .before .before .before .before .before .before .before .before .args in
-    let r = c .before .before .before .before .before .before .before .before .before .before .before .before .before .run in
-    (
+    let r = c .before .before .before .before .before .before .before .before .before .before .before .before .before .run in (
       r .ensures .answered,
       (
         end-listing (r .last .1 .1 .1 .1 .1 .1 .1 .0) (c .before .before .clear3 .last .0) (c .before .before .before .before .rule-count .result) (length (a .listing .now)) (r .ensures)
-          (c .before .before .before .before .rule-count .ensures) (r .kept .1 .1 .1 .1 .1 .1 .1 .0) (c .before .before .clear3 .ensures),
-        c .before .before .before .before .before .before .before .clear2 .ensures ∙ ap (λ (k : ℕ). replicate k 0) (r .kept .1 .1 .1 .1 .1 .1 .0)
-      )
+            (c .before .before .before .before .rule-count .ensures) (r .kept .1 .1 .1 .1 .1 .1 .1 .0) (c .before .before .clear3 .ensures),
+        c .before .before .before .before .before .before .before .clear2 .ensures ∙ ap (λ (k : ℕ). replicate k 0) (r .kept .1 .1 .1 .1 .1 .1 .0),
+      ),
     )
 
 pub walk-tokens-spec : {M : Type 1} → statement M
