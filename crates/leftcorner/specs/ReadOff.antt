@@ -59,7 +59,7 @@ action-found (L p Y z ∷ l) q X x m = go (eqb p q && eqb Y X) refl (λ n. actio
     go false e rec (inl k) = let a : p ≡ q = cc in let b : Y ≡ X = cc in let f = place-same p q Y X a b in clash cc
     go false e rec (inr n) = let r = rec n in (r .0, there (r .1), r .2)
 
-action-back : (l : List ActionLine) (q X : ℕ) (y : Action) → actionFor l q X ≡ some y → In (L q X y) l
+pub action-back : (l : List ActionLine) (q X : ℕ) (y : Action) → actionFor l q X ≡ some y → In (L q X y) l
 action-back [] q X y e = clash cc
 action-back (L p Y z ∷ l) q X y e = go (eqb p q && eqb Y X) refl (λ h. action-back l q X y h) e
   where
