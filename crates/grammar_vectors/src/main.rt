@@ -1,10 +1,10 @@
-// Reads each grammar book that an argument names, and writes a line for each: its name, `number,place`.
+// Reads each grammar book that an argument names, and prints a line for each: its name, and the reply's number and place.
 use libc::STDOUT_FILENO;
 
 fn show(book: &[u8]) {
     let mut items = [0u8; grammar::TABLE];
-    console::print_reply(grammar::as_reply(grammar::read_grammar(book, &mut items)));
-    io::write_all(STDOUT_FILENO, b"\n");
+    let reply = grammar::as_reply(grammar::read_grammar(book, &mut items));
+    program::print_pair(reply::number(reply), reply::place(reply) as u64);
 }
 
 fn print_argument(i: usize) {
@@ -14,20 +14,15 @@ fn print_argument(i: usize) {
     io::write_all(STDOUT_FILENO, b" ");
 }
 
-fn show_file(fd: i32) {
-    let mut book = [0u8; 65537];
-    let n = io::read_full(fd, &mut book);
-    show(&book[..n]);
-}
-
 fn run(i: usize) {
-    let fd = console::open_argument(i, b"BOOK", b"usage: grammar_vectors BOOK..\n");
-    if fd < 0 {
+    let mut book = [0u8; 65537];
+    let input = program::read_argument(i, b"BOOK", b"usage: grammar_vectors BOOK..\n", &mut book);
+    if input.failed {
         return;
     }
     print_argument(i);
-    show_file(fd);
-    libc::close(fd);
+    let n = input.size;
+    show(&book[..n]);
 }
 
 fn main() {
