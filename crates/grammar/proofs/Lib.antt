@@ -4,3 +4,4 @@ pub mod FormLaws
 pub mod ReducedLaws
 pub mod IntoLaws
 pub mod GrammarLaws
+pub mod Examples

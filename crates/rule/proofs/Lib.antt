@@ -5,3 +5,4 @@ pub mod KeepLaws
 pub mod ReadLaws
 pub mod LineLaws
 pub mod FormLaws
+pub mod MarkLaws
