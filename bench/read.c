@@ -1,0 +1,61 @@
+/* How long reading takes: grammar books and scan files of 4, 16 and 64 KiB, best of many runs.
+   rt staticlib buraigue_c && gcc -O2 bench/read.c target/staticlib/libburaigue_c.a -o target/bench-read && target/bench-read */
+#include <stdint.h>
+#include <stdio.h>
+#include <string.h>
+#include <time.h>
+
+uint64_t buraigue_read_grammar(const uint8_t *book, size_t n, uint8_t *items, size_t m, uint64_t *place, size_t k);
+uint64_t buraigue_read_scans(const uint8_t *file, size_t n, uint8_t *tokens, size_t m, uint64_t *place, size_t k);
+
+static uint8_t book[65537], items[16640], tokens[65536];
+
+static double now(void) {
+    struct timespec t;
+    clock_gettime(CLOCK_MONOTONIC, &t);
+    return t.tv_sec * 1e6 + t.tv_nsec / 1e3;
+}
+
+/* rules of 15 symbols, with leading zeros up to the length asked for */
+static size_t grammar_book(size_t size) {
+    int rules = size < 8192 ? 60 : 127;
+    size_t at = sprintf((char *)book, "G,63,1,%d,64\n", rules);
+    size_t plain = at + rules * (6 + 15 * 3 + 1), pad = (size - plain) / (rules * 15);
+    for (int i = 0; i < rules; i++) {
+        at += sprintf((char *)book + at, "R,64,^");
+        for (int k = 0; k < 15; k++) {
+            book[at++] = ',';
+            memset(book + at, '0', pad);
+            at += pad;
+            at += sprintf((char *)book + at, "%d", 10 + (i + k) % 50);
+        }
+        book[at++] = '\n';
+    }
+    return at;
+}
+
+static size_t scan_file(size_t size) {
+    size_t at = 0;
+    for (int i = 0; at + 20 < size; i++) at += sprintf((char *)book + at, "%c,W%012d\n", "DGPETF"[i % 6], i);
+    return at;
+}
+
+static void measure(const char *what, size_t n, int scans) {
+    double best = 1e9;
+    uint64_t place = 0, number = 99;
+    for (int i = 0; i < 400; i++) {
+        double t = now();
+        number = scans ? buraigue_read_scans(book, n, tokens, sizeof tokens, &place, 1)
+                       : buraigue_read_grammar(book, n, items, sizeof items, &place, 1);
+        t = now() - t;
+        if (t < best) best = t;
+    }
+    printf("%-8s %6zu bytes  reply %llu,%llu  %8.1f us  %6.2f ns a byte\n", what, n, (unsigned long long)number, (unsigned long long)place, best, best * 1e3 / n);
+}
+
+int main(void) {
+    size_t sizes[] = {4096, 16384, 65536};
+    for (int i = 0; i < 3; i++) measure("grammar", grammar_book(sizes[i]), 0);
+    for (int i = 0; i < 3; i++) measure("scans", scan_file(sizes[i]), 1);
+    return 0;
+}
