@@ -73,7 +73,7 @@ module _ (g : Grammar) (t : Table) (kinds values gotos rules : List ℕ) (start 
       let x : 64 + figureOf rules i 1 ≡ r .left = L .left-is i e in
       let b : 64 + figureOf rules i 1 < 128 = omega (arith, x, few i r e .1) in
       ap₂ (λ (p : List ℕ) (s : ℕ). on (announced i) (p ++ s ∷ q ∷ l)) (L .pushes i e)
-        (goto-is q (64 + figureOf rules i 1) (h .0) (omega arith) b ∙ ap (λ (Y : ℕ). automaton g t .goto q Y) x)
+      (goto-is q (64 + figureOf rules i 1) (h .0) (omega arith) b ∙ ap (λ (Y : ℕ). automaton g t .goto q Y) x)
 
   tell-same : (i : ℕ) (r : Rule) (l : List ℕ) → AllLow l → ruleAt g i ≡ some r
       → tell k m (ruleAt k i) i (memory.groupEntries rules i (figureOf rules i 3)) l ≡ tell g (automaton g t) (ruleAt g i) i (groupEntries g t i) l
@@ -81,7 +81,7 @@ module _ (g : Grammar) (t : Table) (kinds values gotos rules : List ℕ) (start 
   tell-same (suc i) r l h e =
       ap (λ (o : Option Rule). tell k m o (suc i) (memory.groupEntries rules (suc i) (figureOf rules (suc i) 3)) l) (rule-is rules (suc i) (omega arith) (few (suc i) r e .0))
       ∙ ap (λ (n : ℕ). land k m (suc i) (memoryRule rules (suc i)) (memory.groupEntries rules (suc i) (figureOf rules (suc i) 3)) (drop n l))
-          (length-replicate (figureOf rules (suc i) 0) 1 ∙ L .pops-is (suc i) e)
+      (length-replicate (figureOf rules (suc i) 0) 1 ∙ L .pops-is (suc i) e)
       ∙ land-same (suc i) r (drop (length (r .before)) l) (low-drop (length (r .before)) l h) e
       ∙ sym (ap (λ (o : Option Rule). tell g (automaton g t) o (suc i) (groupEntries g t (suc i)) l) e)
 
@@ -159,9 +159,9 @@ module _ (g : Grammar) (t : Table) (kinds values gotos rules : List ℕ) (start 
   unfolding memoryWalk memoryAutomaton
   walk-same n k w tokens =
       walk-agree g (memoryGrammar rules) (automaton g t) (memoryAutomaton kinds values gotos rules start) w AllLow
-        (λ S U c e s x h. step-low g t F S c h s)
-        (λ S c s x. sym (step-same g t kinds values gotos rules start H F L few pops S c s (code x)))
-        n k entry (enter-low g t F 1, tt)
+      (λ S U c e s x h. step-low g t F S c h s)
+      (λ S c s x. sym (step-same g t kinds values gotos rules start H F L few pops S c s (code x)))
+      n k entry (enter-low g t F 1, tt)
     where
       code : {c : ℕ} → CodeOf w c → c < 64
       code (inl e) = omega (arith, e)

@@ -34,9 +34,10 @@ same-length-2 : tie.Need-same-length-2
 same-length-2 c = search needs
 
 returns : tie.Need-returns
-returns c =
-    ( c .number .ensures ∙ ap numberOf (c .before .before .before .before .before .before .as-reply .ensures ∙ ap asReply (c .before .before .before .before .before .before .before .before .before .read-grammar .ensures .0))
-    , search needs )
+returns c = (
+  c .number .ensures ∙ ap numberOf (c .before .before .before .before .before .before .as-reply .ensures ∙ ap asReply (c .before .before .before .before .before .before .before .before .before .read-grammar .ensures .0)),
+  search needs,
+)
 
 pub buraigue-read-grammar-spec : {M : Type 1} → statement M
 buraigue-read-grammar-spec =

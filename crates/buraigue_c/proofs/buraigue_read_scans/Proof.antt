@@ -29,9 +29,10 @@ same-length-2 : tie.Need-same-length-2
 same-length-2 c = search needs
 
 returns : tie.Need-returns
-returns c =
-    ( c .number .ensures ∙ ap numberOf (c .before .before .before .before .before .before .before .before .read-scans .ensures .0)
-    , search needs )
+returns c = (
+  c .number .ensures ∙ ap numberOf (c .before .before .before .before .before .before .before .before .read-scans .ensures .0),
+  search needs,
+)
 
 pub buraigue-read-scans-spec : {M : Type 1} → statement M
 buraigue-read-scans-spec =
