@@ -7,6 +7,10 @@ use Rattle.kernel_lines.specs.Lines.{LineAt}
 use Rattle.moves.specs.Moves.{symbolAfter, nextAt, OnlyMoved}
 use Rattle.targets.specs.Targets.{Arrives, TargetOnly}
 
+same-next : (items kinds values gotos : List ℕ) (q i k x : ℕ) {s : ℕ} → x ≡ symbolAfter items i k → s ≡ nextAt kinds values gotos q x
+    → s ≡ nextAt kinds values gotos q (symbolAfter items i k)
+same-next items kinds values gotos q i k x is-x is-s = is-s ∙ ap (nextAt kinds values gotos q) is-x
+
 module _ {items kernels kinds values gotos : List ℕ} {lines q : ℕ} where
   pub arrives-to : {i j k m : ℕ} → i ≡ j → k ≡ m → Arrives items kernels kinds values gotos lines q i k → Arrives items kernels kinds values gotos lines q j m
   arrives-to {i} {j} {k} {m} e f h =
@@ -17,17 +21,14 @@ module _ {items kernels kinds values gotos : List ℕ} {lines q : ℕ} where
     arrives-still e = record { line = λ f n. absurd (f (sym is-x ∙ e)) }
 
     module _ (is-s : s ≡ nextAt kinds values gotos q x) where
-      same-next : s ≡ nextAt kinds values gotos q (symbolAfter items i k)
-      same-next = is-s ∙ ap (nextAt kinds values gotos q) is-x
-
       pub arrives-nowhere : s ≡ 0 → Arrives items kernels kinds values gotos lines q i k
-      arrives-nowhere e = record { line = λ f n. absurd (n (sym same-next ∙ e)) }
+      arrives-nowhere e = record { line = λ f n. absurd (n (sym (same-next items kinds values gotos q i k x is-x is-s) ∙ e)) }
 
       pub arrives-line : LineAt kernels lines s i (k + 1) → Arrives items kernels kinds values gotos lines q i k
-      arrives-line l = record { line = λ f n. subst (λ (z : ℕ). LineAt kernels lines z i (k + 1)) same-next l }
+      arrives-line l = record { line = λ f n. subst (λ (z : ℕ). LineAt kernels lines z i (k + 1)) (same-next items kinds values gotos q i k x is-x is-s) l }
 
       pub arrives-not : (x ≡ 0 → ⊥) → (s ≡ 0 → ⊥) → (LineAt kernels lines s i (k + 1) → ⊥) → Arrives items kernels kinds values gotos lines q i k → ⊥
-      arrives-not f n l h = l (subst (λ (z : ℕ). LineAt kernels lines z i (k + 1)) (sym same-next) (h .line (λ e. f (is-x ∙ e)) (λ e. n (same-next ∙ e))))
+      arrives-not f n l h = l (subst (λ (z : ℕ). LineAt kernels lines z i (k + 1)) (sym (same-next items kinds values gotos q i k x is-x is-s)) (h .line (λ e. f (is-x ∙ e)) (λ e. n (same-next items kinds values gotos q i k x is-x is-s ∙ e))))
 
 -- ---- a target with nothing but what moved
 module _ {items kernels present symbols kinds values gotos : List ℕ} {rules lines q X : ℕ} where

@@ -1,1 +1,2 @@
 pub mod ArriveLaws
+pub mod MeetLaws

@@ -1,3 +1,6 @@
+use Rattle.targets.proofs.ArriveLaws.{arrives-to, arrives-still, arrives-nowhere, arrives-line, arrives-not, target-still, target-nowhere, target-moved, target-not}
+use borrow.Author.Tests.{not-true, not-false}
+use Rattle.fixpoint.proofs.PassLaws.{is-yes, is-no}
 use mathlib.Core.Path.{_≡_, refl, sym, ap, subst, _∙_}
 use mathlib.Core.Logic.{⊎-elim}
 use Prim.Native.Nat.{ℕ, zero, suc, _+_, _*_, _≤_, _<_, _-_}
@@ -23,10 +26,10 @@ arrives-requires : tie.Need-arrives-requires
 arrives-requires c κs = search needs
 
 returns : tie.Need-returns
-returns c = search needs
+returns c = is-no _ (λ m. c .before .arrives .ensures .no (not-true _ (c .if1 .taken)) (arrives-to (sym (c .before .before .before .item-of .ensures .0)) (sym (c .before .before .dot-of .ensures .0)) m))
 
 returns-2 : tie.Need-returns-2
-returns-2 c = search needs
+returns-2 c = is-yes _ (arrives-to (c .before .before .before .item-of .ensures .0) (c .before .before .dot-of .ensures .0) (c .before .arrives .ensures .yes (not-false _ (c .if1 .left))))
 
 pub line-arrives-spec : {M : Type 1} → statement M
 line-arrives-spec =
