@@ -1,0 +1,3 @@
+pub mod GroupLaws
+pub mod PartLaws
+pub mod FillLaws
