@@ -8,9 +8,7 @@ use lib.ListN.{length, getD}
 use Rattle.language.specs.Grammar.{Grammar}
 use Rattle.leftcorner.specs.Table.{EntryLine, E, Table, entryAt, ruleCount}
 use Rattle.leftcorner.specs.Construction.{entryItem, EntryAt, KernelAt, ItemsMeet}
-use Rattle.leftcorner.specs.ReadOff.{clash}
-use Rattle.leftcorner.specs.Sources.{at-low}
-use Rattle.items.proofs.LayoutLaws.{at-below}
+use Rattle.memory.proofs.RangeLaws.{entry-at, entry-range}
 use Rattle.fixpoint.specs.Flags.{On}
 use Rattle.memory.specs.Memory.{stateAt, itemAt, dotAt}
 use Rattle.kernel_lines.specs.Lines.{LineAt}
@@ -32,14 +30,6 @@ module _ {entries kernels : List ℕ} {rules lines q k s : ℕ} (is-s : s ≡ ge
 -- ---- the whole
 module _ (g : Grammar) (t : Table) {items entries kernels kinds values gotos named present symbols : List ℕ} {rules strings lines q : ℕ}
     (H : HeldAt g t items entries kernels kinds values gotos named present symbols rules strings lines q) where
-  entry-range : (k : ℕ) {s : ℕ} {γ : List ℕ} → EntryAt g t k s γ → (1 ≤ k) × (k < strings + 1)
-  entry-range zero e = clash cc
-  entry-range (suc k) {s} {γ} e = (omega arith, omega (arith, at-low (t .entries) k (E s γ) e, H .held .entry-count))
-
-  entry-at : (k : ℕ) → 1 ≤ k → k < strings + 1 → (x : EntryLine) × (entryAt t k ≡ some x)
-  entry-at zero a b = absurd (omega arith)
-  entry-at (suc k) a b = at-below (t .entries) k (omega (arith, H .held .entry-count))
-
   same-item : (k : ℕ) → rules + k ≡ entryItem g t k
   same-item k = omega (arith, H .held .rule-count)
 
@@ -48,10 +38,10 @@ module _ (g : Grammar) (t : Table) {items entries kernels kinds values gotos nam
 
   pub meets-all : On named q → EntriesAtMeet → MovesMeet g t q → ItemsMeet g t q
   meets-all o a m = record
-      { entry-has = λ k γ e. let r = entry-range k e in
+      { entry-has = λ k γ e. let r = entry-range t (H .held .entry-count) k e in
           subst (λ (i : ℕ). (σ : List ℕ) × KernelAt g t q i zero σ) (same-item k)
             (kernel-of g t (H .held .holds-kernels) (H .held .line-count) (a k (r .0) (r .1) .has (H .held .holds-entries .state-is k q e)))
-      ; entry-only = λ k γ e i n σ km. let r = entry-range k e in
+      ; entry-only = λ k γ e i n σ km. let r = entry-range t (H .held .entry-count) k e in
           let l = line-of g t (H .held .holds-kernels) (H .held .line-count) km in
           let h = a k (r .0) (r .1) .only (H .held .holds-entries .state-is k q e) (l .line) (l .is-it .low) (l .is-it .state) in
           (sym (l .is-it .item) ∙ (h .0 ∙ same-item k), sym (l .is-it .dot) ∙ h .1)
@@ -66,7 +56,7 @@ module _ (g : Grammar) (t : Table) {items entries kernels kinds values gotos nam
   meets-moves w = record { move-has = w .move-has; move-only = w .move-only }
 
   pub meets-entries : ItemsMeet g t q → EntriesAtMeet
-  meets-entries w k lo hi = go (entry-at k lo hi)
+  meets-entries w k lo hi = go (entry-at t (H .held .entry-count) k lo hi)
     where
       go : (x : EntryLine) × (entryAt t k ≡ some x) → EntryMeets entries kernels rules lines q k
       go (E s γ, e) = record

@@ -1,40 +1,22 @@
 -- A part of an item against the entries' strings.
 use Prim.Native.Nat.{ℕ, zero, suc, _+_, _-_, _≤_, _<_}
 use mathlib.Core.Path.{_≡_, refl, sym, ap, subst, _∙_}
-use mathlib.Core.Bool.{Bool, true, false, cond}
 use mathlib.Core.List.{List, [], _∷_, _++_}
 use mathlib.Core.Option.{Option, some}
 use native.Mathlib.Omega.{arith}
 use lib.ListN.{length, getD, length-append}
 use lib.Seq.{ext-getD}
 use Rattle.language.specs.Grammar.{Grammar, Rule, at, ruleAt, right, concat}
-use Rattle.leftcorner.specs.Table.{EntryLine, E, Table, entryAt, sameString, entryFrom}
+use Rattle.leftcorner.specs.Table.{EntryLine, E, Table, entryAt, entryFrom}
 use Rattle.leftcorner.specs.Construction.{entryItem, EntryAt}
-use Rattle.leftcorner.specs.ReadOff.{clash, same-string, entry-is}
-use Rattle.leftcorner.specs.Sources.{at-low}
+use Rattle.leftcorner.specs.ReadOff.{entry-is}
 use Rattle.items.specs.Layout.{lengthAt, symbolAt, EntryIn}
-use Rattle.items.proofs.LayoutLaws.{at-below}
+use Rattle.memory.proofs.RangeLaws.{entry-at, entry-range}
 use Rattle.entry_list.specs.Parts.{SamePart, FindsEntry}
 use Rattle.entry_list.specs.Uses.{HoldsStrings}
 use Rattle.entry_list.proofs.GroupLaws.{baseOf, symbol-at, right-length}
 
-entry-none : (l : List EntryLine) (k : ℕ) (γ : List ℕ) → ((j s : ℕ) → at l j ≡ some (E s γ) → ⊥) → entryFrom k l γ ≡ 0
-entry-none [] k γ f = refl
-entry-none (E s δ ∷ l) k γ f = go (sameString δ γ) refl (entry-none l (suc k) γ (λ j u e. f (suc j) u e))
-  where
-    go : (b : Bool) → sameString δ γ ≡ b → entryFrom (suc k) l γ ≡ 0 → cond b k (entryFrom (suc k) l γ) ≡ 0
-    go true e h = absurd (f 0 s (ap (λ (m : List ℕ). some (E s m)) (same-string δ γ e)))
-    go false e h = h
-
 module _ (g : Grammar) (t : Table) {items : List ℕ} {rules strings : ℕ} (S : HoldsStrings g t items rules strings) where
-  pub entry-range : (k : ℕ) {s : ℕ} {γ : List ℕ} → EntryAt g t k s γ → (1 ≤ k) × (k < strings + 1)
-  entry-range zero e = clash cc
-  entry-range (suc k) {s} {γ} e = (omega arith, omega (arith, at-low (t .entries) k (E s γ) e, S .entry-count))
-
-  pub entry-at : (k : ℕ) → 1 ≤ k → k < strings + 1 → (x : EntryLine) × (entryAt t k ≡ some x)
-  entry-at zero a b = absurd (omega arith)
-  entry-at (suc k) a b = at-below (t .entries) k (omega (arith, S .entry-count))
-
   pub entry-row : (k : ℕ) {s : ℕ} {γ : List ℕ} → EntryAt g t k s γ → EntryIn items (rules + k) γ
   entry-row k {s} {γ} e = subst (λ (i : ℕ). EntryIn items i γ) (let z : entryItem g t k ≡ rules + k = omega (arith, S .rule-count) in z) (S .holds-items .entry-row k s e)
 
@@ -50,7 +32,7 @@ module _ (g : Grammar) (t : Table) {items : List ℕ} {rules strings : ℕ} (S :
         ; same-symbols = λ j l. part-symbol j l ∙ sym (entry-row k e .symbol-is j (omega (arith, l, S .fits .string-short k s γ e))) }
 
     pub same-part : (k : ℕ) → 1 ≤ k → k < strings + 1 → SamePart items i (baseOf r δs) (length γ) (rules + k) → (s : ℕ) × EntryAt g t k s γ
-    same-part k a b h = go (entry-at k a b)
+    same-part k a b h = go (entry-at t (S .entry-count) k a b)
       where
         go : (x : EntryLine) × (entryAt t k ≡ some x) → (s : ℕ) × EntryAt g t k s γ
         go (E s δ, e) =
@@ -68,5 +50,5 @@ module _ (g : Grammar) (t : Table) {items : List ℕ} {rules strings : ℕ} (S :
       found-number f = let e = found-entry f in entry-is g t (S .fits .form) x (e .0) γ (e .1)
 
       pub found-none : x ≡ 0 → (k : ℕ) {s : ℕ} → EntryAt g t k s γ → ⊥
-      found-none z k e = let b = entry-range k e in
+      found-none z k e = let b = entry-range t (S .entry-count) k e in
           F .none z k (b .0) (b .1) (subst (λ (m : ℕ). SamePart items i (baseOf r δs) m (rules + k)) (sym is-n) (part-same k e))

@@ -94,3 +94,60 @@ fn fill_rule(items: &[u8], rules: usize, strings: usize, i: usize, uses: &mut [u
     }
     true
 }
+
+// Does so for every rule.
+fn fill_rules(items: &[u8], rules: usize, strings: usize, uses: &mut [u8], wanted: &mut [u8]) -> bool
+    requires { ⌜ Shaped (now items) (rules + strings) ⌝ }
+    requires { ⌜ (rules ≤ 127) × (strings ≤ 127) ⌝ }
+    requires { ⌜ (length (now uses) ≡ 2048) × (length (now wanted) ≡ 128) ⌝ }
+    ensures { λ b. ⌜ (length (now (uses .exit)) ≡ 2048) × (length (now (wanted .exit)) ≡ 128) ⌝ }
+    ensures { λ b. ⌜ ((g : Grammar) (t : Table) → HoldsStrings g t (now (items .entry)) rules strings → ((x : ℕ) → getD (now (uses .entry)) x 0 ≡ 0)
+        → FilledAll g t rules (now (uses .exit)) (now (wanted .entry)) (now (wanted .exit)) b) ⌝ }
+{
+    let mut i = 1;
+    while i <= rules {
+        if !fill_rule(items, rules, strings, i, uses, wanted) {
+            return false;
+        }
+        i += 1;
+    }
+    true
+}
+
+// Whether item i's string is the goal alone.
+fn is_goal(items: &[u8], count: usize, i: usize, goal: usize) -> bool
+    requires { ⌜ Shaped (now items) count ⌝ }
+    requires { ⌜ i ≤ count ⌝ }
+    ensures { λ b. ⌜ Decides ((lengthAt (now (items .entry)) i ≡ 1) × (symbolAt (now (items .entry)) i 0 ≡ goal)) b ⌝ }
+{
+    if items::length_of(items, count, i) != 1 {
+        return false;
+    }
+    if items::symbol_of(items, count, i, 0) != goal {
+        return false;
+    }
+    true
+}
+
+// Whether the entries are those of the construction; if so, notes at rule * 16 + group the number of each group's entry.
+pub fn entries_meet(items: &[u8], rules: usize, strings: usize, goal: usize, uses: &mut [u8]) -> bool
+    requires { ⌜ Shaped (now items) (rules + strings) ⌝ }
+    requires { ⌜ (rules ≤ 127) × (1 ≤ strings) × (strings ≤ 127) ⌝ }
+    requires { ⌜ now uses ≡ replicate 2048 0 ⌝ }
+    ensures { λ b. ⌜ length (now (uses .exit)) ≡ 2048 ⌝ }
+    ensures { λ b. ⌜ ((g : Grammar) (t : Table) → HoldsStrings g t (now (items .entry)) rules strings → g .goal ≡ goal
+        → Decides (EntriesMeet g t) b × (b ≡ true → HoldsUses (now (uses .exit)) g t)) ⌝ }
+{
+    let mut wanted = [0u8; 128];
+    if !is_goal(items, rules + strings, rules + 1, goal) {
+        return false;
+    }
+    if !fill_rules(items, rules, strings, uses, &mut wanted) {
+        return false;
+    }
+    let unwanted = fixpoint::lowest_unset(&wanted, 2, strings + 1);
+    match unwanted {
+        Found::At(_) => false,
+        Found::Nothing => true,
+    }
+}
