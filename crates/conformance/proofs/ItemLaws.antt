@@ -1,16 +1,16 @@
 -- What is decided of a state in memory is what the construction asks of it.
-use Prim.Native.Nat.{ℕ, zero, suc, _+_, _≤_, _<_}
+use Prim.Native.Nat.{ℕ, zero, _+_, _≤_, _<_}
 use mathlib.Core.Path.{_≡_, refl, sym, ap, subst, _∙_}
 use mathlib.Core.List.{List}
 use mathlib.Core.Option.{some}
 use native.Mathlib.Omega.{arith}
-use lib.ListN.{length, getD}
+use lib.ListN.{getD}
 use Rattle.language.specs.Grammar.{Grammar}
-use Rattle.leftcorner.specs.Table.{EntryLine, E, Table, entryAt, ruleCount}
+use Rattle.leftcorner.specs.Table.{EntryLine, E, Table, entryAt}
 use Rattle.leftcorner.specs.Construction.{entryItem, EntryAt, KernelAt, ItemsMeet}
-use Rattle.memory.proofs.RangeLaws.{entry-at, entry-range}
 use Rattle.fixpoint.specs.Flags.{On}
-use Rattle.memory.specs.Memory.{stateAt, itemAt, dotAt}
+use Rattle.memory.proofs.RangeLaws.{entry-at, entry-range}
+use Rattle.memory.specs.Memory.{itemAt, dotAt}
 use Rattle.kernel_lines.specs.Lines.{LineAt}
 use Rattle.kernel_lines.proofs.HeldLaws.{line-of, kernel-of}
 use Rattle.targets.specs.Targets.{MovesMeet}

@@ -9,12 +9,12 @@ use native.Mathlib.Decide.{ℕ-discrete}
 use native.Mathlib.Omega.{arith}
 use lib.ListN.{length, getD, set, length-append, length-map}
 use lib.Seq.{getD-set-same, getD-set-other}
-use Rattle.language.specs.Grammar.{Grammar, Rule, ruleAt, right, concat}
+use Rattle.language.specs.Grammar.{Grammar, Rule, ruleAt, concat}
 use Rattle.language.specs.Sentence.{In, here, there}
-use Rattle.language.specs.Member.{in-left, in-right}
+use Rattle.language.specs.Member.{in-right}
 use Rattle.language.specs.Lists.{concat-++}
 use Rattle.leftcorner.specs.Table.{Table, entryFrom}
-use Rattle.leftcorner.specs.Construction.{EntryAt, Wanted, of-group}
+use Rattle.leftcorner.specs.Construction.{EntryAt, of-group}
 use Rattle.items.specs.Layout.{lengthAt, markAt, RuleIn}
 use Rattle.fixpoint.specs.Flags.{On}
 use Rattle.fixpoint.proofs.CountLaws.{on-set, only-set, keep-set}

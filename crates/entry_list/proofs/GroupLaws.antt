@@ -1,15 +1,15 @@
 -- Where a rule's groups stand in its string.
 use Prim.Native.Nat.{ℕ, zero, suc, _+_, _-_, _≤_, _<_}
-use mathlib.Core.Path.{_≡_, refl, sym, ap, ap₂, subst, _∙_}
+use mathlib.Core.Path.{_≡_, refl, sym, ap, ap₂, _∙_}
 use mathlib.Core.List.{List, [], _∷_, _++_, append-assoc}
 use native.Mathlib.Decide.{decLt}
 use native.Mathlib.Omega.{arith}
 use lib.ListN.{length, getD, replicate, length-append, length-replicate, List·getD-append}
 use lib.Seq.{getD-append-add}
 use Rattle.language.specs.Grammar.{Rule, right, concat}
-use Rattle.language.specs.Sentence.{In, here, there}
+use Rattle.language.specs.Sentence.{In, here}
 use Rattle.language.specs.Lists.{concat-++}
-use Rattle.items.specs.Layout.{groupStart, groupStarts, startsOf, lengthAt, symbolAt, startAt, RuleIn}
+use Rattle.items.specs.Layout.{groupStart, groupStarts, startsOf, lengthAt, RuleIn}
 use Rattle.items.proofs.GrowLaws.{start-length, starts-length}
 use Rattle.items.proofs.StoreLaws.{read-zeros}
 use Rattle.entry_list.specs.Parts.{GroupEnd}

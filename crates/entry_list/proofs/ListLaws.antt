@@ -1,6 +1,6 @@
 -- The rows of all rules, and the entry list that they make.
-use Prim.Native.Nat.{ℕ, zero, suc, _+_, _*_, _≤_, _<_}
-use mathlib.Core.Path.{_≡_, refl, sym, ap, subst, _∙_}
+use Prim.Native.Nat.{ℕ, _+_, _*_, _≤_, _<_}
+use mathlib.Core.Path.{_≡_, sym, ap, subst, _∙_}
 use mathlib.Core.Bool.{Bool, true, false, false≢true}
 use mathlib.Core.Logic.{_⊎_, inl, inr}
 use mathlib.Core.List.{List, [], _∷_}
@@ -12,8 +12,8 @@ use Rattle.language.specs.Grammar.{Grammar, Rule, ruleAt}
 use Rattle.language.specs.Sentence.{In}
 use Rattle.leftcorner.specs.Table.{EntryLine, E, Table, entryAt, entryFrom}
 use Rattle.leftcorner.specs.Construction.{EntryAt, Wanted, of-goal, of-group, EntriesMeet}
-use Rattle.leftcorner.specs.ReadOff.{clash, entry-is}
-use Rattle.items.specs.Layout.{lengthAt, symbolAt, EntryIn}
+use Rattle.leftcorner.specs.ReadOff.{entry-is}
+use Rattle.items.specs.Layout.{lengthAt, symbolAt}
 use Rattle.fixpoint.specs.Flags.{On, Off}
 use Rattle.fixpoint.specs.Lowest.{Lowest}
 use Rattle.fixpoint.specs.declared.Found.{Found}

@@ -1,16 +1,16 @@
 -- A part of an item against the entries' strings.
-use Prim.Native.Nat.{ℕ, zero, suc, _+_, _-_, _≤_, _<_}
-use mathlib.Core.Path.{_≡_, refl, sym, ap, subst, _∙_}
-use mathlib.Core.List.{List, [], _∷_, _++_}
-use mathlib.Core.Option.{Option, some}
+use Prim.Native.Nat.{ℕ, _+_, _≤_, _<_}
+use mathlib.Core.Path.{_≡_, sym, ap, subst, _∙_}
+use mathlib.Core.List.{List, _∷_, _++_}
+use mathlib.Core.Option.{some}
 use native.Mathlib.Omega.{arith}
 use lib.ListN.{length, getD, length-append}
 use lib.Seq.{ext-getD}
-use Rattle.language.specs.Grammar.{Grammar, Rule, at, ruleAt, right, concat}
+use Rattle.language.specs.Grammar.{Grammar, Rule, ruleAt, concat}
 use Rattle.leftcorner.specs.Table.{EntryLine, E, Table, entryAt, entryFrom}
 use Rattle.leftcorner.specs.Construction.{entryItem, EntryAt}
 use Rattle.leftcorner.specs.ReadOff.{entry-is}
-use Rattle.items.specs.Layout.{lengthAt, symbolAt, EntryIn}
+use Rattle.items.specs.Layout.{symbolAt, EntryIn}
 use Rattle.memory.proofs.RangeLaws.{entry-at, entry-range}
 use Rattle.entry_list.specs.Parts.{SamePart, FindsEntry}
 use Rattle.entry_list.specs.Uses.{HoldsStrings}

@@ -1,20 +1,20 @@
 -- What memory says of the items that a state has, and of those that move from it, is so.
-use Prim.Native.Nat.{ℕ, zero, suc, _+_, _-_, _≤_, _<_}
-use mathlib.Core.Path.{_≡_, refl, sym, ap, subst, _∙_}
+use Prim.Native.Nat.{ℕ, _+_, _-_, _≤_, _<_}
+use mathlib.Core.Path.{_≡_, ap, subst, _∙_}
 use mathlib.Core.Logic.{_⊎_, inl, inr}
 use mathlib.Core.List.{List}
-use mathlib.Core.Option.{Option, some}
+use mathlib.Core.Option.{some}
 use native.Mathlib.Omega.{arith}
-use lib.ListN.{length, replicate}
-use Rattle.fixpoint.proofs.PassLaws.{all-off}
-use Rattle.memory.specs.Memory.{stateAt, itemAt, dotAt}
-use Rattle.language.specs.Grammar.{Grammar, Rule, at, ruleAt}
-use Rattle.leftcorner.specs.Table.{Table, Goes}
-use Rattle.leftcorner.specs.Construction.{KernelAt, Has, in-kernel, MovedBy}
+use lib.ListN.{replicate}
+use Rattle.language.specs.Grammar.{Grammar, Rule, ruleAt}
+use Rattle.leftcorner.specs.Table.{Table}
+use Rattle.leftcorner.specs.Construction.{Has, in-kernel, MovedBy}
 use Rattle.leftcorner.specs.Construction as construction
 use Rattle.items.specs.Layout.{leftAt}
-use Rattle.memory.proofs.RangeLaws.{rule-at, rule-range}
+use Rattle.fixpoint.proofs.PassLaws.{all-off}
 use Rattle.fixpoint.specs.Flags.{On}
+use Rattle.memory.specs.Memory.{stateAt, itemAt, dotAt}
+use Rattle.memory.proofs.RangeLaws.{rule-at, rule-range}
 use Rattle.memory.specs.Held.{Held}
 use Rattle.closure.specs.Expansion.{Expanded, HasBy, of-kernel, of-rule, has-by, by-has}
 use Rattle.kernel_lines.specs.Lines.{LineAt}

@@ -1,12 +1,10 @@
-use Rattle.conformance.specs.Items.{EntryMeets}
-use borrow.Author.Tests.{not-true, not-false}
-use Rattle.fixpoint.proofs.PassLaws.{no-gap, from-more, is-yes, is-no}
-use Prim.Native.Nat.{ℕ, zero, suc, _+_, _*_, _≤_, _<_, _-_}
-use mathlib.Core.Path.{_≡_, refl, sym, ap, subst, _∙_}
+-- The entries passed have their item.
+use Prim.Native.Nat.{ℕ, _+_, _≤_, _<_, _-_}
 use native.Mathlib.Omega.{arith}
+use borrow.Author.Tests.{not-true, not-false}
 use borrow.Author.Needs.{needs}
-use borrow.Author.Count.{below-more, below-none}
-use lib.ListN.{length, getD, set, length-set, replicate}
+use Rattle.fixpoint.proofs.PassLaws.{no-gap, from-more, is-yes, is-no}
+use Rattle.conformance.specs.Items.{EntryMeets}
 use Rattle.conformance.proofs.entries_at_meet.Statement.{statement}
 use Rattle.conformance.proofs.entries_at_meet.Tie as tie
 

@@ -1,12 +1,8 @@
-use Rattle.conformance.proofs.ItemLaws.{entry-elsewhere, entry-missing, entry-extra}
+-- Another state, or the item and only that.
 use borrow.Author.Tests.{not-true, not-false}
-use Rattle.fixpoint.proofs.PassLaws.{no-gap, from-more, is-yes, is-no}
-use Prim.Native.Nat.{ℕ, zero, suc, _+_, _*_, _≤_, _<_, _-_}
-use mathlib.Core.Path.{_≡_, refl, sym, ap, subst, _∙_}
-use native.Mathlib.Omega.{arith}
 use borrow.Author.Needs.{needs}
-use borrow.Author.Count.{below-more, below-none}
-use lib.ListN.{length, getD, set, length-set, replicate}
+use Rattle.fixpoint.proofs.PassLaws.{is-yes, is-no}
+use Rattle.conformance.proofs.ItemLaws.{entry-elsewhere, entry-missing, entry-extra}
 use Rattle.conformance.proofs.entry_meets.Statement.{statement}
 use Rattle.conformance.proofs.entry_meets.Tie as tie
 

@@ -1,12 +1,8 @@
-use Rattle.conformance.proofs.ItemLaws.{meets-all, meets-named, meets-moves, meets-entries}
+-- What was decided in memory is so of the construction.
 use borrow.Author.Tests.{not-true, not-false}
-use Rattle.fixpoint.proofs.PassLaws.{is-yes, is-no}
-use Prim.Native.Nat.{ℕ, zero, suc, _+_, _*_, _≤_, _<_, _-_}
-use mathlib.Core.Path.{_≡_, refl, sym, ap, subst, _∙_}
-use native.Mathlib.Omega.{arith}
 use borrow.Author.Needs.{needs}
-use borrow.Author.Count.{below-more, below-none}
-use lib.ListN.{length, getD, set, length-set, replicate}
+use Rattle.fixpoint.proofs.PassLaws.{is-yes, is-no}
+use Rattle.conformance.proofs.ItemLaws.{meets-all, meets-named, meets-moves, meets-entries}
 use Rattle.conformance.proofs.items_meet.Statement.{statement}
 use Rattle.conformance.proofs.items_meet.Tie as tie
 

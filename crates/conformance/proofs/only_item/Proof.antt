@@ -1,21 +1,13 @@
-use Rattle.kernel_lines.proofs.LinkLaws.{Passed, passed-start, passed-more, passed-all}
-use Rattle.memory.specs.Memory.{stateAt, itemAt, dotAt}
-use borrow.Author.Tests.{not-true, not-false}
-use Rattle.fixpoint.proofs.PassLaws.{no-gap, from-more, is-yes, is-no}
-use mathlib.Core.Path.{_≡_, refl, sym, ap, subst, _∙_}
-use mathlib.Core.Logic.{⊎-elim}
-use Prim.Native.Nat.{ℕ, zero, suc, _+_, _*_, _≤_, _<_, _-_}
+-- The lines passed are those of the item.
+use mathlib.Core.Path.{_≡_}
 use native.Mathlib.Omega.{arith}
-use borrow.Author.Count.{below-more, below-none}
-use lib.ListN.{length, getD, set, length-set, replicate}
+use borrow.Author.Tests.{not-true, not-false}
 use borrow.Author.Needs.{needs}
+use Rattle.fixpoint.proofs.PassLaws.{is-yes, is-no}
+use Rattle.memory.specs.Memory.{itemAt, dotAt}
+use Rattle.kernel_lines.proofs.LinkLaws.{Passed, passed-start, passed-more, passed-all}
 use Rattle.conformance.proofs.only_item.Statement.{statement}
 use Rattle.conformance.proofs.only_item.Tie as tie
-use Rattle.conformance.proofs.only_item.Reads as reads
-use Rattle.conformance.proofs.only_item.Lts as lts
-use Rattle.kernel_lines.proofs.is_of.Reads as is-of-reads
-use Rattle.kernel_lines.proofs.last_line.Reads as last-line-reads
-use Rattle.kernel_lines.proofs.line_before.Reads as line-before-reads
 
 abbrev Inv-loop : tie.InvT-loop
 Inv-loop kernels links lines count q i p₀ p = Passed (λ m. (itemAt kernels m ≡ i) × (dotAt kernels m ≡ 0)) kernels q lines p

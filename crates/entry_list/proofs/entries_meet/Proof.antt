@@ -1,21 +1,14 @@
-use Rattle.entry_list.proofs.ListLaws.{entry-goal, meets-entered, entries-fail, entries-hold, uses-hold, zeros-of}
-use Rattle.fixpoint.proofs.PassLaws.{is-yes, is-no}
-use borrow.Author.Tests.{not-true, not-false}
-use lib.ListN.{length, length-replicate}
+-- The goal is first, each group has an entry, and each other entry is flagged.
+use Prim.Native.Nat.{ℕ}
 use mathlib.Core.Bool.{false≢true}
-use mathlib.Core.Path.{_≡_, refl, sym, ap, subst, _∙_}
-use mathlib.Core.Logic.{⊎-elim}
-use Prim.Native.Nat.{ℕ, zero, suc, _+_, _*_, _≤_, _<_, _-_}
-use native.Mathlib.Omega.{arith}
-use borrow.Author.Count.{below-more, below-none}
+use mathlib.Core.Path.{refl, sym, ap, _∙_}
+use borrow.Author.Tests.{not-true, not-false}
 use borrow.Author.Needs.{needs}
+use lib.ListN.{length, length-replicate}
+use Rattle.fixpoint.proofs.PassLaws.{is-yes, is-no}
+use Rattle.entry_list.proofs.ListLaws.{entry-goal, meets-entered, entries-fail, entries-hold, uses-hold, zeros-of}
 use Rattle.entry_list.proofs.entries_meet.Statement.{statement}
 use Rattle.entry_list.proofs.entries_meet.Tie as tie
-use Rattle.entry_list.proofs.entries_meet.Reads as reads
-use Rattle.entry_list.proofs.entries_meet.Lts as lts
-use Rattle.entry_list.proofs.fill_rules.Reads as fill-rules-reads
-use Rattle.entry_list.proofs.is_goal.Reads as is-goal-reads
-use Rattle.fixpoint.proofs.lowest_unset.Reads as lowest-unset-reads
 
 add-is-goal : tie.Need-add-is-goal
 add-is-goal c = search needs

@@ -1,11 +1,10 @@
-use Rattle.entry_list.specs.Parts.{SamePart, FindsEntry, GroupEnd}
-use Rattle.fixpoint.proofs.PassLaws.{no-gap, from-more, is-yes, is-no}
-use Prim.Native.Nat.{ℕ, zero, suc, _+_, _*_, _≤_, _<_, _-_}
-use mathlib.Core.Path.{_≡_, refl, sym, ap, subst, _∙_}
+-- No entry that was passed has the string.
+use Prim.Native.Nat.{ℕ, _+_, _≤_, _<_, _-_}
+use mathlib.Core.Path.{refl}
 use native.Mathlib.Omega.{arith}
 use borrow.Author.Needs.{needs}
-use borrow.Author.Count.{below-more, below-none}
-use lib.ListN.{length, getD, set, length-set, replicate}
+use Rattle.fixpoint.proofs.PassLaws.{no-gap, from-more}
+use Rattle.entry_list.specs.Parts.{SamePart}
 use Rattle.entry_list.proofs.entry_of.Statement.{statement}
 use Rattle.entry_list.proofs.entry_of.Tie as tie
 

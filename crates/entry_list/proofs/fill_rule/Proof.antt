@@ -1,24 +1,17 @@
+-- The groups passed are noted and flagged.
+use Prim.Native.Nat.{ℕ, _+_, _*_, _≤_, _<_, _-_}
+use mathlib.Core.Option.{some}
+use mathlib.Core.Path.{_≡_, refl}
+use native.Mathlib.Omega.{arith}
+use borrow.Author.Needs.{needs}
+use lib.ListN.{length, getD, length-set}
+use Rattle.language.specs.Grammar.{Grammar, Rule, ruleAt}
+use Rattle.leftcorner.specs.Table.{Table}
+use Rattle.items.specs.Layout.{lengthAt}
 use Rattle.entry_list.proofs.FillLaws.{Filling, filling-start, filling-more, filling-fails, filling-ends}
 use Rattle.entry_list.specs.Uses.{HoldsStrings}
-use mathlib.Core.Option.{some}
-use Rattle.items.specs.Layout.{lengthAt}
-use Rattle.leftcorner.specs.Table.{Table}
-use Rattle.language.specs.Grammar.{Grammar, Rule, ruleAt}
-use mathlib.Core.Path.{_≡_, refl, sym, ap, subst, _∙_}
-use mathlib.Core.Logic.{⊎-elim}
-use Prim.Native.Nat.{ℕ, zero, suc, _+_, _*_, _≤_, _<_, _-_}
-use native.Mathlib.Omega.{arith}
-use borrow.Author.Count.{below-more, below-none}
-use lib.ListN.{length, getD, set, length-set, replicate}
-use borrow.Author.Needs.{needs}
 use Rattle.entry_list.proofs.fill_rule.Statement.{statement}
 use Rattle.entry_list.proofs.fill_rule.Tie as tie
-use Rattle.entry_list.proofs.fill_rule.Reads as reads
-use Rattle.entry_list.proofs.fill_rule.Lts as lts
-use Rattle.entry_list.proofs.entry_of.Reads as entry-of-reads
-use Rattle.entry_list.proofs.group_end.Reads as group-end-reads
-use Rattle.items.proofs.length_of.Reads as length-of-reads
-use Rattle.items.proofs.mark_of.Reads as mark-of-reads
 
 abbrev Inv-loop : tie.InvT-loop
 Inv-loop items rules strings i uses₀ wanted₀ count length₁ from₀ j₀ uses wanted from j = (j ≤ from) × (length uses ≡ 2048) × (length wanted ≡ 128) × (length₁ ≡ lengthAt items i) × ((g : Grammar) (t : Table) (r : Rule) → HoldsStrings g t items rules strings → ruleAt g i ≡ some r → ((n : ℕ) → n < 16 → getD uses₀ (i * 16 + n) 0 ≡ 0) → Filling g t i r uses₀ uses wanted₀ wanted from j)

@@ -1,20 +1,16 @@
+-- The rules passed are noted and flagged.
+use Prim.Native.Nat.{ℕ, _+_, _≤_, _-_}
+use mathlib.Core.Path.{_≡_}
+use native.Mathlib.Omega.{arith}
+use borrow.Author.Tests.{not-true, not-false}
+use borrow.Author.Needs.{needs}
+use lib.ListN.{length, getD}
+use Rattle.language.specs.Grammar.{Grammar}
+use Rattle.leftcorner.specs.Table.{Table}
 use Rattle.entry_list.proofs.ListLaws.{filled-start, filled-more, filled-fails, filled-all}
 use Rattle.entry_list.specs.Uses.{HoldsStrings, Filled}
-use borrow.Author.Tests.{not-true, not-false}
-use Rattle.leftcorner.specs.Table.{Table}
-use Rattle.language.specs.Grammar.{Grammar}
-use mathlib.Core.Path.{_≡_, refl, sym, ap, subst, _∙_}
-use mathlib.Core.Logic.{⊎-elim}
-use Prim.Native.Nat.{ℕ, zero, suc, _+_, _*_, _≤_, _<_, _-_}
-use native.Mathlib.Omega.{arith}
-use borrow.Author.Count.{below-more, below-none}
-use lib.ListN.{length, getD, set, length-set, replicate}
-use borrow.Author.Needs.{needs}
 use Rattle.entry_list.proofs.fill_rules.Statement.{statement}
 use Rattle.entry_list.proofs.fill_rules.Tie as tie
-use Rattle.entry_list.proofs.fill_rules.Reads as reads
-use Rattle.entry_list.proofs.fill_rules.Lts as lts
-use Rattle.entry_list.proofs.fill_rule.Reads as fill-rule-reads
 
 abbrev Inv-loop : tie.InvT-loop
 Inv-loop items rules strings uses₀ wanted₀ i₀ uses wanted i = (1 ≤ i) × (i ≤ rules + 1) × (length uses ≡ 2048) × (length wanted ≡ 128) × ((g : Grammar) (t : Table) → HoldsStrings g t items rules strings → ((x : ℕ) → getD uses₀ x 0 ≡ 0) → Filled g t i uses wanted₀ wanted)

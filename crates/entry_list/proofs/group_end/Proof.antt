@@ -1,17 +1,13 @@
-use Rattle.items.specs.Layout.{lengthAt, symbolAt, startAt}
-use Rattle.fixpoint.proofs.PassLaws.{no-gap, from-more, is-yes, is-no}
-use mathlib.Core.Path.{_≡_, refl, sym, ap, subst, _∙_}
-use mathlib.Core.Logic.{⊎-elim}
-use Prim.Native.Nat.{ℕ, zero, suc, _+_, _*_, _≤_, _<_, _-_}
+-- No symbol that was passed begins a group.
+use Prim.Native.Nat.{ℕ, _≤_, _<_, _-_}
+use mathlib.Core.Path.{_≡_, sym, _∙_}
 use native.Mathlib.Omega.{arith}
-use borrow.Author.Count.{below-more, below-none}
-use lib.ListN.{length, getD, set, length-set, replicate}
 use borrow.Author.Needs.{needs}
+use lib.ListN.{length}
+use Rattle.items.specs.Layout.{startAt}
+use Rattle.fixpoint.proofs.PassLaws.{from-more}
 use Rattle.entry_list.proofs.group_end.Statement.{statement}
 use Rattle.entry_list.proofs.group_end.Tie as tie
-use Rattle.entry_list.proofs.group_end.Reads as reads
-use Rattle.entry_list.proofs.group_end.Lts as lts
-use Rattle.items.proofs.start_of.Reads as start-of-reads
 
 abbrev Inv-loop : tie.InvT-loop
 Inv-loop items count i from length k₀ k = (from < k) × (k ≤ length) × ((m : ℕ) → from < m → m < k → startAt items i m ≡ 0)

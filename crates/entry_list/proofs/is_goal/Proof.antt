@@ -1,17 +1,9 @@
-use Rattle.fixpoint.proofs.PassLaws.{is-yes, is-no}
-use mathlib.Core.Path.{_≡_, refl, sym, ap, subst, _∙_}
-use mathlib.Core.Logic.{⊎-elim}
-use Prim.Native.Nat.{ℕ, zero, suc, _+_, _*_, _≤_, _<_, _-_}
-use native.Mathlib.Omega.{arith}
-use borrow.Author.Count.{below-more, below-none}
-use lib.ListN.{length, getD, set, length-set, replicate}
+-- One symbol, the goal.
+use mathlib.Core.Path.{sym, _∙_}
 use borrow.Author.Needs.{needs}
+use Rattle.fixpoint.proofs.PassLaws.{is-yes, is-no}
 use Rattle.entry_list.proofs.is_goal.Statement.{statement}
 use Rattle.entry_list.proofs.is_goal.Tie as tie
-use Rattle.entry_list.proofs.is_goal.Reads as reads
-use Rattle.entry_list.proofs.is_goal.Lts as lts
-use Rattle.items.proofs.length_of.Reads as length-of-reads
-use Rattle.items.proofs.symbol_of.Reads as symbol-of-reads
 
 length-of-requires : tie.Need-length-of-requires
 length-of-requires c κs = search needs

@@ -1,18 +1,13 @@
-use Rattle.items.specs.Layout.{lengthAt, symbolAt, startAt}
-use Rattle.fixpoint.proofs.PassLaws.{no-gap, from-more, is-yes, is-no}
-use mathlib.Core.Path.{_≡_, refl, sym, ap, subst, _∙_}
-use mathlib.Core.Logic.{⊎-elim}
-use Prim.Native.Nat.{ℕ, zero, suc, _+_, _*_, _≤_, _<_, _-_}
+-- The symbols passed are the same.
+use Prim.Native.Nat.{ℕ, _+_, _≤_, _<_, _-_}
+use mathlib.Core.Path.{_≡_, sym, _∙_}
 use native.Mathlib.Omega.{arith}
 use borrow.Author.Count.{below-more, below-none}
-use lib.ListN.{length, getD, set, length-set, replicate}
 use borrow.Author.Needs.{needs}
+use Rattle.items.specs.Layout.{symbolAt}
+use Rattle.fixpoint.proofs.PassLaws.{is-yes, is-no}
 use Rattle.entry_list.proofs.same_part.Statement.{statement}
 use Rattle.entry_list.proofs.same_part.Tie as tie
-use Rattle.entry_list.proofs.same_part.Reads as reads
-use Rattle.entry_list.proofs.same_part.Lts as lts
-use Rattle.items.proofs.length_of.Reads as length-of-reads
-use Rattle.items.proofs.symbol_of.Reads as symbol-of-reads
 
 abbrev Inv-loop : tie.InvT-loop
 Inv-loop items count i from n e j₀ j = (j ≤ n) × ((k : ℕ) → k < j → symbolAt items i (from + k) ≡ symbolAt items e k)
