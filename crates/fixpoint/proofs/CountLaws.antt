@@ -1,19 +1,14 @@
 -- How many flags are set: what a pass adds is counted.
 use Prim.Native.Nat.{ℕ, zero, suc, _+_, _≤_, _<_, zero-le, suc-le-suc}
-use mathlib.Core.Path.{_≡_, refl, sym, ap, subst, _∙_}
+use mathlib.Core.Path.{_≡_, sym, subst, _∙_}
 use mathlib.Core.List.{List, [], _∷_}
 use native.Mathlib.Nat.{not-suc-le-zero, le-of-suc-le-suc}
 use native.Mathlib.Decide.{ℕ-discrete}
 use native.Mathlib.Omega.{arith}
-use lib.ListN.{length, getD, set}
+use lib.ListN.{length, set}
 use lib.Seq.{getD-set-same, getD-set-other}
 use Rattle.fixpoint.specs.Flags.{On, Off}
-
--- how many flags are not set
-abbrev pub zeros : List ℕ → ℕ
-zeros [] = 0
-zeros (zero ∷ fs) = suc (zeros fs)
-zeros (suc n ∷ fs) = zeros fs
+use Rattle.fixpoint.specs.Pass.{zeros}
 
 pub zeros-set : (fs : List ℕ) (x : ℕ) → x < length fs → Off fs x → zeros (set fs x 1) + 1 ≡ zeros fs
 zeros-set [] x l e = absurd (not-suc-le-zero l)
@@ -44,4 +39,3 @@ keep-set fs x l y on = go (ℕ-discrete y x)
     go : Dec (y ≡ x) → On (set fs x 1) y
     go (yes e) = subst (On (set fs x 1)) (sym e) (on-set fs x l)
     go (no n) = record { nonzero = λ z. on .nonzero (sym (getD-set-other fs x y 1 0 n) ∙ z) }
-

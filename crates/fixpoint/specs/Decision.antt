@@ -6,6 +6,7 @@ use mathlib.Core.Logic.{_⊎_, inl, inr}
 use mathlib.Core.List.{List, [], _∷_}
 use native.Mathlib.Omega.{arith}
 use lib.ListN.{length}
+use Rattle.fixpoint.specs.Tests.{map?, either?}
 use Rattle.fixpoint.specs.Least.{Clauses, Least, seed, by, Met, least-every}
 
 -- every element of a list; one of its elements
@@ -17,18 +18,9 @@ abbrev pub Member : {A : Type 0} → A → List A → Type 0
 Member x [] = ⊥
 Member x (y ∷ l) = (x ≡ y) ⊎ Member x l
 
-abbrev pub either-map : {P Q R : Type 0} → Dec P → Dec Q → (P → R) → (Q → R) → ((P → ⊥) → (Q → ⊥) → R → ⊥) → Dec R
-either-map (yes p) d f g h = yes (f p)
-either-map (no m) (yes q) f g h = yes (g q)
-either-map (no m) (no n) f g h = no (h m n)
-
-pub neither : {P Q : Type 0} → (P → ⊥) → (Q → ⊥) → P ⊎ Q → ⊥
-neither f h (inl p) = f p
-neither f h (inr q) = h q
-
 unfoldable pub member? : {A : Type 0} → ((x y : A) → Dec (x ≡ y)) → (x : A) (l : List A) → Dec (Member x l)
 member? same? x [] = no (λ h. h)
-member? same? x (y ∷ l) = either-map (same? x y) (member? same? x l) inl inr neither
+member? same? x (y ∷ l) = either? (same? x y) (member? same? x l)
 
 -- `all` lists every clause that is ok; `fires?` tests a clause against a set that is decided
 module _ {C A : Type 0} (k : Clauses C A) (S : A → Type 0) (same? : (x y : A) → Dec (x ≡ y)) (seed? : (x : A) → Dec (S x)) (all : List C)
@@ -42,7 +34,7 @@ module _ {C A : Type 0} (k : Clauses C A) (S : A → Type 0) (same? : (x y : A) 
   Fires xs c = k .ok c × ((a : A) → k .needs c a → Has xs a)
 
   unfoldable pub has? : (xs : List A) (x : A) → Dec (Has xs x)
-  has? xs x = either-map (seed? x) (member? same? x xs) inl inr neither
+  has? xs x = either? (seed? x) (member? same? x xs)
 
   -- a clause that fires, with the others, or none
   pub data Next (xs : List A) (cs : List C) : Type 1 where
@@ -94,8 +86,8 @@ module _ {C A : Type 0} (k : Clauses C A) (S : A → Type 0) (same? : (x y : A) 
   grow (suc m) xs cs l only past (found c rest e put f) =
       let y = k .head c in
       grow m (y ∷ xs) rest (omega arith) (only-cons xs y only (by c (f .0) (λ a n. only a (f .1 a n))))
-        (λ Q h r. past Q (λ b p. h b (wider xs y (k .head b) p)) (put Q r (h c (inr (inl refl)))))
-        (next (y ∷ xs) rest)
+      (λ Q h r. past Q (λ b p. h b (wider xs y (k .head b) p)) (put Q r (h c (inr (inl refl)))))
+      (next (y ∷ xs) rest)
 
   unfoldable pub listed : Listed
   listed = grow (length all) [] all (omega arith) none-in (λ Q h e. e) (next [] all)
@@ -105,8 +97,4 @@ module _ {C A : Type 0} (k : Clauses C A) (S : A → Type 0) (same? : (x y : A) 
       none-in x (inr m) = absurd m
 
   unfoldable pub decide : (x : A) → Dec (Least k S x)
-  decide x = go (has? (listed .members) x)
-    where
-      go : Dec (Has (listed .members) x) → Dec (Least k S x)
-      go (yes h) = yes (listed .only x h)
-      go (no f) = no (λ p. f (listed .every x p))
+  decide x = map? (listed .only x) (listed .every x) (has? (listed .members) x)

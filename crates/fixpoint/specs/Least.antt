@@ -1,6 +1,6 @@
 -- Least sets, given by clauses.
 use Prim.Native.Nat.{ℕ}
-use mathlib.Core.Path.{_≡_, sym, subst}
+use mathlib.Core.Path.{_≡_, subst}
 use mathlib.Core.List.{List}
 use Rattle.fixpoint.specs.Flags.{On, Marks}
 
@@ -36,13 +36,13 @@ least-marks k {fs = fs} only seeds met = record { only = only; every = λ x p. l
 
 -- clauses of one kind are among those of another
 pub record Among {C D A : Type 0} (k : Clauses C A) (l : Clauses D A) : Type 0 where
-  pub send : C → D
-  pub send-ok : (c : C) → k .ok c → l .ok (send c)
-  pub send-needs : (c : C) → k .ok c → (a : A) → l .needs (send c) a → k .needs c a
-  pub send-head : (c : C) → k .ok c → l .head (send c) ≡ k .head c
+  pub send : (c : C) → k .ok c → D
+  pub send-ok : (c : C) (o : k .ok c) → l .ok (send c o)
+  pub send-needs : (c : C) (o : k .ok c) (a : A) → l .needs (send c o) a → k .needs c a
+  pub send-head : (c : C) (o : k .ok c) → l .head (send c o) ≡ k .head c
 
 pub least-map : {C D A : Type 0} {k : Clauses C A} {l : Clauses D A} → Among k l → {S S′ : A → Type 0} → ((y : A) → S y → S′ y)
     → {x : A} → Least k S x → Least l S′ x
 least-map {k = k} {l = l} m {S′ = S′} f p =
     least-every k (Least l S′) (λ y s. seed (f y s))
-      (λ c ok ns. subst (Least l S′) (m .send-head c ok) (by (m .send c) (m .send-ok c ok) (λ a n. ns a (m .send-needs c ok a n)))) p
+    (λ c ok ns. subst (Least l S′) (m .send-head c ok) (by (m .send c ok) (m .send-ok c ok) (λ a n. ns a (m .send-needs c ok a n)))) p

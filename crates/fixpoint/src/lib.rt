@@ -1,6 +1,5 @@
 // Least sets as flags in memory.
-ghost use mathlib.Core.Path.{_≡_};
-ghost use Prim.Native.Nat.{ℕ, _≤_};
+ghost use Prim.Native.Nat.{_≤_};
 ghost use lib.ListN.{length};
 ghost use Rattle.fixpoint.specs.Flags.{Off};
 ghost use Rattle.fixpoint.specs.Lowest.{Lowest};

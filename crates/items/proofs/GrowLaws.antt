@@ -1,9 +1,8 @@
 -- How a rule's symbols and group marks grow as its line is read: one more symbol before the recognition point, the first of a
 -- new group, or one more of the last group.
-use Prim.Native.Nat.{ℕ, zero, suc, _+_}
+use Prim.Native.Nat.{ℕ, suc, _+_}
 use mathlib.Core.Path.{_≡_, refl, sym, ap, ap₂, _∙_}
 use mathlib.Core.List.{List, [], _∷_, _++_, append-assoc, append-nil}
-use native.Mathlib.Omega.{arith}
 use lib.ListN.{length, replicate, length-append, length-replicate, replicate-append-replicate}
 use Rattle.language.specs.Grammar.{Rule, right, concat}
 use Rattle.items.specs.Layout.{groupStart, groupStarts, startsOf}
@@ -52,4 +51,4 @@ starts-length (γ ∷ γs) =
 pub rule-starts-length : (r : Rule) → length (startsOf r) ≡ length (right r)
 rule-starts-length r =
     length-append (replicate {A = ℕ} (length (r .before)) 0) (groupStarts (r .groups))
-      ∙ (ap₂ _+_ (length-replicate {A = ℕ} (length (r .before)) 0) (starts-length (r .groups)) ∙ sym (length-append (r .before) (concat (r .groups))))
+    ∙ (ap₂ _+_ (length-replicate {A = ℕ} (length (r .before)) 0) (starts-length (r .groups)) ∙ sym (length-append (r .before) (concat (r .groups))))

@@ -1,11 +1,11 @@
 -- A run of stores: what a store beside it or into it does, and what is read back.
 use Prim.Native.Nat.{ℕ, zero, suc, _+_, _≤_, _<_}
-use mathlib.Core.Path.{_≡_, refl, sym, ap, subst, _∙_}
-use mathlib.Core.List.{List, [], _∷_, _++_, append-nil}
+use mathlib.Core.Path.{_≡_, refl, sym, ap, _∙_}
+use mathlib.Core.List.{List, [], _∷_, _++_}
 use native.Mathlib.Nat.{not-suc-le-zero, le-of-suc-le-suc, add-zero}
 use native.Mathlib.Omega.{arith}
-use lib.ListN.{length, getD, set, replicate, length-set, length-append, length-replicate, getD-replicate, List·getD-eq-default}
-use lib.Seq.{sets, set-comm, set-out, set-set, set-getD, getD-set-same, getD-set-other, length-sets}
+use lib.ListN.{length, getD, set, replicate, length-set}
+use lib.Seq.{sets, set-comm, set-set, set-getD, getD-set-same, getD-set-other}
 
 pub sets-join : (l a b : List ℕ) (i : ℕ) → sets l i (a ++ b) ≡ sets (sets l i a) (i + length a) b
 sets-join l [] b i = ap (λ (n : ℕ). sets l n b) (sym (add-zero i))
@@ -34,7 +34,7 @@ pub set-inside : (l a : List ℕ) (i j x : ℕ) → j < length a → set (sets l
 set-inside l [] i j x h = absurd (not-suc-le-zero h)
 set-inside l (y ∷ a) i zero x h =
     ap (λ (n : ℕ). set (sets (set l i y) (suc i) a) n x) (add-zero i)
-      ∙ (set-below (set l i y) a (suc i) i x (omega arith) ∙ ap (λ (m : List ℕ). sets m (suc i) a) (set-set l i y x))
+    ∙ (set-below (set l i y) a (suc i) i x (omega arith) ∙ ap (λ (m : List ℕ). sets m (suc i) a) (set-set l i y x))
 set-inside l (y ∷ a) i (suc j) x h =
     ap (λ (n : ℕ). set (sets (set l i y) (suc i) a) n x) (next i j) ∙ set-inside (set l i y) a (suc i) j x (le-of-suc-le-suc h)
   where
@@ -54,10 +54,10 @@ pub read-inside : (l a : List ℕ) (i j : ℕ) → j < length a → i + j < leng
 read-inside l [] i j h k = absurd (not-suc-le-zero h)
 read-inside l (y ∷ a) i zero h k =
     ap (λ (n : ℕ). getD (sets (set l i y) (suc i) a) n 0) (add-zero i)
-      ∙ (read-below (set l i y) a (suc i) i (omega arith) ∙ getD-set-same l i y 0 (omega arith))
+    ∙ (read-below (set l i y) a (suc i) i (omega arith) ∙ getD-set-same l i y 0 (omega arith))
 read-inside l (y ∷ a) i (suc j) h k =
     ap (λ (n : ℕ). getD (sets (set l i y) (suc i) a) n 0) (next i j)
-      ∙ read-inside (set l i y) a (suc i) j (le-of-suc-le-suc h) (simp length-set (omega arith))
+    ∙ read-inside (set l i y) a (suc i) j (le-of-suc-le-suc h) (simp length-set (omega arith))
   where
     next : (m n : ℕ) → m + suc n ≡ suc m + n
     next m n = omega arith

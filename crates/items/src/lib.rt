@@ -1,6 +1,6 @@
 // The item table in memory: rules, then entry strings, a row of 64 bytes each.
 ghost use mathlib.Core.Path.{_≡_};
-ghost use Prim.Native.Nat.{ℕ, _+_, _*_, _<_, _≤_};
+ghost use Prim.Native.Nat.{_+_, _*_, _<_, _≤_};
 ghost use Rattle.items.specs.Layout.{Shaped, leftAt, lengthAt, markAt, unitAt, symbolAt, startAt};
 
 fn wide(x: u8) -> usize

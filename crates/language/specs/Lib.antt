@@ -11,3 +11,6 @@ pub mod Trace
 pub mod Replay
 pub mod Announced
 pub mod Prefix
+pub mod GrammarLaws
+pub mod Nullable
+pub mod FirstLaws

@@ -120,8 +120,8 @@ module _ (g : Grammar) (t : Table) where
   cellOf (some (P n)) = pop n
 
   abbrev pub automaton : Automaton
-  automaton = record
-    { enter = λ k. stateOf (entryAt t k)
-    ; goto = λ q X. gotoState (actionFor (t .actions) q X)
-    ; cell = λ q c. cellOf (actionFor (t .actions) q c)
-    }
+  automaton = record {
+    enter = λ k. stateOf (entryAt t k);
+    goto = λ q X. gotoState (actionFor (t .actions) q X);
+    cell = λ q c. cellOf (actionFor (t .actions) q c);
+  }

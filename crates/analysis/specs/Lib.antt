@@ -1,0 +1,3 @@
+pub mod ByRules
+pub mod Decided
+pub mod InMemory

@@ -1,0 +1,189 @@
+// Nullable symbols and first sets of a grammar in memory.
+ghost use mathlib.Core.Path.{_≡_};
+ghost use Prim.Native.Nat.{ℕ, _<_, _≤_};
+ghost use lib.ListN.{length, replicate};
+ghost use Rattle.language.specs.Grammar.{Grammar};
+ghost use Rattle.items.specs.Layout.{Shaped, Holds};
+ghost use Rattle.fixpoint.specs.Flags.{On, Marks, Decides};
+ghost use Rattle.fixpoint.specs.Pass.{Pass};
+ghost use Rattle.fixpoint.specs.Rows.{Row};
+ghost use Rattle.analysis.specs.InMemory.{Has, FirstFrom, Copied, Includes, RuleMet, Diagonal, SetsOf, RestNullable, RestBegins, EmptyRest, RestFirst};
+
+// Sets in row `to` what is set in row `from`; answers how many flags that were.
+fn merge_row(flags: &mut [u8], from: usize, to: usize) -> usize
+    requires { ⌜ length (now flags) ≡ 8192 ⌝ }
+    requires { ⌜ (from < 128) × (to < 128) ⌝ }
+    ensures { λ r. ⌜ Pass 8192 (Copied (now (flags .entry)) from to) (now (flags .entry)) (now (flags .exit)) 0 r (Includes from to) ⌝ }
+{
+    let mut added: usize = 0;
+    let mut c = 0;
+    while c < 64 {
+        if flags[from * 64 + c] != 0 {
+            if flags[to * 64 + c] == 0 {
+                flags[to * 64 + c] = 1;
+                added += 1;
+            }
+        }
+        c += 1;
+    }
+    added
+}
+
+// Puts into the left side's row of rule i what can begin its right side; answers how many flags that set.
+fn merge_symbols(m: &[u8], rules: usize, i: usize, nullable: &[u8], first: &mut [u8]) -> usize
+    requires { ⌜ Shaped (now m) rules ⌝ }
+    requires { ⌜ (1 ≤ i) × (i ≤ rules) ⌝ }
+    requires { ⌜ (length (now nullable) ≡ 128) × (length (now first) ≡ 8192) ⌝ }
+    ensures { λ r. ⌜ Pass 8192 (Row (FirstFrom (now (m .entry)) rules (On (now (nullable .entry))) (Has (now (first .entry))))) (now (first .entry)) (now (first .exit)) 0 r (RuleMet (now (m .entry)) (On (now (nullable .entry))) i) ⌝ }
+{
+    let left = items::left_of(m, rules, i);
+    let n = items::length_of(m, rules, i);
+    let mut added: usize = 0;
+    let mut k = 0;
+    while k < n {
+        let x = items::symbol_of(m, rules, i, k);
+        added += merge_row(first, x, left);
+        if nullable[x] == 0 {
+            return added;
+        }
+        k += 1;
+    }
+    added
+}
+
+// Closes the rows under the rules: what begins a right side begins the left side.
+fn close_first(m: &[u8], rules: usize, nullable: &[u8], first: &mut [u8])
+    requires { ⌜ Shaped (now m) rules ⌝ }
+    requires { ⌜ (length (now nullable) ≡ 128) × (length (now first) ≡ 8192) ⌝ }
+    ensures { λ _. ⌜ Marks (Row (FirstFrom (now (m .entry)) rules (On (now (nullable .entry))) (Has (now (first .entry))))) (now (first .exit)) ⌝ }
+{
+    'passes: loop {
+        let mut added: usize = 0;
+        let mut i = 1;
+        'rules: while i <= rules {
+            added += merge_symbols(m, rules, i, nullable, first);
+            i += 1;
+        }
+        if added == 0 {
+            break 'passes;
+        }
+    }
+}
+
+// Sets each terminal's own code in its row.
+fn flag_diagonal(t: usize, first: &mut [u8])
+    requires { ⌜ t ≤ 63 ⌝ }
+    requires { ⌜ now first ≡ replicate 8192 0 ⌝ }
+    ensures { λ _. ⌜ Marks (Row (Diagonal t)) (now (first .exit)) ⌝ }
+{
+    let mut c = 1;
+    while c <= t {
+        first[c * 64 + c] = 1;
+        c += 1;
+    }
+}
+
+// The nullable symbols, and the codes that begin what each symbol derives.
+pub fn find_sets(m: &[u8], terminals: usize, rules: usize, nullable: &mut [u8], first: &mut [u8])
+    requires { ⌜ Shaped (now m) rules ⌝ }
+    requires { ⌜ terminals ≤ 63 ⌝ }
+    requires { ⌜ (now nullable ≡ replicate 128 0) × (now first ≡ replicate 8192 0) ⌝ }
+    ensures { λ _. ⌜ ((g : Grammar) → Holds (now (m .entry)) rules g → g .terminals ≡ terminals → SetsOf g (now (nullable .exit)) (now (first .exit))) ⌝ }
+{
+    reduction::close_productions(m, rules, nullable);
+    flag_diagonal(terminals, first);
+    close_first(m, rules, nullable, first);
+}
+
+// Whether the symbols of item i from k on are all nullable.
+pub fn rest_nullable(m: &[u8], items: usize, i: usize, k: usize, nullable: &[u8]) -> bool
+    requires { ⌜ Shaped (now m) items ⌝ }
+    requires { ⌜ i ≤ items ⌝ }
+    requires { ⌜ length (now nullable) ≡ 128 ⌝ }
+    ensures { λ b. ⌜ Decides (RestNullable (now (m .entry)) (On (now (nullable .entry))) i k) b ⌝ }
+{
+    let n = items::length_of(m, items, i);
+    let mut j = k;
+    while j < n {
+        let x = items::symbol_of(m, items, i, j);
+        if nullable[x] == 0 {
+            return false;
+        }
+        j += 1;
+    }
+    true
+}
+
+// Whether c begins what the symbols of item i from k on derive.
+pub fn rest_begins(
+    m: &[u8],
+    items: usize,
+    i: usize,
+    k: usize,
+    c: usize,
+    nullable: &[u8],
+    first: &[u8],
+) -> bool
+    requires { ⌜ Shaped (now m) items ⌝ }
+    requires { ⌜ i ≤ items ⌝ }
+    requires { ⌜ c < 64 ⌝ }
+    requires { ⌜ (length (now nullable) ≡ 128) × (length (now first) ≡ 8192) ⌝ }
+    ensures { λ b. ⌜ Decides (RestBegins (now (m .entry)) (On (now (nullable .entry))) (λ (x : ℕ). Has (now (first .entry)) x c) i k) b ⌝ }
+{
+    let n = items::length_of(m, items, i);
+    let mut j = k;
+    while j < n {
+        let x = items::symbol_of(m, items, i, j);
+        if first[x * 64 + c] != 0 {
+            return true;
+        }
+        if nullable[x] == 0 {
+            return false;
+        }
+        j += 1;
+    }
+    false
+}
+
+// Flags each item whose symbols from k on are all nullable.
+pub fn find_empty_rests(m: &[u8], items: usize, k: usize, nullable: &[u8], rests: &mut [u8])
+    requires { ⌜ Shaped (now m) items ⌝ }
+    requires { ⌜ items < 256 ⌝ }
+    requires { ⌜ (length (now nullable) ≡ 128) × (now rests ≡ replicate 256 0) ⌝ }
+    ensures { λ _. ⌜ Marks (EmptyRest (now (m .entry)) (On (now (nullable .entry))) items k) (now (rests .exit)) ⌝ }
+{
+    let mut i = 1;
+    while i <= items {
+        if rest_nullable(m, items, i, k, nullable) {
+            rests[i] = 1;
+        }
+        i += 1;
+    }
+}
+
+// Sets in each item's row the codes that begin what its symbols from k on derive.
+pub fn find_rest_firsts(
+    m: &[u8],
+    items: usize,
+    k: usize,
+    nullable: &[u8],
+    first: &[u8],
+    rests: &mut [u8],
+)
+    requires { ⌜ Shaped (now m) items ⌝ }
+    requires { ⌜ items < 256 ⌝ }
+    requires { ⌜ (length (now nullable) ≡ 128) × (length (now first) ≡ 8192) × (now rests ≡ replicate 16384 0) ⌝ }
+    ensures { λ _. ⌜ Marks (Row (RestFirst (now (m .entry)) (On (now (nullable .entry))) (Has (now (first .entry))) items k)) (now (rests .exit)) ⌝ }
+{
+    let mut i = 1;
+    'items: while i <= items {
+        let mut c = 0;
+        'codes: while c < 64 {
+            if rest_begins(m, items, i, k, c, nullable, first) {
+                rests[i * 64 + c] = 1;
+            }
+            c += 1;
+        }
+        i += 1;
+    }
+}

@@ -1,0 +1,101 @@
+// What the programs share: the files that arguments name, and the lines that are written.
+use libc::STDERR_FILENO;
+use libc::STDOUT_FILENO;
+ghost use Rattle.io.specs.Counts.{Counts};
+
+// A file's bytes at the start of a buffer: how many there are, and whether reading failed.
+pub struct Input {
+    pub size: usize,
+    pub failed: bool,
+}
+
+// Whether reading failed: where it did, the next read fails too.
+fn fails(fd: i32) -> bool {
+    let mut one = [0u8; 1];
+    libc::read(fd, &mut one) < 0
+}
+
+// Reads a file until `buf` is full or the file ends.
+fn read_open(fd: i32, buf: &mut [u8]) -> Input
+    ensures { λ r. ⌜ Counts (r .size) (now (buf .exit)) ⌝ }
+{
+    let size = io::read_full(fd, buf);
+    if size == buf.len() {
+        return Input {
+            size,
+            failed: false,
+        };
+    }
+    let failed = fails(fd);
+    Input { size, failed }
+}
+
+// Reads the file at `path`. Where that fails, a line on standard error names it and says why.
+fn read_path(path: &[u8], buf: &mut [u8]) -> Input
+    ensures { λ r. ⌜ Counts (r .size) (now (buf .exit)) ⌝ }
+{
+    let fd = os::open_read(path);
+    if fd < 0 {
+        os::fail(path);
+        return Input {
+            size: 0,
+            failed: true,
+        };
+    }
+    let input = read_open(fd, buf);
+    if input.failed {
+        os::fail(path);
+    }
+    libc::close(fd);
+    input
+}
+
+// Reads the file that argument i names. Where that fails, standard error names the file, or `what` where there is no such
+// argument, and says how the program is used.
+pub fn read_argument(i: usize, what: &[u8], usage: &[u8], buf: &mut [u8]) -> Input
+    ensures { λ r. ⌜ Counts (r .size) (now (buf .exit)) ⌝ }
+{
+    let mut path = io::buffer();
+    let n = os::arg(i, &mut path);
+    if os::errno() != 0 {
+        os::fail(what);
+        io::write_all(STDERR_FILENO, usage);
+        return Input {
+            size: 0,
+            failed: true,
+        };
+    }
+    let input = read_path(&path[..n], buf);
+    if input.failed {
+        io::write_all(STDERR_FILENO, usage);
+    }
+    input
+}
+
+fn wide(b: u8) -> u64 {
+    b as u64
+}
+
+// Writes a number and an LF to standard output.
+pub fn print_number(n: u64) {
+    io::print_decimal(STDOUT_FILENO, n);
+    io::write_all(STDOUT_FILENO, b"\n");
+}
+
+// Writes `a,b` and an LF to standard output.
+pub fn print_pair(a: u64, b: u64) {
+    io::print_decimal(STDOUT_FILENO, a);
+    io::write_all(STDOUT_FILENO, b",");
+    print_number(b);
+}
+
+// Writes each byte that is not 0 as a number on a line: what stands in a slice before its zeros.
+pub fn print_bytes(bytes: &[u8]) {
+    let mut i = 0;
+    while i < bytes.len() {
+        if bytes[i] != 0 {
+            print_number(wide(bytes[i]));
+        }
+        i += 1;
+    }
+}

@@ -1,0 +1,19 @@
+// read_scans SCANS: reads a scan file with the house letters, and prints the reply's number and place, then the tokens of a
+// file that was read, each on a line.
+
+fn show(file: &[u8]) {
+    let mut tokens = io::large_buffer();
+    let reply = scans::read_scans(file, &mut tokens);
+    program::print_pair(reply::number(reply), reply::place(reply) as u64);
+    program::print_bytes(&tokens);
+}
+
+fn main() {
+    let mut file = [0u8; 65537];
+    let input = program::read_argument(1, b"SCANS", b"usage: read_scans SCANS\n", &mut file);
+    if input.failed {
+        return;
+    }
+    let n = input.size;
+    show(&file[..n]);
+}

@@ -1,0 +1,7 @@
+pub mod TextLaws
+pub mod RepeatLaws
+pub mod LetterLaws
+pub mod LineLaws
+pub mod ReadLaws
+pub mod OutcomeLaws
+pub mod TokenLaws

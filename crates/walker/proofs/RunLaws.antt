@@ -1,0 +1,121 @@
+-- The walk of the theory along the loop: it goes on from the position in memory, with steps enough.
+use mathlib.Core.Path.{_≡_, refl, sym, ap, subst, _∙_}
+use mathlib.Core.List.{List, [], _∷_}
+use Prim.Native.Nat.{ℕ, zero, suc, _+_, _*_, _-_, _≤_, _<_}
+use native.Mathlib.Omega.{arith}
+use lib.ListN.{length, getD, set, take, drop, length-set}
+use lib.Seq.{getD-set-same}
+use Rattle.language.specs.Grammar.{Grammar}
+use Rattle.language.specs.First.{next}
+use Rattle.leftcorner.specs.Bounded.{fits-yes}
+use Rattle.leftcorner.specs.Machine.{Verdict, step, walkFor}
+use Rattle.walker.specs.declared.Position.{Position}
+use Rattle.walker.specs.declared.Turn.{Turn}
+use Rattle.walker.specs.declared.Turn.the-variants.{On, Ends}
+use Rattle.walker.specs.declared.Walked.{Walked}
+use Rattle.walker.specs.Memory.{memoryGrammar, memoryAutomaton}
+use Rattle.walker.specs.Walked.{memoryWalk, Ended}
+use Rattle.walker.specs.Turn.{tops, stepsLeft, Stands, Moves, Finishes, Turned}
+
+enough-first : (a b n : ℕ) → a ≡ b → a * suc n + 1 ≤ suc (suc b * suc n)
+enough-first a b n e = rw e (omega arith)
+
+module _ (kinds values gotos rules : List ℕ) (start n k : ℕ) (tokens : List ℕ) where
+  -- the walk is the walk from position p
+  pub record Going (stack listing : List ℕ) (p : Position) : Type 0 where
+    pub fuel : ℕ
+    pub enough : stepsLeft n k tokens p ≤ fuel
+    pub same : memoryWalk kinds values gotos rules start n k tokens
+        ≡ walkFor (memoryGrammar rules) (memoryAutomaton kinds values gotos rules start) n k fuel (tops stack (p .height)) (drop (p .taken) tokens) (p .taken) (take (p .listed) listing)
+
+  -- ---- the start
+
+  module _ (stack listing : List ℕ) (c : ℕ) (some : 0 < length stack) (long : length (set stack 0 start) ≡ n) where
+    pub stands-first : length listing ≡ k → c ≡ getD tokens 0 0
+        → Stands (memoryGrammar rules) n k tokens (set stack 0 start) listing (record { height = 1; taken = 0; listed = 0; units = 0; top = start; code = c })
+    stands-first e ec =
+        let l : length (set stack 0 start) ≡ length stack = simp length-set in
+        record {
+          stack-long = long;
+          listing-long = e;
+          started = omega arith;
+          high = omega (arith, l);
+          room = omega arith;
+          in-tokens = omega arith;
+          counted = refl;
+          top-is = sym (getD-set-same stack 0 start 0 some);
+          code-is = ec;
+        }
+
+    pub going-first : Going (set stack 0 start) listing (record { height = 1; taken = 0; listed = 0; units = 0; top = start; code = c })
+    unfolding memoryWalk memoryAutomaton stepsLeft
+    going-first =
+        let l : length (set stack 0 start) ≡ length stack = simp length-set in
+        record {
+          fuel = suc (suc (k + length tokens) * suc n);
+          enough = enough-first (k - 0 + (length tokens - 0)) (k + length tokens) n (omega arith);
+          same = fits-yes (memoryGrammar rules) (memoryAutomaton kinds values gotos rules start) n k 0 (start ∷ []) [] _ (omega (arith, l)) (omega arith)
+              ∙ ap (λ (q : ℕ). walkFor (memoryGrammar rules) (memoryAutomaton kinds values gotos rules start) n k (suc (suc (k + length tokens) * suc n)) (q ∷ []) tokens 0 [])
+              (sym (getD-set-same stack 0 start 0 some));
+        }
+
+  -- ---- a step
+
+  module _ (stack listing stack′ listing′ : List ℕ) (p : Position) (t : Turn)
+      (s : Stands (memoryGrammar rules) n k tokens stack listing p)
+      (h : Turned (memoryGrammar rules) (memoryAutomaton kinds values gotos rules start) (length stack) (length listing) tokens stack listing p
+      (step (memoryGrammar rules) (memoryAutomaton kinds values gotos rules start) (tops stack (p .height)) (next (drop (p .taken) tokens) 0)) stack′ listing′ t) where
+    turned : Turned (memoryGrammar rules) (memoryAutomaton kinds values gotos rules start) n k tokens stack listing p
+        (step (memoryGrammar rules) (memoryAutomaton kinds values gotos rules start) (tops stack (p .height)) (next (drop (p .taken) tokens) 0)) stack′ listing′ t
+    turned = rw (s .stack-long, s .listing-long) at h
+
+    pub moved : {q : Position} → t ≡ On q → Moves (memoryGrammar rules) (memoryAutomaton kinds values gotos rules start) n k tokens stack listing p
+        (step (memoryGrammar rules) (memoryAutomaton kinds values gotos rules start) (tops stack (p .height)) (next (drop (p .taken) tokens) 0)) stack′ listing′ q
+    moved e = subst
+        (λ (u : Turn). Turned (memoryGrammar rules) (memoryAutomaton kinds values gotos rules start) n k tokens stack listing p
+        (step (memoryGrammar rules) (memoryAutomaton kinds values gotos rules start) (tops stack (p .height)) (next (drop (p .taken) tokens) 0)) stack′ listing′ u)
+        e turned
+
+    pub going-on : {q : Position} → t ≡ On q → Going stack listing p → Going stack′ listing′ q
+    going-on {q} e g = go (g .fuel) (g .enough) (g .same)
+      where
+        go : (f : ℕ) → stepsLeft n k tokens p ≤ f → memoryWalk kinds values gotos rules start n k tokens
+            ≡ walkFor (memoryGrammar rules) (memoryAutomaton kinds values gotos rules start) n k f (tops stack (p .height)) (drop (p .taken) tokens) (p .taken) (take (p .listed) listing)
+            → Going stack′ listing′ q
+        go zero le same = absurd (omega (arith, (moved e) .less))
+        go (suc f) le same = record {
+          fuel = f;
+          enough = omega (arith, (moved e) .less);
+          same = same ∙ (moved e) .goes (walkFor (memoryGrammar rules) (memoryAutomaton kinds values gotos rules start) n k f);
+        }
+
+    pub going-ends : {w : Walked} → t ≡ Ends w → Going stack listing p → Ended (memoryGrammar rules) (memoryWalk kinds values gotos rules start n k tokens) w listing′
+    unfolding stepsLeft
+    going-ends {w} e g = go (g .fuel) (g .enough) (g .same)
+      where
+        fin : Finishes (memoryGrammar rules) (memoryAutomaton kinds values gotos rules start) n k tokens stack listing p
+            (step (memoryGrammar rules) (memoryAutomaton kinds values gotos rules start) (tops stack (p .height)) (next (drop (p .taken) tokens) 0)) listing′ w
+        fin = subst
+            (λ (u : Turn). Turned (memoryGrammar rules) (memoryAutomaton kinds values gotos rules start) n k tokens stack listing p
+            (step (memoryGrammar rules) (memoryAutomaton kinds values gotos rules start) (tops stack (p .height)) (next (drop (p .taken) tokens) 0)) stack′ listing′ u)
+            e turned
+
+        go : (f : ℕ) → stepsLeft n k tokens p ≤ f → memoryWalk kinds values gotos rules start n k tokens
+            ≡ walkFor (memoryGrammar rules) (memoryAutomaton kinds values gotos rules start) n k f (tops stack (p .height)) (drop (p .taken) tokens) (p .taken) (take (p .listed) listing)
+            → Ended (memoryGrammar rules) (memoryWalk kinds values gotos rules start n k tokens) w listing′
+        go zero le same = absurd (omega (arith, s .started))
+        go (suc f) le same = subst
+            (λ (v : Verdict). Ended (memoryGrammar rules) v w listing′)
+            (sym (same ∙ fin .ends (walkFor (memoryGrammar rules) (memoryAutomaton kinds values gotos rules start) n k f)))
+            (fin .ended)
+
+-- a position's slices have their own lengths
+pub stands-own : {g : Grammar} {tokens stack listing : List ℕ} {n k : ℕ} {p : Position} → Stands g n k tokens stack listing p
+    → Stands g (length stack) (length listing) tokens stack listing p
+stands-own s = rw (s .stack-long, s .listing-long) s
+
+pub ended-same : (kinds values gotos rules : List ℕ) (start n m k : ℕ) (tokens : List ℕ) {w : Walked} {listing : List ℕ} → n ≡ m
+    → Ended (memoryGrammar rules) (memoryWalk kinds values gotos rules start n k tokens) w listing
+    → Ended (memoryGrammar rules) (memoryWalk kinds values gotos rules start m k tokens) w listing
+ended-same kinds values gotos rules start n m k tokens {w} {listing} e h =
+    subst (λ (i : ℕ). Ended (memoryGrammar rules) (memoryWalk kinds values gotos rules start i k tokens) w listing) e h

@@ -1,0 +1,72 @@
+-- `walker::pop` meets its contract, by the laws of the two ways out and of the one that goes on. Assumes nothing.
+use lib.ListN.{drop, length-drop}
+use Prim.Native.Nat.{suc, _+_, _-_}
+use native.Mathlib.Omega.{arith}
+use borrow.Author.Needs.{needs}
+use Rattle.walker.proofs.MoveLaws.{move-pop}
+use Rattle.walker.proofs.TurnLaws.{pop-whole, pop-wrong, turns-wrong, turns-whole}
+use Rattle.walker.proofs.StackLaws.{tops-length}
+use Rattle.walker.specs.Turn.{tops}
+use Rattle.walker.proofs.pop.Statement.{statement}
+use Rattle.walker.proofs.pop.Tie as tie
+
+sub-lowered : tie.Need-sub-lowered
+sub-lowered c = search needs
+
+lowered-requires : tie.Need-lowered-requires
+lowered-requires c κs = search needs
+
+returns : tie.Need-returns
+returns c = let a = c .before .before .before .before .args in
+    λ g m n k tokens listing s ec.
+    move-pop g m n k tokens (a .stack .now) listing (a .p) (a .symbols) 2 (a .code) s ec (omega (arith, c .before .before .if1 .taken)) (c .before .if2 .taken) (c .lowered .ensures)
+
+wide-requires : tie.Need-wide-requires
+wide-requires c κs = search needs
+
+add-pops : tie.Need-add-pops
+add-pops c = search needs
+
+sub-lowered-2 : tie.Need-sub-lowered-2
+sub-lowered-2 c = search needs
+
+lowered-requires-2 : tie.Need-lowered-requires-2
+lowered-requires-2 c κs = search needs
+
+returns-2 : tie.Need-returns-2
+returns-2 c = let a = c .before .before .before .before .before .args in
+    λ g m n k tokens listing s ec.
+    move-pop g m n k tokens (a .stack .now) listing (a .p) (a .symbols) (c .before .before .wide .result + 1) (a .code) s ec
+    (omega (arith, c .before .before .wide .ensures .0)) (c .before .if3 .taken) (c .lowered2 .ensures)
+
+returns-3 : tie.Need-returns-3
+returns-3 c = let a = c .before .before .before .before .before .before .args in
+    λ g m n k tokens listing s ec.
+    turns-wrong g m n k tokens (a .stack .now) listing (a .p) (a .stack .now) listing
+    (pop-wrong (drop (suc (a .symbols)) (tops (a .stack .now) (a .p .height))) (a .code) (omega (arith, length-drop (suc (a .symbols)) (tops (a .stack .now) (a .p .height)), tops-length (a .stack .now) (a .p .height), c .before .before .if3 .left, c .before .before .before .wide .ensures .0)) (c .before .if4 .taken))
+    (c .refused .ensures)
+
+refused-requires : tie.Need-refused-requires
+refused-requires c κs = search needs
+
+returns-4 : tie.Need-returns-4
+returns-4 c = let a = c .before .before .before .before .before .args in
+    λ g m n k tokens listing s ec.
+    turns-whole g m n k tokens (a .stack .now) listing (a .p) (a .stack .now)
+    (pop-whole (drop (suc (a .symbols)) (tops (a .stack .now) (a .p .height))) (a .code) (omega (arith, length-drop (suc (a .symbols)) (tops (a .stack .now) (a .p .height)), tops-length (a .stack .now) (a .p .height), c .before .if3 .left, c .before .before .wide .ensures .0)) (c .if4 .left)) s
+
+pub pop-spec : {M : Type 1} → statement M
+pop-spec =
+    tie.close
+    (tie.spec
+    sub-lowered
+    lowered-requires
+    returns
+    wide-requires
+    add-pops
+    sub-lowered-2
+    lowered-requires-2
+    returns-2
+    refused-requires
+    returns-3
+    returns-4)

@@ -1,0 +1,42 @@
+-- What a walk over tables in memory comes back with, by the walk of the theory.
+use Prim.Native.Nat.{ℕ, _-_, _≤_}
+use mathlib.Core.Path.{_≡_}
+use mathlib.Core.List.{List, [], _++_}
+use lib.ListN.{length, take, replicate}
+use Rattle.language.specs.Grammar.{Grammar}
+use Rattle.language.specs.Listing.{unitsIn}
+use Rattle.leftcorner.specs.Machine.{Verdict, whole-at, wrong-at, short-at, walk}
+use Rattle.reply.specs.declared.Kind.the-variants.{BufferTooSmall, SyntaxError}
+use Rattle.walker.specs.declared.Walked.{Walked}
+use Rattle.walker.specs.declared.Walked.the-variants.{Accepted, Refused}
+use Rattle.walker.specs.Memory.{memoryGrammar, memoryAutomaton}
+
+-- the walk of the machine in memory, with a stack slice of n places and a listing slice of k
+unfoldable pub memoryWalk : List ℕ → List ℕ → List ℕ → List ℕ → ℕ → ℕ → ℕ → List ℕ → Verdict
+memoryWalk kinds values gotos rules start n k w = walk (memoryGrammar rules) (memoryAutomaton kinds values gotos rules start) n k w
+
+-- "0 whole", "11 short slip", "12 wrong scan": the reply with its place and counts
+abbrev pub answer : Grammar → Verdict → Walked
+answer g (whole-at p l) = Accepted (record { tokens = p; rules = length l; units = unitsIn g l })
+answer g (wrong-at p) = Refused (record { kind = SyntaxError; place = p })
+answer g (short-at p) = Refused (record { kind = BufferTooSmall; place = p })
+
+-- "Only zeros, never a partial listing, tell of a wrong scan."
+abbrev pub listed : Verdict → List ℕ
+listed (whole-at p l) = l
+listed (wrong-at p) = []
+listed (short-at p) = []
+
+-- "After success a listing [..] is followed by zeros."
+unfoldable pub padded : ℕ → List ℕ → List ℕ
+padded size l = l ++ replicate (size - length l) 0
+
+abbrev pub countOf : Walked → ℕ
+countOf (Accepted t) = t .rules
+countOf (Refused x) = 0
+
+-- a walk that ended so, with its listing at the front of the slice
+pub record Ended (g : Grammar) (v : Verdict) (w : Walked) (slice : List ℕ) : Type 0 where
+  pub answered : w ≡ answer g v
+  pub front : take (length (listed v)) slice ≡ listed v
+  pub within : length (listed v) ≤ length slice
