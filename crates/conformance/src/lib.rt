@@ -12,7 +12,14 @@ ghost use Rattle.moves.specs.Moves.{Readable, Cells};
 ghost use Rattle.conformance.specs.Items.{OnlyItem, EntryMeets, HeldAt};
 
 // Whether every line of q is that of item i, dot 0.
-fn only_item(kernels: &[u8], links: &[usize], lines: usize, count: usize, q: usize, i: usize) -> bool
+fn only_item(
+    kernels: &[u8],
+    links: &[usize],
+    lines: usize,
+    count: usize,
+    q: usize,
+    i: usize,
+) -> bool
     requires { ⌜ Lines (now kernels) lines count ⌝ }
     requires { ⌜ Linked (now kernels) (now links) lines ⌝ }
     requires { ⌜ q < 256 ⌝ }
@@ -36,7 +43,16 @@ fn wide(x: u8) -> usize
 }
 
 // Whether q, where it is the state of entry k, has that entry's item and only that.
-fn entry_meets(entries: &[u8], kernels: &[u8], links: &[usize], rules: usize, lines: usize, count: usize, q: usize, k: usize) -> bool
+fn entry_meets(
+    entries: &[u8],
+    kernels: &[u8],
+    links: &[usize],
+    rules: usize,
+    lines: usize,
+    count: usize,
+    q: usize,
+    k: usize,
+) -> bool
     requires { ⌜ Lines (now kernels) lines count ⌝ }
     requires { ⌜ Linked (now kernels) (now links) lines ⌝ }
     requires { ⌜ (q < 256) × (rules ≤ 127) × (k ≤ 127) × (k < length (now entries)) ⌝ }
@@ -55,7 +71,16 @@ fn entry_meets(entries: &[u8], kernels: &[u8], links: &[usize], rules: usize, li
 }
 
 // Whether q has the item, and only that, of each entry whose state it is.
-fn entries_at_meet(entries: &[u8], kernels: &[u8], links: &[usize], rules: usize, strings: usize, lines: usize, count: usize, q: usize) -> bool
+fn entries_at_meet(
+    entries: &[u8],
+    kernels: &[u8],
+    links: &[usize],
+    rules: usize,
+    strings: usize,
+    lines: usize,
+    count: usize,
+    q: usize,
+) -> bool
     requires { ⌜ Lines (now kernels) lines count ⌝ }
     requires { ⌜ Linked (now kernels) (now links) lines ⌝ }
     requires { ⌜ (q < 256) × (rules ≤ 127) × (strings ≤ 127) × (strings < length (now entries)) ⌝ }
@@ -72,7 +97,22 @@ fn entries_at_meet(entries: &[u8], kernels: &[u8], links: &[usize], rules: usize
 }
 
 // Whether the kernels are those of the construction, as far as state q tells.
-pub fn items_meet(items: &[u8], entries: &[u8], kernels: &[u8], links: &[usize], kinds: &[u8], values: &[u8], gotos: &[u8], named: &[u8], present: &[u8], symbols: &[u8], rules: usize, strings: usize, lines: usize, q: usize) -> bool
+pub fn items_meet(
+    items: &[u8],
+    entries: &[u8],
+    kernels: &[u8],
+    links: &[usize],
+    kinds: &[u8],
+    values: &[u8],
+    gotos: &[u8],
+    named: &[u8],
+    present: &[u8],
+    symbols: &[u8],
+    rules: usize,
+    strings: usize,
+    lines: usize,
+    q: usize,
+) -> bool
     requires { ⌜ Readable (now items) (now kernels) (now links) (now present) (rules + strings) rules lines ⌝ }
     requires { ⌜ Cells (now kinds) (now values) (now gotos) ⌝ }
     requires { ⌜ (q < length (now named)) × (length (now symbols) ≡ 128) ⌝ }
@@ -86,7 +126,20 @@ pub fn items_meet(items: &[u8], entries: &[u8], kernels: &[u8], links: &[usize],
     if !entries_at_meet(entries, kernels, links, rules, strings, lines, count, q) {
         return false;
     }
-    if !targets::moves_meet(items, kernels, links, present, symbols, kinds, values, gotos, count, rules, lines, q) {
+    if !targets::moves_meet(
+        items,
+        kernels,
+        links,
+        present,
+        symbols,
+        kinds,
+        values,
+        gotos,
+        count,
+        rules,
+        lines,
+        q,
+    ) {
         return false;
     }
     true

@@ -78,12 +78,19 @@ module _ (g : Grammar) (t : Table) where
   module _ {items : List ℕ} {rules strings : ℕ} (S : HoldsStrings g t items rules strings) (i : ℕ) (r : Rule) (is-rule : ruleAt g i ≡ some r) where
     pub filling-start : {uses wanted : List ℕ} {from : ℕ} → from ≡ markAt items i → ((n : ℕ) → n < 16 → getD uses (i * 16 + n) 0 ≡ 0)
         → Filling i r uses uses wanted wanted from 0
-    filling-start {uses} {wanted} {from} e zeros = record
-        { done = []; todo = r .groups; split = refl; counted = refl
-        ; place = let w = S .holds-items .rule-row i is-rule .mark-is in omega (arith, e, w)
-        ; row = zeros; outside = λ x f. refl
-        ; entered = λ γ m. elim m [ ]; flagged = λ γ m. elim m [ ]
-        ; kept = λ k o. o; only = λ k o. inl o }
+    filling-start {uses} {wanted} {from} e zeros = record {
+      done = [];
+      todo = r .groups;
+      split = refl;
+      counted = refl;
+      place = let w = S .holds-items .rule-row i is-rule .mark-is in omega (arith, e, w);
+      row = zeros;
+      outside = λ x f. refl;
+      entered = λ γ m. elim m [ ];
+      flagged = λ γ m. elim m [ ];
+      kept = λ k o. o;
+      only = λ k o. inl o;
+    }
 
     current : {uses₀ uses wanted₀ wanted : List ℕ} {from to j : ℕ} (F : Filling i r uses₀ uses wanted₀ wanted from j) → from < lengthAt items i
         → GroupEnd items i from to → Current r (F .done) to
@@ -91,14 +98,20 @@ module _ (g : Grammar) (t : Table) where
       where
         w : RuleIn items i r
         w = S .holds-items .rule-row i is-rule
+
         go : (ts : List (List ℕ)) → r .groups ≡ F .done ++ ts → Current r (F .done) to
         go [] e = absurd (omega (arith, l, w .length-is, right-length r (F .done) [] e, F .place))
         go (γ ∷ εs) e =
             let filled = S .formed .formed i is-rule .filled in
             let inside : In γ (r .groups) = subst (In γ) (sym e) (in-right (F .done) here) in
-            record { group = γ; others = εs; split = e; is-group = inside
-                   ; end = end-is r (F .done) γ εs e w (S .formed .formed i is-rule .short)
-                       (λ ε m. filled ε (subst (In ε) (sym e) (in-right (F .done) (there m)))) (positive γ (filled γ inside)) (F .place) h }
+            record {
+              group = γ;
+              others = εs;
+              split = e;
+              is-group = inside;
+              end = end-is r (F .done) γ εs e w (S .formed .formed i is-rule .short)
+                  (λ ε m. filled ε (subst (In ε) (sym e) (in-right (F .done) (there m)))) (positive γ (filled γ inside)) (F .place) h;
+            }
 
     module _ {uses₀ uses wanted₀ wanted : List ℕ} {from to j x : ℕ} (F : Filling i r uses₀ uses wanted₀ wanted from j) (l : from < lengthAt items i)
         (G : GroupEnd items i from to) (E : FindsEntry items rules strings i from (to - from) x) where
@@ -132,7 +145,7 @@ module _ (g : Grammar) (t : Table) where
             ∙ (getD-set-same uses (i * 16 + j) x 0 (omega arith)
             ∙ (sym number-is ∙ (sym (snoc-same (map number (F .done)) (number (c .group)))
             ∙ ap (λ (m : ℕ). getD (map number (F .done) ++ number (c .group) ∷ []) m 0)
-                (let z : length (map number (F .done)) ≡ n = length-map (F .done) number ∙ (F .counted ∙ sym e) in z))))
+            (let z : length (map number (F .done)) ≡ n = length-map (F .done) number ∙ (F .counted ∙ sym e) in z))))
         new-row n b (no f) =
             getD-set-other uses (i * 16 + j) (i * 16 + n) x 0 (λ e. f (omega (arith, e)))
             ∙ (F .row n b ∙ sym (snoc-other (map number (F .done)) (number (c .group)) n (λ e. f (e ∙ (length-map (F .done) number ∙ F .counted)))))
@@ -150,19 +163,20 @@ module _ (g : Grammar) (t : Table) where
             ∙ ap (λ (m : List ℕ). length (concat (F .done)) + length m) (append-nil (c .group)))
 
         more : Filling i r uses₀ (set uses (i * 16 + j) x) wanted₀ (set wanted x 1) to (j + 1)
-        more = record
-            { done = F .done ++ c .group ∷ []
-            ; todo = c .others
-            ; split = c .split ∙ sym (append-assoc (F .done) (c .group ∷ []) (c .others))
-            ; counted = length-append (F .done) (c .group ∷ []) ∙ ap (λ (m : ℕ). m + 1) (F .counted)
-            ; place = omega (arith, c .end, concat-length)
-            ; row = λ n b. new-row n b (ℕ-discrete n j) ∙ ap (λ (m : List ℕ). getD m n 0) (sym (map-append number (F .done) (c .group ∷ [])))
-            ; outside = λ y f. getD-set-other uses (i * 16 + j) y x 0 (λ e. f (omega (arith, e)) (omega (arith, e))) ∙ F .outside y f
-            ; entered = λ γ m. new-entered γ (in-snoc (F .done) m)
-            ; flagged = λ γ m. new-flagged γ (in-snoc (F .done) m)
-            ; kept = λ k o. keep-set wanted x (omega arith) k (F .kept k o)
-            ; only = only-set (λ (k : ℕ). On wanted₀ k ⊎ WantedEntry g t k) wanted x (F .only)
-                (inr (record { state = entry .0; string = c .group; is-entry = entry .1; wanted = of-group i is-rule (c .is-group) })) }
+        more = record {
+          done = F .done ++ c .group ∷ [];
+          todo = c .others;
+          split = c .split ∙ sym (append-assoc (F .done) (c .group ∷ []) (c .others));
+          counted = length-append (F .done) (c .group ∷ []) ∙ ap (λ (m : ℕ). m + 1) (F .counted);
+          place = omega (arith, c .end, concat-length);
+          row = λ n b. new-row n b (ℕ-discrete n j) ∙ ap (λ (m : List ℕ). getD m n 0) (sym (map-append number (F .done) (c .group ∷ [])));
+          outside = λ y f. getD-set-other uses (i * 16 + j) y x 0 (λ e. f (omega (arith, e)) (omega (arith, e))) ∙ F .outside y f;
+          entered = λ γ m. new-entered γ (in-snoc (F .done) m);
+          flagged = λ γ m. new-flagged γ (in-snoc (F .done) m);
+          kept = λ k o. keep-set wanted x (omega arith) k (F .kept k o);
+          only = only-set (λ (k : ℕ). On wanted₀ k ⊎ WantedEntry g t k) wanted x (F .only)
+              (inr (record { state = entry .0; string = c .group; is-entry = entry .1; wanted = of-group i is-rule (c .is-group) }));
+        }
 
         pub filling-more : {uses′ wanted′ : List ℕ} → uses′ ≡ set uses (i * 16 + j) x → wanted′ ≡ set wanted x 1 → Filling i r uses₀ uses′ wanted₀ wanted′ to (j + 1)
         filling-more {uses′} {wanted′} eu ew =
@@ -176,16 +190,18 @@ module _ (g : Grammar) (t : Table) where
       where
         w : RuleIn items i r
         w = S .holds-items .rule-row i is-rule
+
         go : (ts : List (List ℕ)) → r .groups ≡ F .done ++ ts → FilledRule g t i r uses₀ uses wanted₀ wanted true
         go [] e =
             let all : r .groups ≡ F .done = e ∙ append-nil (F .done) in
-            record
-            { decides = is-yes _ (λ γ m. F .entered γ (subst (In γ) all m))
-            ; row = λ b n h. F .row n h ∙ ap (λ (d : List (List ℕ)). getD (map number d) n 0) (sym all)
-            ; outside = F .outside
-            ; flagged = λ b γ m. F .flagged γ (subst (In γ) all m)
-            ; kept = F .kept
-            ; only = F .only }
+            record {
+              decides = is-yes _ (λ γ m. F .entered γ (subst (In γ) all m));
+              row = λ b n h. F .row n h ∙ ap (λ (d : List (List ℕ)). getD (map number d) n 0) (sym all);
+              outside = F .outside;
+              flagged = λ b γ m. F .flagged γ (subst (In γ) all m);
+              kept = F .kept;
+              only = F .only;
+            }
         go (γ ∷ εs) e =
             let some-symbol = positive γ (S .formed .formed i is-rule .filled γ (subst (In γ) (sym e) (in-right (F .done) here))) in
             absurd (omega (arith, l, w .length-is, right-length r (F .done) (γ ∷ εs) e, length-append γ (concat εs), F .place, some-symbol))

@@ -89,7 +89,7 @@ module _ (r : Rule) (δs : List (List ℕ)) where
             let back : baseOf + m ≡ to = omega (arith, h .past) in
             let low : to < lengthAt items i = omega (arith, w .length-is, group-length) in
             absurd (h .edge low (w .start-is to (omega (arith, w .length-is))
-              ∙ (ap (λ (n : ℕ). getD (startsOf r) n 0) (sym back) ∙ start-inside m (omega (arith, h .past)) (omega arith))))
+            ∙ (ap (λ (n : ℕ). getD (startsOf r) n 0) (sym back) ∙ start-inside m (omega (arith, h .past)) (omega arith))))
         go (no a) (yes l) =
             let z = h .inside (baseOf + length γ) (omega (arith, filled)) l in
             let one = start-behind f (omega (arith, h .within, w .length-is, group-length)) in

@@ -10,6 +10,7 @@ use native.Mathlib.Omega.{arith}
 use lib.ListN.{length, getD, replicate}
 use Rattle.language.specs.Grammar.{Grammar, Rule, ruleAt}
 use Rattle.language.specs.Sentence.{In}
+use Rattle.language.specs.GrammarLaws.{rule-range, range-rule}
 use Rattle.leftcorner.specs.Table.{EntryLine, E, Table, entryAt, entryFrom}
 use Rattle.leftcorner.specs.Construction.{EntryAt, Wanted, of-goal, of-group, EntriesMeet}
 use Rattle.leftcorner.specs.ReadOff.{entry-is}
@@ -18,17 +19,20 @@ use Rattle.fixpoint.specs.Flags.{On, Off}
 use Rattle.fixpoint.specs.Lowest.{Lowest}
 use Rattle.fixpoint.specs.declared.Found.{Found}
 use Rattle.fixpoint.proofs.PassLaws.{is-yes, is-no, all-off, none-on}
-use Rattle.memory.proofs.RangeLaws.{rule-at, rule-range, entry-at, entry-range}
+use Rattle.memory.proofs.RangeLaws.{entry-at, entry-range}
 use Rattle.entry_list.specs.Uses.{HoldsStrings, HoldsUses, entriesOf, AllEntered, WantedEntry, FilledRule, Filled, FilledAll}
 use Rattle.entry_list.proofs.PartLaws.{entry-row}
 
 module _ (g : Grammar) (t : Table) {items : List ℕ} {rules strings : ℕ} (S : HoldsStrings g t items rules strings) where
+  rule-low : (j : ℕ) {r : Rule} → ruleAt g j ≡ some r → j < rules + 1
+  rule-low j e = omega (arith, rule-range g j e .1, S .rule-count)
+
   pub filled-start : {uses wanted : List ℕ} → ((x : ℕ) → getD uses x 0 ≡ 0) → Filled g t 1 uses wanted wanted
   filled-start z = record
       { row = λ j r l e. absurd (none j l e); rest = λ x l. z x; entered = λ j r l e. absurd (none j l e); flagged = λ j r l e. absurd (none j l e); only = λ k o. inl o }
     where
       none : (j : ℕ) {r : Rule} → j < 1 → ruleAt g j ≡ some r → ⊥
-      none j l e = let b = rule-range g (S .rule-count) j e in omega (arith, l, b .0)
+      none j l e = omega (arith, l, rule-range g j e .0)
 
   module _ {i : ℕ} {uses uses′ wanted₀ wanted wanted′ : List ℕ} {b : Bool} (low : 1 ≤ i) (high : i ≤ rules) (F : Filled g t i uses wanted₀ wanted)
       (R : (r : Rule) → ruleAt g i ≡ some r → ((n : ℕ) → n < 16 → getD uses (i * 16 + n) 0 ≡ 0) → FilledRule g t i r uses uses′ wanted wanted′ b) where
@@ -36,7 +40,7 @@ module _ (g : Grammar) (t : Table) {items : List ℕ} {rules strings : ℕ} (S :
     here r e = R r e (λ n l. F .rest (i * 16 + n) (omega arith))
 
     this : (r : Rule) × (ruleAt g i ≡ some r)
-    this = rule-at g (S .rule-count) i low (omega arith)
+    this = range-rule g i low (omega (arith, S .rule-count))
 
     -- a rule below i, or i
     by-rule : (P : ℕ → Type 0) (j : ℕ) → j < i + 1 → (j < i → P j) → P i → P j
@@ -47,19 +51,22 @@ module _ (g : Grammar) (t : Table) {items : List ℕ} {rules strings : ℕ} (S :
         go (no n) = f (omega arith)
 
     pub filled-more : b ≡ true → Filled g t (i + 1) uses′ wanted₀ wanted′
-    filled-more yes-it = record
-        { row = λ j r l. by-rule (λ (k : ℕ). ruleAt g k ≡ some r → (n : ℕ) → n < 16 → getD uses′ (k * 16 + n) 0 ≡ getD (entriesOf t r) n 0) j l
-            (λ below e n h. same (j * 16 + n) (λ a c. omega (arith, below, h, a)) ∙ F .row j r below e n h) (λ e. here r e .row yes-it)
-        ; rest = λ x l. same x (λ a c. omega (arith, l, c)) ∙ F .rest x (omega arith)
-        ; entered = λ j r l. by-rule (λ (k : ℕ). ruleAt g k ≡ some r → AllEntered g t r) j l (F .entered j r) (λ e. here r e .decides .yes yes-it)
-        ; flagged = λ j r l. by-rule (λ (k : ℕ). ruleAt g k ≡ some r → (γ : List ℕ) → In γ (r .groups) → On wanted′ (entryFrom 1 (t .entries) γ)) j l
-            (λ below e γ m. it .kept (entryFrom 1 (t .entries) γ) (F .flagged j r below e γ m)) (λ e. here r e .flagged yes-it)
-        ; only = λ k o. back k (it .only k o) }
+    filled-more yes-it = record {
+      row = λ j r l. by-rule (λ (k : ℕ). ruleAt g k ≡ some r → (n : ℕ) → n < 16 → getD uses′ (k * 16 + n) 0 ≡ getD (entriesOf t r) n 0) j l
+          (λ below e n h. same (j * 16 + n) (λ a c. omega (arith, below, h, a)) ∙ F .row j r below e n h) (λ e. here r e .row yes-it);
+      rest = λ x l. same x (λ a c. omega (arith, l, c)) ∙ F .rest x (omega arith);
+      entered = λ j r l. by-rule (λ (k : ℕ). ruleAt g k ≡ some r → AllEntered g t r) j l (F .entered j r) (λ e. here r e .decides .yes yes-it);
+      flagged = λ j r l. by-rule (λ (k : ℕ). ruleAt g k ≡ some r → (γ : List ℕ) → In γ (r .groups) → On wanted′ (entryFrom 1 (t .entries) γ)) j l
+          (λ below e γ m. it .kept (entryFrom 1 (t .entries) γ) (F .flagged j r below e γ m)) (λ e. here r e .flagged yes-it);
+      only = λ k o. back k (it .only k o);
+    }
       where
         it : FilledRule g t i (this .0) uses uses′ wanted wanted′ b
         it = here (this .0) (this .1)
+
         same : (x : ℕ) → (i * 16 ≤ x → x < i * 16 + 16 → ⊥) → getD uses′ x 0 ≡ getD uses x 0
         same = it .outside
+
         back : (k : ℕ) → On wanted k ⊎ WantedEntry g t k → On wanted₀ k ⊎ WantedEntry g t k
         back k (inl o) = F .only k o
         back k (inr w) = inr w
@@ -71,7 +78,7 @@ module _ (g : Grammar) (t : Table) {items : List ℕ} {rules strings : ℕ} (S :
   pub filled-all : {i : ℕ} {uses wanted₀ wanted : List ℕ} → i ≡ rules + 1 → Filled g t i uses wanted₀ wanted → FilledAll g t rules uses wanted₀ wanted true
   filled-all {i} {uses} {wanted₀} {wanted} e F =
       let f : Filled g t (rules + 1) uses wanted₀ wanted = subst (λ (k : ℕ). Filled g t k uses wanted₀ wanted) e F in
-      record { decides = is-yes _ (λ j r h. f .entered j r (rule-range g (S .rule-count) j h .1) h); filled = λ _. f }
+      record { decides = is-yes _ (λ j r h. f .entered j r (rule-low j h) h); filled = λ _. f }
 
   -- ---- the entry list
   abbrev pub GoalFirst : Type 0
@@ -99,26 +106,31 @@ module _ (g : Grammar) (t : Table) {items : List ℕ} {rules strings : ℕ} (S :
   module _ {uses wanted₀ wanted : List ℕ} (none : wanted₀ ≡ replicate 128 0) where
     pub entries-hold : 1 ≤ strings → GoalFirst → Filled g t (rules + 1) uses wanted₀ wanted
         → (r : Found) → Lowest (Off wanted) 2 (strings + 1) r → r ≡ Found.Nothing → EntriesMeet g t
-    entries-hold some-entry h F r found is-r = record
-        { goal-first = first
-        ; only-wanted = λ k s γ e. only-it k e (ℕ-discrete k 1)
-        ; all-wanted = λ γ w. all-it w }
+    entries-hold some-entry h F r found is-r = record {
+      goal-first = first;
+      only-wanted = λ k s γ e. only-it k e (ℕ-discrete k 1);
+      all-wanted = λ γ w. all-it w;
+    }
       where
         low : Lowest (Off wanted) 2 (strings + 1) Found.Nothing
         low = subst (Lowest (Off wanted) 2 (strings + 1)) is-r found
+
         first : (s : ℕ) × EntryAt g t 1 s (g .goal ∷ [])
         first = goal-entry some-entry h
+
         from-flag : (k : ℕ) {s : ℕ} {γ : List ℕ} → EntryAt g t k s γ → On wanted₀ k ⊎ WantedEntry g t k → Wanted g γ
         from-flag k e (inl o) = all-off 128 none o
         from-flag k e (inr w) = subst (Wanted g) (same-entry k (w .is-entry) e) (w .wanted)
+
         only-it : (k : ℕ) {s : ℕ} {γ : List ℕ} → EntryAt g t k s γ → Dec (k ≡ 1) → Wanted g γ
         only-it k {s} {γ} e (yes f) = of-goal (same-entry 1 (subst (λ (j : ℕ). EntryAt g t j s γ) f e) (first .1))
         only-it k e (no f) =
             let b = entry-range t (S .entry-count) k e in
             from-flag k e (F .only k (record { nonzero = λ z. low k (omega (arith, b .0, f)) (b .1) z }))
+
         all-it : {γ : List ℕ} → Wanted g γ → (k : ℕ) × (s : ℕ) × EntryAt g t k s γ
         all-it (of-goal e) = (1, first .0, subst (EntryAt g t 1 (first .0)) (sym e) (first .1))
-        all-it {γ} (of-group i {r = r} e m) = F .entered i r (rule-range g (S .rule-count) i e .1) e γ m
+        all-it {γ} (of-group i {r = r} e m) = F .entered i r (rule-low i e) e γ m
 
     pub entries-fail : EntriesMeet g t → Filled g t (rules + 1) uses wanted₀ wanted → (r : Found) → Lowest (Off wanted) 2 (strings + 1) r → {x : ℕ} → r ≡ Found.At x → ⊥
     entries-fail m F r found {x} is-r = let low : Lowest (Off wanted) 2 (strings + 1) (Found.At x) = subst (Lowest (Off wanted) 2 (strings + 1)) is-r found in
@@ -130,8 +142,9 @@ module _ (g : Grammar) (t : Table) {items : List ℕ} {rules strings : ℕ} (S :
             let z : 1 ≡ x = S .fits .form .one-entry 1 x (a .0) s γ (subst (EntryAt g t 1 (a .0)) (sym f) (a .1)) e in
             omega (arith, low .0, z)
         on low {s} {γ} e (of-group i {r = r} f n) =
-            F .flagged i r (rule-range g (S .rule-count) i f .1) f γ n .nonzero
-              (subst (λ (k : ℕ). getD wanted k 0 ≡ 0) (sym (entry-is g t (S .fits .form) x s γ e)) (low .2))
+            F .flagged i r (rule-low i f) f γ n .nonzero
+            (subst (λ (k : ℕ). getD wanted k 0 ≡ 0) (sym (entry-is g t (S .fits .form) x s γ e)) (low .2))
+
         go : Lowest (Off wanted) 2 (strings + 1) (Found.At x) → (y : EntryLine) × (entryAt t x ≡ some y) → ⊥
         go low (E s γ, e) = on low e (m .only-wanted x s γ e)
 
@@ -139,7 +152,7 @@ module _ (g : Grammar) (t : Table) {items : List ℕ} {rules strings : ℕ} (S :
   meets-entered m i r e γ n = m .all-wanted γ (of-group i e n)
 
   pub uses-hold : {uses wanted₀ wanted : List ℕ} → Filled g t (rules + 1) uses wanted₀ wanted → HoldsUses uses g t
-  uses-hold F = record { row = λ i r e. F .row i r (rule-range g (S .rule-count) i e .1) e }
+  uses-hold F = record { row = λ i r e. F .row i r (rule-low i e) e }
 
 pub zeros-of : {l : List ℕ} (n : ℕ) → l ≡ replicate n 0 → (x : ℕ) → getD l x 0 ≡ 0
 zeros-of n e x = ap (λ (m : List ℕ). getD m x 0) e ∙ none-on n x

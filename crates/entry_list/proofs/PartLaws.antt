@@ -27,9 +27,10 @@ module _ (g : Grammar) (t : Table) {items : List ℕ} {rules strings : ℕ} (S :
         ∙ symbol-at r δs γ εs split m l
 
     pub part-same : (k : ℕ) {s : ℕ} → EntryAt g t k s γ → SamePart items i (baseOf r δs) (length γ) (rules + k)
-    part-same k {s} e = record
-        { same-length = entry-row k e .length-is
-        ; same-symbols = λ j l. part-symbol j l ∙ sym (entry-row k e .symbol-is j (omega (arith, l, S .fits .string-short k s γ e))) }
+    part-same k {s} e = record {
+      same-length = entry-row k e .length-is;
+      same-symbols = λ j l. part-symbol j l ∙ sym (entry-row k e .symbol-is j (omega (arith, l, S .fits .string-short k s γ e)));
+    }
 
     pub same-part : (k : ℕ) → 1 ≤ k → k < strings + 1 → SamePart items i (baseOf r δs) (length γ) (rules + k) → (s : ℕ) × EntryAt g t k s γ
     same-part k a b h = go (entry-at t (S .entry-count) k a b)
@@ -38,8 +39,8 @@ module _ (g : Grammar) (t : Table) {items : List ℕ} {rules strings : ℕ} (S :
         go (E s δ, e) =
             let len : length δ ≡ length γ = sym (entry-row k e .length-is) ∙ h .same-length in
             let same : δ ≡ γ = ext-getD 0 δ γ len (λ j l.
-                  sym (entry-row k e .symbol-is j (omega (arith, l, S .fits .string-short k s δ e)))
-                  ∙ (sym (h .same-symbols j (omega (arith, l, len))) ∙ part-symbol j (omega (arith, l, len)))) in
+            sym (entry-row k e .symbol-is j (omega (arith, l, S .fits .string-short k s δ e)))
+            ∙ (sym (h .same-symbols j (omega (arith, l, len))) ∙ part-symbol j (omega (arith, l, len)))) in
             (s, e ∙ ap (λ (m : List ℕ). some (E s m)) same)
 
     module _ {n x : ℕ} (is-n : n ≡ length γ) (F : FindsEntry items rules strings i (baseOf r δs) n x) where

@@ -69,7 +69,14 @@ fn group_end(items: &[u8], count: usize, i: usize, from: usize, length: usize) -
 }
 
 // Notes the entries that the groups of rule i use, and flags those entries; whether each group has one.
-fn fill_rule(items: &[u8], rules: usize, strings: usize, i: usize, uses: &mut [u8], wanted: &mut [u8]) -> bool
+fn fill_rule(
+    items: &[u8],
+    rules: usize,
+    strings: usize,
+    i: usize,
+    uses: &mut [u8],
+    wanted: &mut [u8],
+) -> bool
     requires { ⌜ Shaped (now items) (rules + strings) ⌝ }
     requires { ⌜ (i ≤ rules) × (rules ≤ 127) × (strings ≤ 127) ⌝ }
     requires { ⌜ (length (now uses) ≡ 2048) × (length (now wanted) ≡ 128) ⌝ }
@@ -96,7 +103,13 @@ fn fill_rule(items: &[u8], rules: usize, strings: usize, i: usize, uses: &mut [u
 }
 
 // Does so for every rule.
-fn fill_rules(items: &[u8], rules: usize, strings: usize, uses: &mut [u8], wanted: &mut [u8]) -> bool
+fn fill_rules(
+    items: &[u8],
+    rules: usize,
+    strings: usize,
+    uses: &mut [u8],
+    wanted: &mut [u8],
+) -> bool
     requires { ⌜ Shaped (now items) (rules + strings) ⌝ }
     requires { ⌜ (rules ≤ 127) × (strings ≤ 127) ⌝ }
     requires { ⌜ (length (now uses) ≡ 2048) × (length (now wanted) ≡ 128) ⌝ }
@@ -130,7 +143,13 @@ fn is_goal(items: &[u8], count: usize, i: usize, goal: usize) -> bool
 }
 
 // Whether the entries are those of the construction; if so, notes at rule * 16 + group the number of each group's entry.
-pub fn entries_meet(items: &[u8], rules: usize, strings: usize, goal: usize, uses: &mut [u8]) -> bool
+pub fn entries_meet(
+    items: &[u8],
+    rules: usize,
+    strings: usize,
+    goal: usize,
+    uses: &mut [u8],
+) -> bool
     requires { ⌜ Shaped (now items) (rules + strings) ⌝ }
     requires { ⌜ (rules ≤ 127) × (1 ≤ strings) × (strings ≤ 127) ⌝ }
     requires { ⌜ now uses ≡ replicate 2048 0 ⌝ }

@@ -10,7 +10,7 @@ use Rattle.language.specs.Sentence.{In, here, there}
 use Rattle.leftcorner.specs.Table.{KernelLine, K, Table}
 use Rattle.leftcorner.specs.Construction.{KernelAt}
 use Rattle.leftcorner.specs.ReadOff.{clash}
-use Rattle.items.proofs.LayoutLaws.{at-below}
+use Rattle.language.specs.GrammarLaws.{at-below}
 use Rattle.memory.specs.Memory.{HoldsKernels}
 use Rattle.kernel_lines.specs.Lines.{IsLine, LineAt}
 
@@ -25,9 +25,10 @@ at-in (y ∷ l) (suc n) e = there (at-in l n e)
 
 module _ (g : Grammar) (t : Table) {kernels lookaheads : List ℕ} {lines : ℕ} (h : HoldsKernels kernels lookaheads t) (count : length (t .kernels) ≡ lines) where
   pub line-of : {q i k : ℕ} {σ : List ℕ} → KernelAt g t q i k σ → LineAt kernels lines q i k
-  line-of {q} {i} {k} m = let r = in-at m in record
-      { line = r .0
-      ; is-it = record { low = omega (arith, r .1); state = h .line-state (r .0) q i k (r .2); item = h .line-item (r .0) q i k (r .2); dot = h .line-dot (r .0) q i k (r .2) } }
+  line-of {q} {i} {k} m = let r = in-at m in record {
+    line = r .0;
+    is-it = record { low = omega (arith, r .1); state = h .line-state (r .0) q i k (r .2); item = h .line-item (r .0) q i k (r .2); dot = h .line-dot (r .0) q i k (r .2) };
+  }
 
   -- the table's line of that number
   pub line-holds : {q i k l : ℕ} → IsLine kernels lines q i k l → (σ : List ℕ) × (at (t .kernels) l ≡ some (K q i k σ))

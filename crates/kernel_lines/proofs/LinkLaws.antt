@@ -89,10 +89,11 @@ module _ {kernels links : List ℕ} {l : ℕ} (h : Linking kernels links l) (low
 
   linking-more : Linking kernels next (suc l)
   unfolding lastBefore next
-  linking-more = record
-      { room = simp length-set (h .room)
-      ; previous = λ m b. back m b (ℕ-discrete m l)
-      ; last = λ p b. on p b (ℕ-discrete p q) }
+  linking-more = record {
+    room = simp length-set (h .room);
+    previous = λ m b. back m b (ℕ-discrete m l);
+    last = λ p b. on p b (ℕ-discrete p q);
+  }
     where
       back : (m : ℕ) → m < suc l → Dec (m ≡ l) → getD next m 0 ≡ lastBefore kernels (stateAt kernels m) m
       back m b d = getD-set-other (set links l (getD links (1024 + q) 0)) (1024 + q) m (l + 1) 0 (λ e. omega (arith, e)) ∙ go d
@@ -101,14 +102,15 @@ module _ {kernels links : List ℕ} {l : ℕ} (h : Linking kernels links l) (low
           go (yes e) = subst (λ (x : ℕ). getD (set links l (getD links (1024 + q) 0)) x 0 ≡ lastBefore kernels (stateAt kernels x) x) (sym e)
               (getD-set-same links l (getD links (1024 + q) 0) 0 (omega (arith, h .room)) ∙ (h .last q lq ∙ ap (λ (x : ℕ). lastBefore kernels x l) is-q))
           go (no n) = getD-set-other links l m (getD links (1024 + q) 0) 0 n ∙ h .previous m (omega arith)
+
       on : (p : ℕ) → p < 256 → Dec (p ≡ q) → getD next (1024 + p) 0 ≡ cond (eqb (stateAt kernels l) p) (suc l) (lastBefore kernels p l)
       on p b (yes e) = subst (λ (x : ℕ). getD next (1024 + x) 0 ≡ cond (eqb (stateAt kernels l) x) (suc l) (lastBefore kernels x l)) (sym e)
           (getD-set-same (set links l (getD links (1024 + q) 0)) (1024 + q) (l + 1) 0 (simp length-set (omega (arith, h .room)))
-            ∙ (let z : l + 1 ≡ suc l = omega arith in z) ∙ sym (ap (λ (x : Bool). cond x (suc l) (lastBefore kernels q l)) (eq-eqb _ _ (sym is-q))))
+          ∙ (let z : l + 1 ≡ suc l = omega arith in z) ∙ sym (ap (λ (x : Bool). cond x (suc l) (lastBefore kernels q l)) (eq-eqb _ _ (sym is-q))))
       on p b (no n) =
           getD-set-other (set links l (getD links (1024 + q) 0)) (1024 + q) (1024 + p) (l + 1) 0 (λ e. n (omega (arith, e)))
-            ∙ (getD-set-other links l (1024 + p) (getD links (1024 + q) 0) 0 (λ e. omega (arith, e))
-            ∙ (h .last p b ∙ sym (ap (λ (x : Bool). cond x (suc l) (lastBefore kernels p l)) (ne-eqb _ _ (λ e. n (sym (is-q ∙ e)))))))
+          ∙ (getD-set-other links l (1024 + p) (getD links (1024 + q) 0) 0 (λ e. omega (arith, e))
+          ∙ (h .last p b ∙ sym (ap (λ (x : Bool). cond x (suc l) (lastBefore kernels p l)) (ne-eqb _ _ (λ e. n (sym (is-q ∙ e)))))))
 
   -- the link of a line, then the last line of its state
   pub linked-line : {links′ : List ℕ} {n : ℕ} → links′ ≡ set (set links l (getD links (1024 + q) 0)) (1024 + q) (l + 1) → n ≡ l + 1 → Linking kernels links′ n

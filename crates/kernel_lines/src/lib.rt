@@ -103,7 +103,15 @@ pub fn is_of(kernels: &[u8], lines: usize, items: usize, l: usize, i: usize, k: 
 }
 
 // The line for item i, dot k in state q.
-pub fn find_line(kernels: &[u8], links: &[usize], lines: usize, items: usize, q: usize, i: usize, k: usize) -> Found
+pub fn find_line(
+    kernels: &[u8],
+    links: &[usize],
+    lines: usize,
+    items: usize,
+    q: usize,
+    i: usize,
+    k: usize,
+) -> Found
     requires { ⌜ Lines (now kernels) lines items ⌝ }
     requires { ⌜ Linked (now kernels) (now links) lines ⌝ }
     requires { ⌜ q < 256 ⌝ }
@@ -121,7 +129,15 @@ pub fn find_line(kernels: &[u8], links: &[usize], lines: usize, items: usize, q:
 }
 
 // Whether there is such a line.
-pub fn has_line(kernels: &[u8], links: &[usize], lines: usize, items: usize, q: usize, i: usize, k: usize) -> bool
+pub fn has_line(
+    kernels: &[u8],
+    links: &[usize],
+    lines: usize,
+    items: usize,
+    q: usize,
+    i: usize,
+    k: usize,
+) -> bool
     requires { ⌜ Lines (now kernels) lines items ⌝ }
     requires { ⌜ Linked (now kernels) (now links) lines ⌝ }
     requires { ⌜ q < 256 ⌝ }

@@ -7,6 +7,7 @@ use mathlib.Core.Option.{some}
 use native.Mathlib.Omega.{arith}
 use lib.ListN.{replicate}
 use Rattle.language.specs.Grammar.{Grammar, Rule, ruleAt}
+use Rattle.language.specs.GrammarLaws.{rule-range, range-rule}
 use Rattle.leftcorner.specs.Table.{Table}
 use Rattle.leftcorner.specs.Construction.{Has, in-kernel, MovedBy}
 use Rattle.leftcorner.specs.Construction as construction
@@ -14,7 +15,6 @@ use Rattle.items.specs.Layout.{leftAt}
 use Rattle.fixpoint.proofs.PassLaws.{all-off}
 use Rattle.fixpoint.specs.Flags.{On}
 use Rattle.memory.specs.Memory.{stateAt, itemAt, dotAt}
-use Rattle.memory.proofs.RangeLaws.{rule-at, rule-range}
 use Rattle.memory.specs.Held.{Held}
 use Rattle.closure.specs.Expansion.{Expanded, HasBy, of-kernel, of-rule, has-by, by-has}
 use Rattle.kernel_lines.specs.Lines.{LineAt}
@@ -40,8 +40,10 @@ module _ (g : Grammar) (t : Table) {items entries kernels lookaheads kinds value
         let f = H .formed .formed i e .left-declared in
         let n = H .formed .few-nonterminals in
         let z : r .left ≡ 64 + (leftAt items i - 64) = omega (arith, w, f .0) in
-        record { nonterminal = omega (arith, w, f .0)
-               ; flagged = P .every (leftAt items i - 64) (omega (arith, w, f .1, n)) (subst (Expanded g t q) z x) }
+        record {
+          nonterminal = omega (arith, w, f .0);
+          flagged = P .every (leftAt items i - 64) (omega (arith, w, f .1, n)) (subst (Expanded g t q) z x);
+        }
 
     expanded-at : {i : ℕ} {r : Rule} → ruleAt g i ≡ some r → Present items present i → Expanded g t q (r .left)
     expanded-at {i} {r} e p =
@@ -56,11 +58,11 @@ module _ (g : Grammar) (t : Table) {items entries kernels lookaheads kinds value
       where
         go : {i k : ℕ} → HasBy g t q i k → HasAt items kernels present rules lines q i k
         go (of-kernel m) = by-line (line-of g t (H .holds-kernels) (H .line-count) m)
-        go (of-rule e x) = let r = rule-range g (H .rule-count) _ e in by-rule (r .0) (omega (arith, r .1)) (present-at e x)
+        go (of-rule e x) = let r = rule-range g _ e in by-rule (r .0) (omega (arith, r .1, H .rule-count)) (present-at e x)
 
     pub has-of : {i k : ℕ} → HasAt items kernels present rules lines q i k → Has g t q i k
     has-of (by-line l) = in-kernel (kernel-of g t (H .holds-kernels) (H .line-count) l .1)
-    has-of {i} (by-rule a b p) = let r = rule-at g (H .rule-count) i a (omega arith) in by-has g t (of-rule (r .1) (expanded-at (r .1) p))
+    has-of {i} (by-rule a b p) = let r = range-rule g i a (omega (arith, H .rule-count)) in by-has g t (of-rule (r .1) (expanded-at (r .1) p))
 
     pub moved-at : {X i n : ℕ} → MovedBy g t q X i n → MovedAt items kernels present rules lines q X i n
     moved-at (construction.moved h go) = moved (symbol-of-goes g t H (row-of g t H (item-declared h)) go .0) (has-at h)
@@ -82,10 +84,12 @@ module _ (g : Grammar) (t : Table) {items entries kernels lookaheads kinds value
         only-it : (X : ℕ) → 1 ≤ X → On fs₀ X ⊎ MovesOn items kernels present rules lines q X → (i : ℕ) × (n : ℕ) × MovedBy g t q X i n
         only-it X l (inl o) = all-off 128 none o
         only-it X l (inr m) = (m .item, m .dot, moved-of (λ e. omega (arith, e)) (m .it-moves))
+
         from-line : {X i k : ℕ} → symbolAfter items i k ≡ X → LineAt kernels lines q i k → On fs′ X
         from-line {X} {i} {k} e l =
             b .kept X (subst (On fs) (ap (λ (j : ℕ). symbolAfter items j (dotAt kernels (l .line))) (l .is-it .item) ∙ (ap (symbolAfter items i) (l .is-it .dot) ∙ e))
-              (lines-on (l .line) (l .is-it .low) (l .is-it .state)))
+            (lines-on (l .line) (l .is-it .low) (l .is-it .state)))
+
         every-it : {X i n : ℕ} → MovedAt items kernels present rules lines q X i n → On fs′ X
         every-it (moved e (by-line l)) = from-line e l
         every-it {i = i} (moved e (by-rule l h p)) = subst (On fs′) e (rules-on i l (omega arith) p)

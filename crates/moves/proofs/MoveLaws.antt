@@ -88,10 +88,11 @@ module _ {items kernels present : List ℕ} {rules lines q : ℕ} where
 
   pub flagged-more : {fs₀ fs fs′ : List ℕ} {x : ℕ} → Flagged items kernels present rules lines q fs₀ fs → fs′ ≡ set fs x 1 → x < 128
       → MovesOn items kernels present rules lines q x → Flagged items kernels present rules lines q fs₀ fs′
-  flagged-more {fs₀} {fs} {fs′} {x} h e l m = subst (Flagged items kernels present rules lines q fs₀) (sym e) (record
-      { long = length-set fs x 1 ∙ h .long
-      ; kept = λ X o. keep-set fs x (omega (arith, h .long)) X (h .kept X o)
-      ; only = only-set (λ (X : ℕ). On fs₀ X ⊎ MovesOn items kernels present rules lines q X) fs x (h .only) (inr m) })
+  flagged-more {fs₀} {fs} {fs′} {x} h e l m = subst (Flagged items kernels present rules lines q fs₀) (sym e) (record {
+    long = length-set fs x 1 ∙ h .long;
+    kept = λ X o. keep-set fs x (omega (arith, h .long)) X (h .kept X o);
+    only = only-set (λ (X : ℕ). On fs₀ X ⊎ MovesOn items kernels present rules lines q X) fs x (h .only) (inr m);
+  })
 
   pub flagged-join : {fs₀ fs fs′ : List ℕ} → Flagged items kernels present rules lines q fs₀ fs → Flagged items kernels present rules lines q fs fs′
       → Flagged items kernels present rules lines q fs₀ fs′
@@ -100,9 +101,11 @@ module _ {items kernels present : List ℕ} {rules lines q : ℕ} where
 
   pub line-moves : {l i k x : ℕ} → l < lines → stateAt kernels l ≡ q → i ≡ itemAt kernels l → k ≡ dotAt kernels l → x ≡ symbolAfter items i k
       → MovesOn items kernels present rules lines q x
-  line-moves {l} {i} {k} {x} lo e ei ek ex = record
-      { item = i; dot = suc k
-      ; it-moves = moved (sym ex) (by-line (record { line = l; is-it = record { low = lo; state = e; item = sym ei; dot = sym ek } })) }
+  line-moves {l} {i} {k} {x} lo e ei ek ex = record {
+    item = i;
+    dot = suc k;
+    it-moves = moved (sym ex) (by-line (record { line = l; is-it = record { low = lo; state = e; item = sym ei; dot = sym ek } }));
+  }
 
   pub rule-moves : {i x : ℕ} → 1 ≤ i → i ≤ rules → Present items present i → x ≡ symbolAfter items i 0 → MovesOn items kernels present rules lines q x
   rule-moves {i} a b p ex = record { item = i; dot = 1; it-moves = moved (sym ex) (by-rule a b p) }

@@ -47,9 +47,14 @@ module _ (g : Grammar) (t : Table) {items entries kernels lookaheads kinds value
       let low : X < 64 = omega (arith, k .1, H .formed .few-terminals) in
       let lq : q < 256 = omega (arith, H .fits .form .action-state q X (S u) m .1, H .fits .few-states) in
       let is = action-is g t (H .fits .form) q X (S u) m in
-      record { is-next = sym (next-shift kinds values gotos q X low (H .holds-actions .kind-is q X lq low ∙ ap kindOf is))
-                 ∙ (H .holds-actions .value-is q X lq low ∙ (ap valueOf is ∙ z))
-             ; some-state = λ y. omega (arith, y, r .0); low-state = r .1; some-symbol = k .0; low-symbol = omega arith }
+      record {
+        is-next = sym (next-shift kinds values gotos q X low (H .holds-actions .kind-is q X lq low ∙ ap kindOf is))
+            ∙ (H .holds-actions .value-is q X lq low ∙ (ap valueOf is ∙ z));
+        some-state = λ y. omega (arith, y, r .0);
+        low-state = r .1;
+        some-symbol = k .0;
+        low-symbol = omega arith;
+      }
   next-line {q} {X} {s} (N u) m e =
       let k = H .fits .form .goto-kind q X u m in
       let z : u ≡ s = cc in
@@ -58,10 +63,14 @@ module _ (g : Grammar) (t : Table) {items entries kernels lookaheads kinds value
       let lb : X - 64 < 64 = omega (arith, k .1, H .formed .few-nonterminals) in
       let back : 64 + (X - 64) ≡ X = omega (arith, k .0) in
       let is = action-is g t (H .fits .form) q X (N u) m in
-      record { is-next = sym (next-goto kinds values gotos q X (k .0))
-                 ∙ (H .holds-actions .goto-is q (X - 64) lq lb ∙ (ap (λ (Y : ℕ). gotoState (actionFor (t .actions) q Y)) back ∙ (ap gotoState is ∙ z)))
-             ; some-state = λ y. omega (arith, y, r .0); low-state = r .1; some-symbol = omega (arith, k .0)
-             ; low-symbol = omega (arith, k .1, H .formed .few-nonterminals) }
+      record {
+        is-next = sym (next-goto kinds values gotos q X (k .0))
+            ∙ (H .holds-actions .goto-is q (X - 64) lq lb ∙ (ap (λ (Y : ℕ). gotoState (actionFor (t .actions) q Y)) back ∙ (ap gotoState is ∙ z)));
+        some-state = λ y. omega (arith, y, r .0);
+        low-state = r .1;
+        some-symbol = omega (arith, k .0);
+        low-symbol = omega (arith, k .1, H .formed .few-nonterminals);
+      }
   next-line (A u) m e = clash cc
   next-line (P u) m e = clash cc
 
@@ -72,13 +81,15 @@ module _ (g : Grammar) (t : Table) {items entries kernels lookaheads kinds value
       here : (s : ℕ) → s ≡ nextAt kinds values gotos q X → (x : Action) × ActionAt g t q X x × (nextState x ≡ some s)
           → (x : Action) × ActionAt g t q X x × (nextState x ≡ some (nextAt kinds values gotos q X))
       here s e h = (h .0, h .1, h .2 ∙ ap (λ (n : ℕ). some n) e)
+
       shifts : X < 64 → Dec (getD kinds (q * 64 + X) 0 ≡ 1) → (x : Action) × ActionAt g t q X x × (nextState x ≡ some (nextAt kinds values gotos q X))
       shifts l (no n) = absurd (f (sym (next-none kinds values gotos q X l n)))
       shifts l (yes e) =
           let o = actionFor (t .actions) q X in
           let is = shift-kind o (sym (H .holds-actions .kind-is q X lq l) ∙ e) in
           here (valueOf o) (sym (H .holds-actions .value-is q X lq l) ∙ next-shift kinds values gotos q X l e)
-            (S (valueOf o), action-back (t .actions) q X (S (valueOf o)) is, refl)
+          (S (valueOf o), action-back (t .actions) q X (S (valueOf o)) is, refl)
+
       go : Dec (X < 64) → (x : Action) × ActionAt g t q X x × (nextState x ≡ some (nextAt kinds values gotos q X))
       go (yes l) = shifts l (ℕ-discrete (getD kinds (q * 64 + X) 0) 1)
       go (no n) =
@@ -86,6 +97,6 @@ module _ (g : Grammar) (t : Table) {items entries kernels lookaheads kinds value
           let back : 64 + (X - 64) ≡ X = omega arith in
           let o = actionFor (t .actions) q X in
           let e : gotoState o ≡ nextAt kinds values gotos q X =
-                ap (λ (Y : ℕ). gotoState (actionFor (t .actions) q Y)) (sym back) ∙ (sym (H .holds-actions .goto-is q (X - 64) lq (omega arith)) ∙ next-goto kinds values gotos q X l) in
+          ap (λ (Y : ℕ). gotoState (actionFor (t .actions) q Y)) (sym back) ∙ (sym (H .holds-actions .goto-is q (X - 64) lq (omega arith)) ∙ next-goto kinds values gotos q X l) in
           let r = goto-some o (λ z. f (sym e ∙ z)) in
           here (gotoState o) e (r .0, action-back (t .actions) q X (r .0) (r .1), r .2)

@@ -53,32 +53,35 @@ module _ (g : Grammar) (t : Table) {items entries kernels lookaheads kinds value
   rule-row i r e =
       let w = H .holds-items .rule-row i e in
       let f = H .formed .formed i e in
-      record
-      { string = right r
-      ; string-is = symbols-rule g t i r e
-      ; short = f .short
-      ; length-is = w .length-is
-      ; symbol-is = w .symbol-is
-      ; declared = λ X m. kind-low (f .declared X m)
-      ; mark-is = λ k l h. let z : some (length (r .before)) ≡ some k = sym (point-rule g t i r e) ∙ h in
-          let y : length (r .before) ≡ k = cc in w .mark-is ∙ y
-      ; is-mark = λ k l h. point-rule g t i r e ∙ ap (λ (n : ℕ). some n) (sym (w .mark-is) ∙ h) }
+      record {
+        string = right r;
+        string-is = symbols-rule g t i r e;
+        short = f .short;
+        length-is = w .length-is;
+        symbol-is = w .symbol-is;
+        declared = λ X m. kind-low (f .declared X m);
+        mark-is = λ k l h. let z : some (length (r .before)) ≡ some k = sym (point-rule g t i r e) ∙ h in
+            let y : length (r .before) ≡ k = cc in w .mark-is ∙ y;
+        is-mark = λ k l h. point-rule g t i r e ∙ ap (λ (n : ℕ). some n) (sym (w .mark-is) ∙ h);
+      }
 
   entry-row : (i j s : ℕ) (γ : List ℕ) → i ≡ entryItem g t j → EntryAt g t j s γ → Row i
   entry-row i j s γ ei e = subst Row (sym ei) (go (H .holds-items .entry-row j s e))
     where
       string-it : stringAt t j ≡ γ
       string-it = ap stringOf e
+
       go : EntryIn items (entryItem g t j) γ → Row (entryItem g t j)
-      go w = record
-          { string = γ
-          ; string-is = symbols-entry g t j s γ e ∙ string-it
-          ; short = H .fits .string-short j s γ e
-          ; length-is = w .length-is
-          ; symbol-is = w .symbol-is
-          ; declared = λ X m. kind-low (H .fits .string-declared j s γ e X m)
-          ; mark-is = λ k l h. clash (let z : none ≡ some k = sym (point-entry g t j s γ e) ∙ h in cc)
-          ; is-mark = λ k l h. absurd (omega (arith, w .mark-is, h, l)) }
+      go w = record {
+        string = γ;
+        string-is = symbols-entry g t j s γ e ∙ string-it;
+        short = H .fits .string-short j s γ e;
+        length-is = w .length-is;
+        symbol-is = w .symbol-is;
+        declared = λ X m. kind-low (H .fits .string-declared j s γ e X m);
+        mark-is = λ k l h. clash (let z : none ≡ some k = sym (point-entry g t j s γ e) ∙ h in cc);
+        is-mark = λ k l h. absurd (omega (arith, w .mark-is, h, l));
+      }
 
   pub row-of : {i : ℕ} → DeclaredItem i → Row i
   row-of {i} (inl (r, e)) = rule-row i r e
@@ -91,9 +94,10 @@ module _ (g : Grammar) (t : Table) {items entries kernels lookaheads kinds value
       go : (k < length (R .string)) × (getD (R .string) k 0 ≡ X) → (symbolAfter items i k ≡ X) × ((1 ≤ X) × (X < 128))
       go (l, e) =
           let low : k < 15 = omega (arith, R .short) in
-          let within : k < lengthAt items i = omega (arith, R .length-is) in
-          (sym (after-symbol items i k within refl (λ z. h .unmarked (R .is-mark k low z))) ∙ (R .symbol-is k low ∙ e),
-            R .declared X (in-string k (R .string) X β (ap (drop k) (sym (R .string-is)) ∙ h .before)))
+          let within : k < lengthAt items i = omega (arith, R .length-is) in (
+            sym (after-symbol items i k within refl (λ z. h .unmarked (R .is-mark k low z))) ∙ (R .symbol-is k low ∙ e),
+            R .declared X (in-string k (R .string) X β (ap (drop k) (sym (R .string-is)) ∙ h .before)),
+          )
 
   pub goes-of-symbol : {i : ℕ} (k : ℕ) {X : ℕ} → Row i → symbolAfter items i k ≡ X → (X ≡ 0 → ⊥) → (β : List ℕ) × Goes g t i k X β
   goes-of-symbol {i} k {X} R e n = go (decLt k (lengthAt items i)) (ℕ-discrete (markAt items i) k)
@@ -104,7 +108,10 @@ module _ (g : Grammar) (t : Table) {items entries kernels lookaheads kinds value
       go (yes l) (no m) =
           let within : k < length (R .string) = omega (arith, R .length-is) in
           let low : k < 15 = omega (arith, R .short) in
-          let x : getD (R .string) k 0 ≡ X = sym (R .symbol-is k low) ∙ (after-symbol items i k l refl m ∙ e) in
-          (drop (suc k) (R .string), record
-            { before = ap (drop k) (R .string-is) ∙ (drop-cons (R .string) k 0 within ∙ ap (λ (Y : ℕ). Y ∷ drop (suc k) (R .string)) x)
-            ; unmarked = λ h. m (R .mark-is k low h) })
+          let x : getD (R .string) k 0 ≡ X = sym (R .symbol-is k low) ∙ (after-symbol items i k l refl m ∙ e) in (
+            drop (suc k) (R .string),
+            record {
+              before = ap (drop k) (R .string-is) ∙ (drop-cons (R .string) k 0 within ∙ ap (λ (Y : ℕ). Y ∷ drop (suc k) (R .string)) x);
+              unmarked = λ h. m (R .mark-is k low h);
+            },
+          )

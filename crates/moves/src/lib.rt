@@ -66,7 +66,18 @@ pub fn is_present(items: &[u8], present: &[u8], count: usize, i: usize) -> bool
 }
 
 // Whether q's closure has item i at dot k.
-fn has(items: &[u8], kernels: &[u8], links: &[usize], present: &[u8], count: usize, rules: usize, lines: usize, q: usize, i: usize, k: usize) -> bool
+fn has(
+    items: &[u8],
+    kernels: &[u8],
+    links: &[usize],
+    present: &[u8],
+    count: usize,
+    rules: usize,
+    lines: usize,
+    q: usize,
+    i: usize,
+    k: usize,
+) -> bool
     requires { ⌜ Readable (now items) (now kernels) (now links) (now present) count rules lines ⌝ }
     requires { ⌜ q < 256 ⌝ }
     ensures { λ b. ⌜ Decides (HasAt (now (items .entry)) (now (kernels .entry)) (now (present .entry)) rules lines q i k) b ⌝ }
@@ -90,7 +101,19 @@ fn has(items: &[u8], kernels: &[u8], links: &[usize], present: &[u8], count: usi
 }
 
 // Whether item i comes to dot n by a move from q on x.
-fn came(items: &[u8], kernels: &[u8], links: &[usize], present: &[u8], count: usize, rules: usize, lines: usize, q: usize, x: usize, i: usize, n: usize) -> bool
+fn came(
+    items: &[u8],
+    kernels: &[u8],
+    links: &[usize],
+    present: &[u8],
+    count: usize,
+    rules: usize,
+    lines: usize,
+    q: usize,
+    x: usize,
+    i: usize,
+    n: usize,
+) -> bool
     requires { ⌜ Readable (now items) (now kernels) (now links) (now present) count rules lines ⌝ }
     requires { ⌜ (q < 256) × (i ≤ count) ⌝ }
     ensures { λ b. ⌜ Decides (MovedAt (now (items .entry)) (now (kernels .entry)) (now (present .entry)) rules lines q x i n) b ⌝ }
@@ -101,28 +124,73 @@ fn came(items: &[u8], kernels: &[u8], links: &[usize], present: &[u8], count: us
     if symbol_after(items, count, i, n - 1) != x {
         return false;
     }
-    if !has(items, kernels, links, present, count, rules, lines, q, i, n - 1) {
+    if !has(
+        items,
+        kernels,
+        links,
+        present,
+        count,
+        rules,
+        lines,
+        q,
+        i,
+        n - 1,
+    ) {
         return false;
     }
     true
 }
 
 // Whether line l came by a move from q on x.
-fn line_came(items: &[u8], kernels: &[u8], links: &[usize], present: &[u8], count: usize, rules: usize, lines: usize, q: usize, x: usize, l: usize) -> bool
+fn line_came(
+    items: &[u8],
+    kernels: &[u8],
+    links: &[usize],
+    present: &[u8],
+    count: usize,
+    rules: usize,
+    lines: usize,
+    q: usize,
+    x: usize,
+    l: usize,
+) -> bool
     requires { ⌜ Readable (now items) (now kernels) (now links) (now present) count rules lines ⌝ }
     requires { ⌜ (q < 256) × (l < lines) ⌝ }
     ensures { λ b. ⌜ Decides (MovedAt (now (items .entry)) (now (kernels .entry)) (now (present .entry)) rules lines q x (itemAt (now (kernels .entry)) l) (dotAt (now (kernels .entry)) l)) b ⌝ }
 {
     let i = kernel_lines::item_of(kernels, lines, count, l);
     let n = kernel_lines::dot_of(kernels, lines, count, l);
-    if !came(items, kernels, links, present, count, rules, lines, q, x, i, n) {
+    if !came(
+        items,
+        kernels,
+        links,
+        present,
+        count,
+        rules,
+        lines,
+        q,
+        x,
+        i,
+        n,
+    ) {
         return false;
     }
     true
 }
 
 // Whether every line of s came by a move from q on x.
-pub fn only_moved(items: &[u8], kernels: &[u8], links: &[usize], present: &[u8], count: usize, rules: usize, lines: usize, q: usize, x: usize, s: usize) -> bool
+pub fn only_moved(
+    items: &[u8],
+    kernels: &[u8],
+    links: &[usize],
+    present: &[u8],
+    count: usize,
+    rules: usize,
+    lines: usize,
+    q: usize,
+    x: usize,
+    s: usize,
+) -> bool
     requires { ⌜ Readable (now items) (now kernels) (now links) (now present) count rules lines ⌝ }
     requires { ⌜ (q < 256) × (s < 256) ⌝ }
     ensures { λ b. ⌜ Decides (OnlyMoved (now (items .entry)) (now (kernels .entry)) (now (present .entry)) rules lines q x s) b ⌝ }
@@ -139,7 +207,17 @@ pub fn only_moved(items: &[u8], kernels: &[u8], links: &[usize], present: &[u8],
 }
 
 // Flags the symbols that stand after the dots of q's kernel items, and 0.
-fn flag_lines(items: &[u8], kernels: &[u8], links: &[usize], present: &[u8], count: usize, rules: usize, lines: usize, q: usize, moves: &mut [u8])
+fn flag_lines(
+    items: &[u8],
+    kernels: &[u8],
+    links: &[usize],
+    present: &[u8],
+    count: usize,
+    rules: usize,
+    lines: usize,
+    q: usize,
+    moves: &mut [u8],
+)
     requires { ⌜ Readable (now items) (now kernels) (now links) (now present) count rules lines ⌝ }
     requires { ⌜ (q < 256) × (length (now moves) ≡ 128) ⌝ }
     ensures { λ _. ⌜ Flagged (now (items .entry)) (now (kernels .entry)) (now (present .entry)) rules lines q (now (moves .entry)) (now (moves .exit)) ⌝ }
@@ -157,7 +235,17 @@ fn flag_lines(items: &[u8], kernels: &[u8], links: &[usize], present: &[u8], cou
 }
 
 // Flags the symbols that the rules which q's closure adds begin with, and 0.
-fn flag_rules(items: &[u8], kernels: &[u8], links: &[usize], present: &[u8], count: usize, rules: usize, lines: usize, q: usize, moves: &mut [u8])
+fn flag_rules(
+    items: &[u8],
+    kernels: &[u8],
+    links: &[usize],
+    present: &[u8],
+    count: usize,
+    rules: usize,
+    lines: usize,
+    q: usize,
+    moves: &mut [u8],
+)
     requires { ⌜ Readable (now items) (now kernels) (now links) (now present) count rules lines ⌝ }
     requires { ⌜ (q < 256) × (length (now moves) ≡ 128) ⌝ }
     ensures { λ _. ⌜ Flagged (now (items .entry)) (now (kernels .entry)) (now (present .entry)) rules lines q (now (moves .entry)) (now (moves .exit)) ⌝ }
@@ -176,12 +264,42 @@ fn flag_rules(items: &[u8], kernels: &[u8], links: &[usize], present: &[u8], cou
 }
 
 // Flags the symbols on which something moves from q. The flag for 0, which is no symbol, says nothing.
-pub fn flag_moves(items: &[u8], kernels: &[u8], links: &[usize], present: &[u8], count: usize, rules: usize, lines: usize, q: usize, moves: &mut [u8])
+pub fn flag_moves(
+    items: &[u8],
+    kernels: &[u8],
+    links: &[usize],
+    present: &[u8],
+    count: usize,
+    rules: usize,
+    lines: usize,
+    q: usize,
+    moves: &mut [u8],
+)
     requires { ⌜ Readable (now items) (now kernels) (now links) (now present) count rules lines ⌝ }
     requires { ⌜ (q < 256) × (now moves ≡ replicate 128 0) ⌝ }
     ensures { λ _. ⌜ length (now (moves .exit)) ≡ 128 ⌝ }
     ensures { λ _. ⌜ ((g : Grammar) (t : Table) (entries lookaheads kinds values gotos : List ℕ) (strings : ℕ) → Held g t (now (items .entry)) entries (now (kernels .entry)) lookaheads kinds values gotos rules strings lines → HoldsPresent g t q (now (present .entry)) → HoldsMoves g t q (now (moves .exit))) ⌝ }
 {
-    flag_lines(items, kernels, links, present, count, rules, lines, q, moves);
-    flag_rules(items, kernels, links, present, count, rules, lines, q, moves);
+    flag_lines(
+        items,
+        kernels,
+        links,
+        present,
+        count,
+        rules,
+        lines,
+        q,
+        moves,
+    );
+    flag_rules(
+        items,
+        kernels,
+        links,
+        present,
+        count,
+        rules,
+        lines,
+        q,
+        moves,
+    );
 }

@@ -24,7 +24,6 @@ one-more k = omega arith
 module _ (g : Grammar) (t : Table) {items entries kernels lookaheads kinds values gotos : List ℕ} {rules strings lines : ℕ}
     (H : Held g t items entries kernels lookaheads kinds values gotos rules strings lines)
     {q : ℕ} {present symbols : List ℕ} (P : HoldsPresent g t q present) (M : HoldsMoves g t q symbols) (low : q < 256) where
-
   -- of every item that q has
   abbrev pub LinesArrive : Type 0
   LinesArrive = (l : ℕ) → l < lines → stateAt kernels l ≡ q → Arrives items kernels kinds values gotos lines q (itemAt kernels l) (dotAt kernels l)
@@ -47,12 +46,13 @@ module _ (g : Grammar) (t : Table) {items entries kernels lookaheads kinds value
           let to : nextAt kinds values gotos q (symbolAfter items i k) ≡ s = ap (nextAt kinds values gotos q) e ∙ N .is-next in
           let l = all-arrive a b h .line (λ z. omega (arith, N .some-symbol, sym e ∙ z)) (λ z. N .some-state (sym to ∙ z)) in
           kernel-of g t (H .holds-kernels) (H .line-count)
-            (subst (λ (m : ℕ). LineAt kernels lines s i m) (one-more k) (subst (λ (u : ℕ). LineAt kernels lines u i (k + 1)) to l))
+          (subst (λ (m : ℕ). LineAt kernels lines s i m) (one-more k) (subst (λ (u : ℕ). LineAt kernels lines u i (k + 1)) to l))
+
       only-it : {X s i n j w : ℕ} {σ : List ℕ} → Next g t H q X s → MovedBy g t q X i n → KernelAt g t s j w σ → MovedBy g t q X j w
       only-it {X} {s} {i} {n} N mv km =
           let l = line-of g t (H .holds-kernels) (H .line-count) km in
           let r = c X (N .some-symbol) (N .low-symbol) .only (M .every X i n mv) (λ z. N .some-state (sym (N .is-next) ∙ z)) (l .line) (l .is-it .low)
-                (l .is-it .state ∙ sym (N .is-next)) in
+          (l .is-it .state ∙ sym (N .is-next)) in
           moved-of g t H P (λ z. omega (arith, N .some-symbol, z)) (moved-to items kernels present rules lines (l .is-it .item) (l .is-it .dot) r)
 
   meets-item : MovesMeet g t q → {i k : ℕ} → HasAt items kernels present rules lines q i k → Arrives items kernels kinds values gotos lines q i k
@@ -74,9 +74,11 @@ module _ (g : Grammar) (t : Table) {items entries kernels lookaheads kinds value
   meets-rules w i lo hi p = meets-item w (by-rule lo (omega arith) p)
 
   pub meets-only : MovesMeet g t q → TargetsOnly
-  meets-only w X lo hi = record { only = λ o n l b e.
-      let r = line-next g t H q X low hi n in
-      let v = M .only X lo o in
-      let k = kernel-of g t (H .holds-kernels) (H .line-count)
-            (record { line = l; is-it = record { low = b; state = e; item = refl; dot = refl } }) in
-      moved-at g t H P (w .move-only X (nextAt kinds values gotos q X) (v .0) (v .1) (r .0) (r .1) (r .2) (v .2) (itemAt kernels l) (dotAt kernels l) (k .0) (k .1)) }
+  meets-only w X lo hi = record {
+    only = λ o n l b e.
+        let r = line-next g t H q X low hi n in
+        let v = M .only X lo o in
+        let k = kernel-of g t (H .holds-kernels) (H .line-count)
+        (record { line = l; is-it = record { low = b; state = e; item = refl; dot = refl } }) in
+        moved-at g t H P (w .move-only X (nextAt kinds values gotos q X) (v .0) (v .1) (r .0) (r .1) (r .2) (v .2) (itemAt kernels l) (dotAt kernels l) (k .0) (k .1));
+  }

@@ -13,7 +13,19 @@ ghost use Rattle.moves.specs.Flags.{HoldsPresent, HoldsMoves};
 ghost use Rattle.targets.specs.Targets.{Arrives, TargetOnly, MovesMeet};
 
 // Whether item i, dot k of q has its line in the next state, where q has one for the symbol after the dot.
-fn arrives(items: &[u8], kernels: &[u8], links: &[usize], kinds: &[u8], values: &[u8], gotos: &[u8], count: usize, lines: usize, q: usize, i: usize, k: usize) -> bool
+fn arrives(
+    items: &[u8],
+    kernels: &[u8],
+    links: &[usize],
+    kinds: &[u8],
+    values: &[u8],
+    gotos: &[u8],
+    count: usize,
+    lines: usize,
+    q: usize,
+    i: usize,
+    k: usize,
+) -> bool
     requires { ⌜ Lined (now items) (now kernels) (now links) count lines ⌝ }
     requires { ⌜ Cells (now kinds) (now values) (now gotos) ⌝ }
     requires { ⌜ (q < 256) × (i ≤ count) × (k ≤ 15) ⌝ }
@@ -34,7 +46,18 @@ fn arrives(items: &[u8], kernels: &[u8], links: &[usize], kinds: &[u8], values: 
 }
 
 // Whether the item of line l arrives from q.
-fn line_arrives(items: &[u8], kernels: &[u8], links: &[usize], kinds: &[u8], values: &[u8], gotos: &[u8], count: usize, lines: usize, q: usize, l: usize) -> bool
+fn line_arrives(
+    items: &[u8],
+    kernels: &[u8],
+    links: &[usize],
+    kinds: &[u8],
+    values: &[u8],
+    gotos: &[u8],
+    count: usize,
+    lines: usize,
+    q: usize,
+    l: usize,
+) -> bool
     requires { ⌜ Lined (now items) (now kernels) (now links) count lines ⌝ }
     requires { ⌜ Cells (now kinds) (now values) (now gotos) ⌝ }
     requires { ⌜ (q < 256) × (l < lines) ⌝ }
@@ -42,14 +65,36 @@ fn line_arrives(items: &[u8], kernels: &[u8], links: &[usize], kinds: &[u8], val
 {
     let i = kernel_lines::item_of(kernels, lines, count, l);
     let k = kernel_lines::dot_of(kernels, lines, count, l);
-    if !arrives(items, kernels, links, kinds, values, gotos, count, lines, q, i, k) {
+    if !arrives(
+        items,
+        kernels,
+        links,
+        kinds,
+        values,
+        gotos,
+        count,
+        lines,
+        q,
+        i,
+        k,
+    ) {
         return false;
     }
     true
 }
 
 // Whether the kernel items of q arrive.
-fn lines_arrive(items: &[u8], kernels: &[u8], links: &[usize], kinds: &[u8], values: &[u8], gotos: &[u8], count: usize, lines: usize, q: usize) -> bool
+fn lines_arrive(
+    items: &[u8],
+    kernels: &[u8],
+    links: &[usize],
+    kinds: &[u8],
+    values: &[u8],
+    gotos: &[u8],
+    count: usize,
+    lines: usize,
+    q: usize,
+) -> bool
     requires { ⌜ Lined (now items) (now kernels) (now links) count lines ⌝ }
     requires { ⌜ Cells (now kinds) (now values) (now gotos) ⌝ }
     requires { ⌜ q < 256 ⌝ }
@@ -58,7 +103,18 @@ fn lines_arrive(items: &[u8], kernels: &[u8], links: &[usize], kinds: &[u8], val
     let mut p = kernel_lines::last_line(kernels, links, lines, q);
     while 0 < p {
         let l = p - 1;
-        if !line_arrives(items, kernels, links, kinds, values, gotos, count, lines, q, l) {
+        if !line_arrives(
+            items,
+            kernels,
+            links,
+            kinds,
+            values,
+            gotos,
+            count,
+            lines,
+            q,
+            l,
+        ) {
             return false;
         }
         p = kernel_lines::line_before(kernels, links, lines, l);
@@ -67,7 +123,19 @@ fn lines_arrive(items: &[u8], kernels: &[u8], links: &[usize], kinds: &[u8], val
 }
 
 // Whether rule i arrives from q, if q's closure adds it.
-fn rule_arrives(items: &[u8], kernels: &[u8], links: &[usize], present: &[u8], kinds: &[u8], values: &[u8], gotos: &[u8], count: usize, lines: usize, q: usize, i: usize) -> bool
+fn rule_arrives(
+    items: &[u8],
+    kernels: &[u8],
+    links: &[usize],
+    present: &[u8],
+    kinds: &[u8],
+    values: &[u8],
+    gotos: &[u8],
+    count: usize,
+    lines: usize,
+    q: usize,
+    i: usize,
+) -> bool
     requires { ⌜ Lined (now items) (now kernels) (now links) count lines ⌝ }
     requires { ⌜ length (now present) ≡ 64 ⌝ }
     requires { ⌜ Cells (now kinds) (now values) (now gotos) ⌝ }
@@ -77,14 +145,38 @@ fn rule_arrives(items: &[u8], kernels: &[u8], links: &[usize], present: &[u8], k
     if !moves::is_present(items, present, count, i) {
         return true;
     }
-    if !arrives(items, kernels, links, kinds, values, gotos, count, lines, q, i, 0) {
+    if !arrives(
+        items,
+        kernels,
+        links,
+        kinds,
+        values,
+        gotos,
+        count,
+        lines,
+        q,
+        i,
+        0,
+    ) {
         return false;
     }
     true
 }
 
 // Whether the rules that q's closure adds arrive.
-fn rules_arrive(items: &[u8], kernels: &[u8], links: &[usize], present: &[u8], kinds: &[u8], values: &[u8], gotos: &[u8], count: usize, rules: usize, lines: usize, q: usize) -> bool
+fn rules_arrive(
+    items: &[u8],
+    kernels: &[u8],
+    links: &[usize],
+    present: &[u8],
+    kinds: &[u8],
+    values: &[u8],
+    gotos: &[u8],
+    count: usize,
+    rules: usize,
+    lines: usize,
+    q: usize,
+) -> bool
     requires { ⌜ Readable (now items) (now kernels) (now links) (now present) count rules lines ⌝ }
     requires { ⌜ Cells (now kinds) (now values) (now gotos) ⌝ }
     requires { ⌜ q < 256 ⌝ }
@@ -92,7 +184,19 @@ fn rules_arrive(items: &[u8], kernels: &[u8], links: &[usize], present: &[u8], k
 {
     let mut i = 1;
     while i <= rules {
-        if !rule_arrives(items, kernels, links, present, kinds, values, gotos, count, lines, q, i) {
+        if !rule_arrives(
+            items,
+            kernels,
+            links,
+            present,
+            kinds,
+            values,
+            gotos,
+            count,
+            lines,
+            q,
+            i,
+        ) {
             return false;
         }
         i += 1;
@@ -101,7 +205,21 @@ fn rules_arrive(items: &[u8], kernels: &[u8], links: &[usize], present: &[u8], k
 }
 
 // Whether q's next state for x has only what moved, if something moves.
-fn target_only(items: &[u8], kernels: &[u8], links: &[usize], present: &[u8], symbols: &[u8], kinds: &[u8], values: &[u8], gotos: &[u8], count: usize, rules: usize, lines: usize, q: usize, x: usize) -> bool
+fn target_only(
+    items: &[u8],
+    kernels: &[u8],
+    links: &[usize],
+    present: &[u8],
+    symbols: &[u8],
+    kinds: &[u8],
+    values: &[u8],
+    gotos: &[u8],
+    count: usize,
+    rules: usize,
+    lines: usize,
+    q: usize,
+    x: usize,
+) -> bool
     requires { ⌜ Readable (now items) (now kernels) (now links) (now present) count rules lines ⌝ }
     requires { ⌜ length (now symbols) ≡ 128 ⌝ }
     requires { ⌜ Cells (now kinds) (now values) (now gotos) ⌝ }
@@ -122,7 +240,20 @@ fn target_only(items: &[u8], kernels: &[u8], links: &[usize], present: &[u8], sy
 }
 
 // Whether q's next states have only what moved.
-fn targets_only(items: &[u8], kernels: &[u8], links: &[usize], present: &[u8], symbols: &[u8], kinds: &[u8], values: &[u8], gotos: &[u8], count: usize, rules: usize, lines: usize, q: usize) -> bool
+fn targets_only(
+    items: &[u8],
+    kernels: &[u8],
+    links: &[usize],
+    present: &[u8],
+    symbols: &[u8],
+    kinds: &[u8],
+    values: &[u8],
+    gotos: &[u8],
+    count: usize,
+    rules: usize,
+    lines: usize,
+    q: usize,
+) -> bool
     requires { ⌜ Readable (now items) (now kernels) (now links) (now present) count rules lines ⌝ }
     requires { ⌜ length (now symbols) ≡ 128 ⌝ }
     requires { ⌜ Cells (now kinds) (now values) (now gotos) ⌝ }
@@ -131,7 +262,21 @@ fn targets_only(items: &[u8], kernels: &[u8], links: &[usize], present: &[u8], s
 {
     let mut x = 1;
     while x < 128 {
-        if !target_only(items, kernels, links, present, symbols, kinds, values, gotos, count, rules, lines, q, x) {
+        if !target_only(
+            items,
+            kernels,
+            links,
+            present,
+            symbols,
+            kinds,
+            values,
+            gotos,
+            count,
+            rules,
+            lines,
+            q,
+            x,
+        ) {
             return false;
         }
         x += 1;
@@ -140,7 +285,20 @@ fn targets_only(items: &[u8], kernels: &[u8], links: &[usize], present: &[u8], s
 }
 
 // Whether the next states of q have exactly what moves there.
-pub fn moves_meet(items: &[u8], kernels: &[u8], links: &[usize], present: &[u8], symbols: &[u8], kinds: &[u8], values: &[u8], gotos: &[u8], count: usize, rules: usize, lines: usize, q: usize) -> bool
+pub fn moves_meet(
+    items: &[u8],
+    kernels: &[u8],
+    links: &[usize],
+    present: &[u8],
+    symbols: &[u8],
+    kinds: &[u8],
+    values: &[u8],
+    gotos: &[u8],
+    count: usize,
+    rules: usize,
+    lines: usize,
+    q: usize,
+) -> bool
     requires { ⌜ Readable (now items) (now kernels) (now links) (now present) count rules lines ⌝ }
     requires { ⌜ length (now symbols) ≡ 128 ⌝ }
     requires { ⌜ Cells (now kinds) (now values) (now gotos) ⌝ }
@@ -150,10 +308,35 @@ pub fn moves_meet(items: &[u8], kernels: &[u8], links: &[usize], present: &[u8],
     if !lines_arrive(items, kernels, links, kinds, values, gotos, count, lines, q) {
         return false;
     }
-    if !rules_arrive(items, kernels, links, present, kinds, values, gotos, count, rules, lines, q) {
+    if !rules_arrive(
+        items,
+        kernels,
+        links,
+        present,
+        kinds,
+        values,
+        gotos,
+        count,
+        rules,
+        lines,
+        q,
+    ) {
         return false;
     }
-    if !targets_only(items, kernels, links, present, symbols, kinds, values, gotos, count, rules, lines, q) {
+    if !targets_only(
+        items,
+        kernels,
+        links,
+        present,
+        symbols,
+        kinds,
+        values,
+        gotos,
+        count,
+        rules,
+        lines,
+        q,
+    ) {
         return false;
     }
     true

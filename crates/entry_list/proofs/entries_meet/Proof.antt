@@ -20,8 +20,11 @@ is-goal-requires : tie.Need-is-goal-requires
 is-goal-requires c κs = search needs
 
 returns : tie.Need-returns
-returns c = (ap length (c .before .before .before .before .pre .1 .1) ∙ length-replicate {A = ℕ} 2048 0, λ g t S e.
-    (is-no _ (λ m. let h = entry-goal g t S m in c .before .is-goal .ensures .no (not-true _ (c .if1 .taken)) (h .0, h .1 ∙ e)), λ z. absurd (false≢true z)))
+returns c = (
+  ap length (c .before .before .before .before .pre .1 .1) ∙ length-replicate {A = ℕ} 2048 0,
+  λ g t S e.
+      (is-no _ (λ m. let h = entry-goal g t S m in c .before .is-goal .ensures .no (not-true _ (c .if1 .taken)) (h .0, h .1 ∙ e)), λ z. absurd (false≢true z)),
+)
 
 slice-aggregate-fill-rules : tie.Need-slice-aggregate-fill-rules
 slice-aggregate-fill-rules c = search needs
@@ -33,8 +36,11 @@ same-length : tie.Need-same-length
 same-length c = search needs
 
 returns-2 : tie.Need-returns-2
-returns-2 c = let f = c .before .before .before .before .fill-rules .ensures in (f .0 .0, λ g t S e.
-    (is-no _ (λ m. f .1 g t S (zeros-of 2048 (c .before .before .before .before .before .before .before .before .before .before .before .pre .1 .1)) .decides .no (not-true _ (c .if2 .taken)) (meets-entered g t S m)), λ z. absurd (false≢true z)))
+returns-2 c = let f = c .before .before .before .before .fill-rules .ensures in (
+  f .0 .0,
+  λ g t S e.
+      (is-no _ (λ m. f .1 g t S (zeros-of 2048 (c .before .before .before .before .before .before .before .before .before .before .before .pre .1 .1)) .decides .no (not-true _ (c .if2 .taken)) (meets-entered g t S m)), λ z. absurd (false≢true z)),
+)
 
 slice-aggregate-lowest-unset : tie.Need-slice-aggregate-lowest-unset
 slice-aggregate-lowest-unset c = search needs
@@ -55,19 +61,28 @@ same-length-2 : tie.Need-same-length-2
 same-length-2 c = search needs
 
 returns-3 : tie.Need-returns-3
-returns-3 c = let f = c .before .before .before .before .before .before .before .before .fill-rules .ensures in (f .0 .0, λ g t S e.
-    (is-no _ (λ m. entries-fail g t S refl m (f .1 g t S (zeros-of 2048 (c .before .before .before .before .before .before .before .before .before .before .before .before .before .before .before .pre .1 .1)) .filled (not-false _ (c .before .before .before .before .if2 .left)))
-      (c .before .before .lowest-unset .result) (c .before .before .lowest-unset .ensures) (c .enum-told .given .1)), λ z. absurd (false≢true z)))
+returns-3 c = let f = c .before .before .before .before .before .before .before .before .fill-rules .ensures in (
+  f .0 .0,
+  λ g t S e. (
+    is-no _ (λ m. entries-fail g t S refl m (f .1 g t S (zeros-of 2048 (c .before .before .before .before .before .before .before .before .before .before .before .before .before .before .before .pre .1 .1)) .filled (not-false _ (c .before .before .before .before .if2 .left)))
+        (c .before .before .lowest-unset .result) (c .before .before .lowest-unset .ensures) (c .enum-told .given .1)),
+    λ z. absurd (false≢true z),
+  ),
+)
 
 same-length-3 : tie.Need-same-length-3
 same-length-3 c = search needs
 
 returns-4 : tie.Need-returns-4
-returns-4 c = let f = c .before .before .before .before .before .before .before .before .fill-rules .ensures in let s = c .before .before .before .before .before .before .before .before .before .before .before .before .before .before .before in (f .0 .0, λ g t S e.
-    let F = f .1 g t S (zeros-of 2048 (s .pre .1 .1)) .filled (not-false _ (c .before .before .before .before .if2 .left)) in
-    let h = c .before .before .before .before .before .before .before .before .before .before .before .before .is-goal .ensures .yes (not-false _ (c .before .before .before .before .before .before .before .before .before .before .before .if1 .left)) in
-    (is-yes _ (entries-hold g t S refl (s .pre .1 .0 .1) (h .0, h .1 ∙ sym e) F (c .before .before .lowest-unset .result) (c .before .before .lowest-unset .ensures) (c .enum-told2 .given .1)),
-      λ z. uses-hold g t S F))
+returns-4 c = let f = c .before .before .before .before .before .before .before .before .fill-rules .ensures in let s = c .before .before .before .before .before .before .before .before .before .before .before .before .before .before .before in (
+  f .0 .0,
+  λ g t S e.
+      let F = f .1 g t S (zeros-of 2048 (s .pre .1 .1)) .filled (not-false _ (c .before .before .before .before .if2 .left)) in
+      let h = c .before .before .before .before .before .before .before .before .before .before .before .before .is-goal .ensures .yes (not-false _ (c .before .before .before .before .before .before .before .before .before .before .before .if1 .left)) in (
+        is-yes _ (entries-hold g t S refl (s .pre .1 .0 .1) (h .0, h .1 ∙ sym e) F (c .before .before .lowest-unset .result) (c .before .before .lowest-unset .ensures) (c .enum-told2 .given .1)),
+        λ z. uses-hold g t S F,
+      ),
+)
 
 pub entries-meet-spec : {M : Type 1} → statement M
 entries-meet-spec =

@@ -76,10 +76,14 @@ loop-again c = let o = c .before .before .before .before .loop in
     let s = c .before .before .before .before .before .before .before .before .before .before in
     let l = c .before .before .before .loop-test .taken in
     let q = c .before .before .before .before .before .before .length-of .ensures .1 in
-    let x = c .before .entry-of .ensures in
-    (omega (arith, c .before .before .group-end .ensures .past), simp length-set (o .inv .1), simp length-set (o .inv .2), o .inv .3,
+    let x = c .before .entry-of .ensures in (
+      omega (arith, c .before .before .group-end .ensures .past),
+      simp length-set (o .inv .1),
+      simp length-set (o .inv .2),
+      o .inv .3,
       λ g t r S e z. filling-more g t S _ r e (o .inv .4 g t r S e z) (omega (arith, l, o .inv .3)) (c .before .before .group-end .ensures) x (c .if1 .left)
-        (omega (arith, o .inv .0, l, q)) (omega (arith, s .pre .1 .0)) (o .inv .1) (o .inv .2) (omega (arith, x .low, s .pre .1 .0)) refl refl)
+          (omega (arith, o .inv .0, l, q)) (omega (arith, s .pre .1 .0)) (o .inv .1) (o .inv .2) (omega (arith, x .low, s .pre .1 .0)) refl refl,
+    )
 
 same-length-3 : tie.Need-same-length-3 Inv-loop μ-loop
 same-length-3 c = search needs

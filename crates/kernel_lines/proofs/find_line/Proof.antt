@@ -27,10 +27,11 @@ is-of-requires c κs = search needs
 
 returns : tie.Need-returns Inv-loop μ-loop
 returns c = let h = c .before .is-of .ensures .yes (c .if1 .taken) in record {
-    low = omega arith;
-    state = c .before .before .before .loop .inv .here (λ e. omega (arith, e));
-    item = h .0;
-    dot = h .1 }
+  low = omega arith;
+  state = c .before .before .before .loop .inv .here (λ e. omega (arith, e));
+  item = h .0;
+  dot = h .1;
+}
 
 line-before-requires : tie.Need-line-before-requires Inv-loop μ-loop
 line-before-requires c κs = search needs

@@ -50,10 +50,11 @@ loop-again c = let o = c .before .before .before .before .before .loop in
     let x = c .before .symbol-after .ensures in
     let i = c .before .before .before .item-of .ensures .0 in
     let k = c .before .before .dot-of .ensures .0 in
-    let n : o .p ≡ 0 → ⊥ = λ e. omega (arith, e) in
-    (flagged-more (o .inv .0) refl (x .1) (line-moves (omega (arith, o .inv .1 .low)) (o .inv .1 .here n) i k (x .0)),
+    let n : o .p ≡ 0 → ⊥ = λ e. omega (arith, e) in (
+      flagged-more (o .inv .0) refl (x .1) (line-moves (omega (arith, o .inv .1 .low)) (o .inv .1 .here n) i k (x .0)),
       passed-more (passed-map (λ m h. keep-set (o .moves) (c .before .symbol-after .result) (omega (arith, o .inv .0 .long, x .1)) _ h) (o .inv .1)) n
-        (on-line _ (c .before .before .before .before .before .before .before .before .before .before .before .before .args .kernels .now) (o .moves) (o .p - 1) (o .inv .0 .long) (x .1) i k (x .0)) (c .line-before .ensures .0))
+          (on-line _ (c .before .before .before .before .before .before .before .before .before .before .before .before .args .kernels .now) (o .moves) (o .p - 1) (o .inv .0 .long) (x .1) i k (x .0)) (c .line-before .ensures .0),
+    )
 
 same-length : tie.Need-same-length Inv-loop μ-loop
 same-length c = search needs

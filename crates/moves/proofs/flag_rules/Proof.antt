@@ -48,11 +48,13 @@ loop-less-2 c = search needs
 loop-again-2 : tie.Need-loop-again-2 Inv-loop μ-loop
 loop-again-2 c = let o = c .before .before .before .before .loop in
     let x = c .symbol-after .ensures in
-    let p = c .before .before .is-present .ensures .yes (not-false _ (c .before .if1 .left)) in
-    (omega arith, omega arith,
+    let p = c .before .before .is-present .ensures .yes (not-false _ (c .before .if1 .left)) in (
+      omega arith,
+      omega arith,
       flagged-more (o .inv .2) refl (x .1) (rule-moves (o .inv .0) (omega arith) p (x .0)),
       from-more _ 1 (o .i) (λ j a b h. keep-set (o .moves) (c .symbol-after .result) (omega (arith, o .inv .2 .long, x .1)) _ (o .inv .3 j a b h))
-        (λ h. on-rule _ (o .moves) (o .i) (o .inv .2 .long) (x .1) (x .0)))
+          (λ h. on-rule _ (o .moves) (o .i) (o .inv .2 .long) (x .1) (x .0)),
+    )
 
 same-length : tie.Need-same-length Inv-loop μ-loop
 same-length c = search needs
