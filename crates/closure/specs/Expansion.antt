@@ -1,14 +1,13 @@
 -- The closure of a state by its nonterminals: all rules of a nonterminal come in together, with the same lookaheads.
-use Prim.Native.Nat.{ℕ, zero, suc, _+_, _*_, _<_}
+use Prim.Native.Nat.{ℕ, zero, _+_, _*_, _<_}
 use mathlib.Core.Path.{_≡_, refl, sym, subst}
-use mathlib.Core.Logic.{_⊎_, inl, inr}
-use mathlib.Core.List.{List, [], _∷_}
-use mathlib.Core.Option.{Option, some}
+use mathlib.Core.List.{List}
+use mathlib.Core.Option.{some}
 use Rattle.language.specs.Grammar.{Grammar, Rule, ruleAt}
 use Rattle.language.specs.Sentence.{In}
-use Rattle.fixpoint.specs.Flags.{On}
 use Rattle.leftcorner.specs.Table.{Table, Goes}
 use Rattle.leftcorner.specs.Construction.{KernelAt, Has, in-kernel, in-closure, Carries}
+use Rattle.fixpoint.specs.Flags.{On}
 
 module _ (g : Grammar) (t : Table) where
   -- an item that q has stands before X, and not at its recognition point

@@ -1,14 +1,14 @@
 -- The table that the builder writes. Document 01, 'Construction': "The builder's kernels have the smallest contexts, with one
 -- state for each kernel set. [..] Its K lines rise by state, item, dot; its action lines by state, symbol."
-use Prim.Native.Nat.{ℕ, zero, suc, _+_}
+use Prim.Native.Nat.{ℕ, zero, suc}
 use mathlib.Core.Path.{_≡_}
 use mathlib.Core.Logic.{_⊎_}
-use mathlib.Core.Bool.{Bool, cond}
+use mathlib.Core.Bool.{cond}
 use mathlib.Core.List.{List, [], _∷_, _++_}
 use mathlib.Core.Option.{Option, some, none}
 use lib.Dec.{ltb}
 use lib.ListN.{length}
-use Rattle.language.specs.Grammar.{Grammar, Rule, ruleAt}
+use Rattle.language.specs.Grammar.{Grammar}
 use Rattle.language.specs.Sentence.{In}
 use Rattle.leftcorner.specs.Table.{EntryLine, E, KernelLine, K, Action, S, N, A, P, ActionLine, L, Table}
 use Rattle.leftcorner.specs.Construction.{Asked}
@@ -16,6 +16,7 @@ use Rattle.verdict.specs.CellsDecided.{asked?}
 use Rattle.lalr.specs.Strings.{entryStrings, entryLines}
 use Rattle.lalr.specs.States.{Kernel, itemOf, dotOf, range, keep, states, goto}
 use Rattle.lalr.specs.Lookaheads.{Lookahead}
+use Rattle.lalr.specs.LookaheadDecided.{lookahead?}
 
 -- the first of some actions that is asked of a cell
 abbrev pub orElse : {P : Type 0} → Dec P → Action → Option Action → Option Action
@@ -23,10 +24,10 @@ orElse (yes p) x o = some x
 orElse (no f) x o = o
 
 module _ (g : Grammar) (F : List ℕ → ℕ → ℕ → Type 0) (F? : (β : List ℕ) (d c : ℕ) → Dec (F β d c)) (first-codes : List ℕ)
-    (F-in : (β : List ℕ) (d c : ℕ) → F β d c → (c ≡ d) ⊎ In c first-codes) (lookahead? : (q i k d : ℕ) → Dec (Lookahead g F q i k d)) where
+    (F-in : (β : List ℕ) (d c : ℕ) → F β d c → (c ≡ d) ⊎ In c first-codes) where
   -- a context as its codes, rising
   unfoldable pub codesAt : ℕ → ℕ → List ℕ
-  codesAt q x = keep (Lookahead g F q (itemOf x) (dotOf x)) (lookahead? q (itemOf x) (dotOf x)) (range 0 (suc (g .terminals)))
+  codesAt q x = keep (Lookahead g F q (itemOf x) (dotOf x)) (lookahead? g F F? first-codes F-in q (itemOf x) (dotOf x)) (range 0 (suc (g .terminals)))
 
   abbrev pub linesOf : ℕ → Kernel → List KernelLine
   linesOf q [] = []

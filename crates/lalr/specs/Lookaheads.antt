@@ -1,5 +1,5 @@
 -- The builder's lookaheads: the smallest that satisfy the inclusions of the construction.
-use Prim.Native.Nat.{ℕ, zero, suc, _+_}
+use Prim.Native.Nat.{ℕ, zero, suc}
 use mathlib.Core.Path.{_≡_}
 use mathlib.Core.List.{List, [], _∷_, _++_}
 use mathlib.Core.Option.{some}
@@ -7,7 +7,6 @@ use lib.ListN.{length}
 use Rattle.language.specs.Grammar.{Grammar, Rule, ruleAt, concat}
 use Rattle.leftcorner.specs.Table.{Table, entryFrom, Goes}
 use Rattle.leftcorner.specs.Construction.{entryItem}
-use Rattle.lalr.specs.Strings.{entryStrings, entryLines}
 use Rattle.lalr.specs.States.{alone, goto}
 
 module _ (g : Grammar) where

@@ -1,15 +1,14 @@
 -- The states of the builder, in order of discovery, and their kernel sets.
 use Prim.Native.Nat.{ℕ, zero, suc, _+_, _*_, _/_, _%_}
-use mathlib.Core.Path.{_≡_}
-use mathlib.Core.Bool.{Bool, true, false, cond}
-use mathlib.Core.List.{List, [], _∷_, _++_, map}
-use lib.Dec.{eqb, ltb}
+use mathlib.Core.Bool.{cond}
+use mathlib.Core.List.{List, [], _∷_, map}
+use lib.Dec.{ltb}
 use lib.ListN.{length, getD}
 use Rattle.language.specs.Grammar.{Grammar}
 use Rattle.leftcorner.specs.Table.{KernelLine, K, Table, sameString}
 use Rattle.leftcorner.specs.Construction.{MovedBy}
 use Rattle.verdict.specs.ItemsDecided.{moved?}
-use Rattle.lalr.specs.Strings.{entryStrings, entryLines}
+use Rattle.lalr.specs.Strings.{addString, entryStrings, entryLines}
 
 -- a kernel set is the rising list of its items, each as item * 16 + dot
 abbrev pub Kernel : Type 0
@@ -40,14 +39,10 @@ abbrev pub find : Kernel → List Kernel → ℕ
 find k [] = 0
 find k (h ∷ ks) = cond (sameString h k) 0 (suc (find k ks))
 
-abbrev pub amongKernels : Kernel → List Kernel → Bool
-amongKernels k [] = false
-amongKernels k (h ∷ ks) = cond (sameString h k) true (amongKernels k ks)
-
 -- the kernel set of a move joins the states, where something moves and the set is new
 unfoldable pub note : List Kernel → Kernel → List Kernel
 note ks [] = ks
-note ks (x ∷ m) = cond (amongKernels (x ∷ m) ks) ks (ks ++ (x ∷ m) ∷ [])
+note ks (x ∷ m) = addString ks (x ∷ m)
 
 abbrev pub total : List Kernel → ℕ
 total [] = 0

@@ -1,9 +1,9 @@
 -- The entries of a grammar. Document 01, 'Construction': "Entries: the goal alone, then every other distinct group once."
-use Prim.Native.Nat.{ℕ, zero, suc}
+use Prim.Native.Nat.{ℕ, suc}
 use mathlib.Core.Bool.{Bool, true, false, cond}
 use mathlib.Core.List.{List, [], _∷_, _++_}
 use Rattle.language.specs.Grammar.{Grammar, Rule}
-use Rattle.leftcorner.specs.Table.{EntryLine, E, Table, sameString}
+use Rattle.leftcorner.specs.Table.{EntryLine, E, sameString}
 
 abbrev pub among : List ℕ → List (List ℕ) → Bool
 among γ [] = false

@@ -14,7 +14,7 @@ module _ (g : Grammar) where
   abbrev pub AllDeclared : List ℕ → Type 0
   AllDeclared β = (X : ℕ) → In X β → IsTerminal g X ⊎ IsNonterminal g X
 
-  symbol-derives : AllProductive g → (X : ℕ) → IsTerminal g X ⊎ IsNonterminal g X → Productive g X
+  pub symbol-derives : AllProductive g → (X : ℕ) → IsTerminal g X ⊎ IsNonterminal g X → Productive g X
   symbol-derives P X (inl h) = record { tree = leaf X; derives = (refl, h) }
   symbol-derives P X (inr h) = P X h
 

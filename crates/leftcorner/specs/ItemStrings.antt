@@ -13,7 +13,7 @@ use Rattle.leftcorner.specs.Table.{EntryLine, E, Table, entryAt, stringO
 use Rattle.leftcorner.specs.Construction.{Wanted, of-goal, of-group, EntriesMeet}
 
 module _ (g : Grammar) (t : Table) (D : Declared g) where
-  wanted-declared : (γ : List ℕ) → Wanted g γ → AllDeclared g γ
+  pub wanted-declared : (γ : List ℕ) → Wanted g γ → AllDeclared g γ
   wanted-declared γ (of-goal e) = subst (AllDeclared g) (sym e) (goal-declared g D)
   wanted-declared γ (of-group i {r = r} e m) = group-declared g D i r γ e m
 
@@ -26,7 +26,7 @@ module _ (g : Grammar) (t : Table) (D : Declared g) where
     string-declared k none e X m = elim m [ ]
     string-declared k (some (E s γ)) e X m = wanted-declared γ (M .only-wanted k s γ e) X m
 
-    symbols-declared : (i : ℕ) → AllDeclared g (symbolsOf g t i)
+    pub symbols-declared : (i : ℕ) → AllDeclared g (symbolsOf g t i)
     symbols-declared i = go (leb i (ruleCount g t))
       where
         go : (b : Bool) → AllDeclared g (cond b (rightOf (ruleAt g i)) (stringOf (entryAt t (i - ruleCount g t))))

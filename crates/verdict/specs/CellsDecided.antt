@@ -17,7 +17,7 @@ use Rattle.verdict.specs.ItemsDecided.{entries-all?, entries-any?, actio
 use Rattle.verdict.specs.EntriesDecided.{rule-all?, rule-any?}
 use Rattle.verdict.specs.LookaheadsDecided.{carried-all?, carried-any?, first-all?}
 
-act? : (x y : Action) → Dec (x ≡ y)
+pub act? : (x y : Action) → Dec (x ≡ y)
 act? x y = map-dec (λ h. code-eq x y h) (λ e. ap code e) (list? (code x) (code y))
   where
     code : Action → List ℕ

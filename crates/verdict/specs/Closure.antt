@@ -211,7 +211,7 @@ module _ (g : Grammar) (t : Table) where
       pub added : Added i k j
       pub first : F (added .rest) d c
 
-    given? : (i k d j c : ℕ) → Dec (Given i k d j c)
+    pub given? : (i k d j c : ℕ) → Dec (Given i k d j c)
     given? i k d j c = go (added? i k j)
       where
         fit : (a : Added i k j) → Dec (F (a .rest) d c) → Dec (Given i k d j c)

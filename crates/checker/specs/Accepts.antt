@@ -1,0 +1,65 @@
+-- The verdict on a table that was read, and its meaning: accepted exactly when the table meets the construction.
+use Prim.Native.Nat.{ℕ, zero, suc, _≤_, _<_}
+use native.Mathlib.Omega.{arith}
+use mathlib.Core.Path.{_≡_, refl, sym, subst}
+use mathlib.Core.Logic.{_⊎_, inl, inr}
+use mathlib.Core.List.{List, [], _∷_}
+use Rattle.language.specs.Grammar.{Grammar, IsTerminal}
+use Rattle.language.specs.First.{First}
+use Rattle.language.specs.Sentence.{In, Declared, AllProductive}
+use Rattle.language.specs.Strings.{AllDeclared, symbol-derives}
+use Rattle.language.specs.Nullable.{Nullable, RightProductive, Starts}
+use Rattle.leftcorner.specs.Claim.{_↔_}
+use Rattle.leftcorner.specs.Table.{Table}
+use Rattle.leftcorner.specs.Construction.{WellFormed, Meets, MeetsWith}
+use Rattle.leftcorner.specs.Swap.{swap}
+use Rattle.fixpoint.specs.Least.{least-every}
+use Rattle.analysis.specs.ByRules.{starting, Itself, BeginsByRules, FirstByRules, first-rules, rules-first}
+use Rattle.analysis.specs.Decided.{first?}
+use Rattle.reply.specs.declared.Reply.{Reply}
+use Rattle.reply.specs.declared.Reply.the-variants.{Accepted}
+use Rattle.verdict.specs.Closure.{upto, in-upto}
+use Rattle.verdict.specs.ItemsDecided.{items?}
+use Rattle.verdict.specs.EntriesDecided.{entries?}
+use Rattle.verdict.specs.LookaheadsDecided.{lookaheads?}
+use Rattle.verdict.specs.CellsDecided.{agree?, cells?}
+use Rattle.verdict.specs.Verdict.{verdict, meets, accepts}
+
+module _ (g : Grammar) where
+  -- the codes that first can give of itself
+  abbrev pub codes : List ℕ
+  codes = upto (suc (g .terminals))
+
+  begins-terminal : {X c : ℕ} → BeginsByRules g X c → IsTerminal g c
+  begins-terminal {c = c} h = least-every (starting g (Nullable g)) (λ x. IsTerminal g c) (λ y s. s .1) (λ o ok ns. ns _ refl) h
+
+  starts-terminal : (β : List ℕ) (c : ℕ) → Starts (Nullable g) (λ X. BeginsByRules g X c) β → IsTerminal g c
+  starts-terminal [] c h = absurd h
+  starts-terminal (X ∷ β) c (inl h) = begins-terminal h
+  starts-terminal (X ∷ β) c (inr h) = starts-terminal β c (h .1)
+
+  pub code-in : (β : List ℕ) (d c : ℕ) → FirstByRules g β d c → (c ≡ d) ⊎ In c codes
+  code-in β d c (inl h) = inr (in-upto (suc (g .terminals)) c (omega (arith, starts-terminal β c h .1)))
+  code-in β d c (inr h) = inl (h .1)
+
+  -- the replies 7 to 10 of a table, or none
+  unfoldable pub tableVerdict : Table → Reply
+  tableVerdict t =
+      verdict g t (FirstByRules g) (entries? g t) (items? g t) (lookaheads? g t (FirstByRules g) (first? g) codes code-in)
+        (agree? g t (FirstByRules g) (first? g) codes code-in) (cells? g t (FirstByRules g) (first? g) codes code-in)
+
+  -- first by rules is first, for strings of declared symbols
+  module _ (P : AllProductive g) (R : RightProductive g) where
+    pub first-same : (β : List ℕ) → AllDeclared g β → (d c : ℕ) → FirstByRules g β d c ↔ First g β d c
+    first-same β all d c = record { to = λ h. rules-first g R (λ a m. symbol-derives g P a (all a m)) h; from = λ h. first-rules g h }
+
+    pub accepted-exactly : Declared g → (t : Table) → WellFormed g t → (tableVerdict t ≡ Accepted 0) ↔ Meets g t
+    unfolding tableVerdict
+    accepted-exactly D t W =
+        let s = swap g t D (FirstByRules g) (First g) first-same in
+        record
+          { to = λ e. s .to (meets g t (FirstByRules g) (entries? g t) (items? g t) (lookaheads? g t (FirstByRules g) (first? g) codes code-in)
+              (agree? g t (FirstByRules g) (first? g) codes code-in) (cells? g t (FirstByRules g) (first? g) codes code-in) W e)
+          ; from = λ M. accepts g t (FirstByRules g) (entries? g t) (items? g t) (lookaheads? g t (FirstByRules g) (first? g) codes code-in)
+              (agree? g t (FirstByRules g) (first? g) codes code-in) (cells? g t (FirstByRules g) (first? g) codes code-in) (s .from M)
+          }

@@ -1,0 +1,4 @@
+// The checker of tables.
+
+// Where the definitions stand.
+pub fn theory() {}

@@ -1,0 +1,7 @@
+pub mod AddLaws
+pub mod PrepareLaws
+pub mod KernelLaws
+pub mod StepLaws
+pub mod ItemLaws
+pub mod ReachLaws
+pub mod UseLaws

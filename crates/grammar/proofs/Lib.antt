@@ -1,0 +1,6 @@
+pub mod ListLaws
+pub mod BookLaws
+pub mod FormLaws
+pub mod ReducedLaws
+pub mod IntoLaws
+pub mod GrammarLaws

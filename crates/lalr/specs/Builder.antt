@@ -1,0 +1,117 @@
+-- The builder: its table, reply and slice with first by rules; and that a book it writes is accepted.
+use Prim.Native.Nat.{ℕ, _≤_}
+use native.Mathlib.Omega.{arith}
+use mathlib.Core.Path.{_≡_, refl}
+use mathlib.Core.Logic.{_⊎_, inl, inr}
+use mathlib.Core.List.{List, [], _∷_}
+use Rattle.language.specs.Grammar.{Grammar, IsTerminal, IsNonterminal}
+use Rattle.language.specs.Derivation.{yields}
+use Rattle.language.specs.Sentence.{In, Reachable, Productive, AllProductive}
+use Rattle.language.specs.First.{First, next}
+use Rattle.language.specs.Nullable.{Nullable, Starts}
+use Rattle.language.specs.FirstLaws.{right-productive, terminal-productive}
+use Rattle.language.specs.Strings.{AllDeclared, string-derives}
+use Rattle.language.specs.WellFormed as grammar
+use Rattle.leftcorner.specs.Table.{Table}
+use Rattle.leftcorner.specs.Construction.{MeetsWith, Meets}
+use Rattle.leftcorner.specs.Claim.{_↔_}
+use Rattle.leftcorner.specs.Swap.{swap}
+use Rattle.fixpoint.specs.Least.{least-every}
+use Rattle.analysis.specs.ByRules.{starting, BeginsByRules, FirstByRules, first-rules, rules-first}
+use Rattle.analysis.specs.Decided.{first?}
+use Rattle.reply.specs.declared.Kind.the-variants.{Conflict}
+use Rattle.reply.specs.declared.Reply.{Reply}
+use Rattle.reply.specs.declared.Reply.the-variants.{Accepted}
+use Rattle.verdict.specs.EntriesDecided.{entries?}
+use Rattle.verdict.specs.ItemsDecided.{items?}
+use Rattle.verdict.specs.LookaheadsDecided.{lookaheads?}
+use Rattle.verdict.specs.CellsDecided.{agree?, cells?}
+use Rattle.verdict.specs.Verdict.{verdict, accepts, refused}
+use Rattle.lalr.specs.States.{range}
+use Rattle.lalr.specs.Lists.{in-range, range-in}
+use Rattle.lalr.specs.Limits.{declared}
+use Rattle.lalr.specs.Built.{built}
+use Rattle.lalr.specs.Book.{buildReply, buildSlice}
+use Rattle.lalr.specs.Readable.{Readable, readable}
+use Rattle.lalr.specs.BookLaws.{limits, accepted-writes, book-meets, conflict-actions}
+use Rattle.lalr.specs.Conflicts.{TwoActions}
+
+module _ (g : Grammar) where
+  -- ---- first by rules is what the builder needs
+
+  abbrev pub terminalCodes : List ℕ
+  terminalCodes = range 1 (g .terminals)
+
+  begins-terminal : {X c : ℕ} → BeginsByRules g X c → IsTerminal g c
+  begins-terminal {c = c} p = least-every (starting g (Nullable g)) (λ x. IsTerminal g c) (λ x s. s .1) (λ o ok ns. ns _ refl) p
+
+  starts-terminal : (β : List ℕ) (c : ℕ) → Starts (Nullable g) (λ X. BeginsByRules g X c) β → IsTerminal g c
+  starts-terminal [] c h = absurd h
+  starts-terminal (X ∷ β) c (inl h) = begins-terminal h
+  starts-terminal (X ∷ β) c (inr h) = starts-terminal β c (h .1)
+
+  pub first-in : (β : List ℕ) (d c : ℕ) → FirstByRules g β d c → (c ≡ d) ⊎ In c terminalCodes
+  first-in β d c (inl h) = let w = starts-terminal β c h in inr (in-range 1 (g .terminals) c (w .0) (omega (arith, w .1)))
+  first-in β d c (inr h) = inl (h .1)
+
+  codes-low : (c : ℕ) → In c terminalCodes → c ≤ g .terminals
+  codes-low c m = let r = range-in 1 (g .terminals) c m in omega (arith, r .1)
+
+  -- ---- the builder
+
+  unfoldable pub builderTable : Table
+  builderTable = built g (FirstByRules g) (first? g) terminalCodes first-in
+
+  unfoldable pub builderReply : ℕ → Reply
+  builderReply room = buildReply g (FirstByRules g) (first? g) terminalCodes first-in room
+
+  unfoldable pub builderSlice : ℕ → List ℕ
+  builderSlice room = buildSlice g (FirstByRules g) (first? g) terminalCodes first-in room
+
+  -- ---- where every nonterminal is productive and reached
+
+  module _ (W : grammar.WellFormed g) (P : AllProductive g) (reach : (X : ℕ) → IsNonterminal g X → Reachable g X) where
+    first-some : (β : List ℕ) → AllDeclared g β → (d : ℕ) → (c : ℕ) × FirstByRules g β d c
+    first-some β a d =
+        let f = string-derives g P β a in
+        let h : First g β d (next (yields (f .0)) d) = record { forest = f .0; derives = f .1; begins = refl } in
+        (next (yields (f .0)) d, first-rules g h)
+
+    symbol-productive : {X : ℕ} → IsTerminal g X ⊎ IsNonterminal g X → Productive g X
+    symbol-productive (inl h) = terminal-productive g h
+    symbol-productive {X = X} (inr h) = P X h
+
+    pub same-first : (β : List ℕ) → AllDeclared g β → (d c : ℕ) → FirstByRules g β d c ↔ First g β d c
+    same-first β a d c = record {
+      to = λ h. rules-first g (right-productive g W P) (λ X m. symbol-productive (a X m)) h;
+      from = λ h. first-rules g h;
+    }
+
+    module _ (room : ℕ) (written : builderReply room ≡ Accepted 0) where
+      writes-by-rules : MeetsWith g builderTable (FirstByRules g)
+      unfolding builderTable builderReply
+      writes-by-rules = book-meets g (FirstByRules g) (first? g) terminalCodes first-in W codes-low first-some reach room written
+
+      -- the book meets the construction
+      pub writes-meets : Meets g builderTable
+      writes-meets = swap g builderTable (declared g W) (FirstByRules g) (First g) same-first .to writes-by-rules
+
+      -- its lines are as a table reader asks
+      pub writes-readable : Readable g builderTable
+      unfolding builderTable builderReply
+      writes-readable =
+          readable g (FirstByRules g) (first? g) terminalCodes first-in
+          (limits g W (accepted-writes g (FirstByRules g) (first? g) terminalCodes first-in room written .within)) codes-low (writes-by-rules .form)
+
+      -- "a book that it writes is accepted"
+      pub writes-accepted : verdict g builderTable (FirstByRules g) (entries? g builderTable) (items? g builderTable)
+          (lookaheads? g builderTable (FirstByRules g) (first? g) terminalCodes first-in) (agree? g builderTable (FirstByRules g) (first? g) terminalCodes first-in)
+          (cells? g builderTable (FirstByRules g) (first? g) terminalCodes first-in) ≡ Accepted 0
+      writes-accepted = accepts g builderTable (FirstByRules g) (entries? g builderTable) (items? g builderTable)
+          (lookaheads? g builderTable (FirstByRules g) (first? g) terminalCodes first-in) (agree? g builderTable (FirstByRules g) (first? g) terminalCodes first-in)
+          (cells? g builderTable (FirstByRules g) (first? g) terminalCodes first-in) writes-by-rules
+
+  -- where it refuses 9, a cell of that state would hold two different actions
+  pub refused-conflict : grammar.WellFormed g → (room q : ℕ) → builderReply room ≡ refused Conflict q → TwoActions g (FirstByRules g) (first? g) terminalCodes first-in q
+  unfolding builderReply
+  refused-conflict W room q e = conflict-actions g (FirstByRules g) (first? g) terminalCodes first-in W codes-low room q e
