@@ -35,7 +35,7 @@ same-place p q Y X e = let h = both-true (eqb p q) (eqb Y X) e in (eqb-true p q 
 place-same : (p q Y X : ℕ) → p ≡ q → Y ≡ X → eqb p q && eqb Y X ≡ true
 place-same p q Y X e f = ap₂ _&&_ (eq-eqb p q e) (eq-eqb Y X f)
 
-same-string : (δ γ : List ℕ) → sameString δ γ ≡ true → δ ≡ γ
+pub same-string : (δ γ : List ℕ) → sameString δ γ ≡ true → δ ≡ γ
 same-string [] [] e = refl
 same-string [] (y ∷ m) e = cc
 same-string (x ∷ l) [] e = cc
@@ -43,7 +43,7 @@ same-string (x ∷ l) (y ∷ m) e =
     let h = both-true (eqb x y) (sameString l m) e in
     ap₂ (λ (a : ℕ) (k : List ℕ). a ∷ k) (eqb-true x y (h .0)) (same-string l m (h .1))
 
-string-same : (γ : List ℕ) → sameString γ γ ≡ true
+pub string-same : (γ : List ℕ) → sameString γ γ ≡ true
 string-same [] = refl
 string-same (x ∷ l) = ap₂ _&&_ (eq-eqb x x refl) (string-same l)
 
@@ -59,7 +59,7 @@ action-found (L p Y z ∷ l) q X x m = go (eqb p q && eqb Y X) refl (λ n. actio
     go false e rec (inl k) = let a : p ≡ q = cc in let b : Y ≡ X = cc in let f = place-same p q Y X a b in clash cc
     go false e rec (inr n) = let r = rec n in (r .0, there (r .1), r .2)
 
-action-back : (l : List ActionLine) (q X : ℕ) (y : Action) → actionFor l q X ≡ some y → In (L q X y) l
+pub action-back : (l : List ActionLine) (q X : ℕ) (y : Action) → actionFor l q X ≡ some y → In (L q X y) l
 action-back [] q X y e = clash cc
 action-back (L p Y z ∷ l) q X y e = go (eqb p q && eqb Y X) refl (λ h. action-back l q X y h) e
   where
@@ -72,7 +72,7 @@ action-back (L p Y z ∷ l) q X y e = go (eqb p q && eqb Y X) refl (λ h. action
 
 -- ---- entries
 
-entry-found : (l : List EntryLine) (γ : List ℕ) (k j s : ℕ) → at l j ≡ some (E s γ)
+pub entry-found : (l : List EntryLine) (γ : List ℕ) (k j s : ℕ) → at l j ≡ some (E s γ)
     → (i : ℕ) × (u : ℕ) × (at l i ≡ some (E u γ)) × (entryFrom (suc k) l γ ≡ suc (k + i))
 entry-found [] γ k j s e = clash cc
 entry-found (E p δ ∷ l) γ k j s e = go (sameString δ γ) refl j (λ i h. entry-found l γ (suc k) i s h) e

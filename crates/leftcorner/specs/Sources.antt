@@ -29,17 +29,17 @@ drop-join zero (x ∷ a) b X α e = (omega arith, ap (λ (l : List ℕ). l ++ b)
 drop-join (suc k) [] b X α e = clash cc
 drop-join (suc k) (x ∷ a) b X α e = let r = drop-join k a b X α e in (omega (arith, r .0), r .1)
 
-at-low : {A : Type 0} (l : List A) (i : ℕ) (x : A) → at l i ≡ some x → suc i ≤ length l
+pub at-low : {A : Type 0} (l : List A) (i : ℕ) (x : A) → at l i ≡ some x → suc i ≤ length l
 at-low [] i x e = clash cc
 at-low (y ∷ l) zero x e = omega arith
 at-low (y ∷ l) (suc i) x e = omega (arith, at-low l i x e)
 
 module _ (g : Grammar) (t : Table) where
-  rule-low : (i : ℕ) (r : Rule) → ruleAt g i ≡ some r → i ≤ ruleCount g t
+  pub rule-low : (i : ℕ) (r : Rule) → ruleAt g i ≡ some r → i ≤ ruleCount g t
   rule-low zero r e = omega arith
   rule-low (suc i) r e = at-low (g .rules) i r e
 
-  entry-high : (e s : ℕ) (γ : List ℕ) → EntryAt g t e s γ → 1 ≤ e
+  pub entry-high : (e s : ℕ) (γ : List ℕ) → EntryAt g t e s γ → 1 ≤ e
   entry-high zero s γ h = clash cc
   entry-high (suc e) s γ h = omega arith
 
@@ -73,22 +73,22 @@ module _ (g : Grammar) (t : Table) where
 
   -- ---- what an item's number says
 
-  symbols-rule : (i : ℕ) (r : Rule) → ruleAt g i ≡ some r → symbolsOf g t i ≡ right r
+  pub symbols-rule : (i : ℕ) (r : Rule) → ruleAt g i ≡ some r → symbolsOf g t i ≡ right r
   symbols-rule i r e =
       ap (λ (b : Bool). cond b (rightOf (ruleAt g i)) (stringOf (entryAt t (i - ruleCount g t)))) (le-leb i (ruleCount g t) (rule-low i r e)) ∙ ap rightOf e
 
-  point-rule : (i : ℕ) (r : Rule) → ruleAt g i ≡ some r → recognitionPoint g t i ≡ some (length (r .before))
+  pub point-rule : (i : ℕ) (r : Rule) → ruleAt g i ≡ some r → recognitionPoint g t i ≡ some (length (r .before))
   point-rule i r e = ap (λ (b : Bool). cond b (markOf (ruleAt g i)) none) (le-leb i (ruleCount g t) (rule-low i r e)) ∙ ap markOf e
 
   past : (e s : ℕ) (γ : List ℕ) → EntryAt g t e s γ → leb (entryItem g t e) (ruleCount g t) ≡ false
   past e s γ h = lt-leb (entryItem g t e) (ruleCount g t) (omega (arith, entry-high e s γ h))
 
-  symbols-entry : (e s : ℕ) (γ : List ℕ) → EntryAt g t e s γ → symbolsOf g t (entryItem g t e) ≡ stringAt t e
+  pub symbols-entry : (e s : ℕ) (γ : List ℕ) → EntryAt g t e s γ → symbolsOf g t (entryItem g t e) ≡ stringAt t e
   symbols-entry e s γ h =
       ap (λ (b : Bool). cond b (rightOf (ruleAt g (entryItem g t e))) (stringOf (entryAt t (entryItem g t e - ruleCount g t)))) (past e s γ h)
       ∙ ap (stringAt t) (let f : entryItem g t e - ruleCount g t ≡ e = omega arith in f)
 
-  point-entry : (e s : ℕ) (γ : List ℕ) → EntryAt g t e s γ → recognitionPoint g t (entryItem g t e) ≡ none
+  pub point-entry : (e s : ℕ) (γ : List ℕ) → EntryAt g t e s γ → recognitionPoint g t (entryItem g t e) ≡ none
   point-entry e s γ h = ap (λ (b : Bool). cond b (markOf (ruleAt g (entryItem g t e))) none) (past e s γ h)
 
   -- ---- the moves of the dot, by number and by source
