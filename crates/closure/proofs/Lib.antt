@@ -1,0 +1,4 @@
+pub mod AddLaws
+pub mod PrepareLaws
+pub mod KernelLaws
+pub mod StepLaws

@@ -1,0 +1,68 @@
+use Rattle.closure.specs.Adds.{Adds, InRow}
+use Rattle.fixpoint.proofs.PassLaws.{set-on}
+use Rattle.closure.proofs.AddLaws.{row-start, row-set, row-skip, row-all}
+use mathlib.Core.Path.{_≡_, refl, sym, ap, subst, _∙_}
+use mathlib.Core.Logic.{⊎-elim}
+use Prim.Native.Nat.{ℕ, zero, suc, _+_, _*_, _≤_, _<_, _-_}
+use native.Mathlib.Omega.{arith}
+use borrow.Author.Count.{below-more, below-none}
+use lib.ListN.{length, getD, set, length-set, replicate}
+use borrow.Author.Needs.{needs}
+use Rattle.closure.proofs.add_codes.Statement.{statement}
+use Rattle.closure.proofs.add_codes.Tie as tie
+use Rattle.closure.proofs.add_codes.Reads as reads
+use Rattle.closure.proofs.add_codes.Lts as lts
+
+abbrev Inv-loop : tie.InvT-loop
+Inv-loop from start codes flags₀ at c₀ flags c = (c ≤ codes) × Adds (InRow from start c at) flags₀ flags
+
+abbrev μ-loop : tie.MeasureT-loop
+μ-loop from start codes flags₀ at c₀ flags c = codes - c
+
+loop-holds : tie.Need-loop-holds Inv-loop μ-loop
+loop-holds c = (omega arith, row-start _ _ _ _)
+
+add-if1 : tie.Need-add-if1 Inv-loop μ-loop
+add-if1 c = search needs
+
+shared-slice-read-if1 : tie.Need-shared-slice-read-if1 Inv-loop μ-loop
+shared-slice-read-if1 c = search needs
+
+add-flags : tie.Need-add-flags Inv-loop μ-loop
+add-flags c = search needs
+
+slice-write-flags : tie.Need-slice-write-flags Inv-loop μ-loop
+slice-write-flags c = search needs
+
+add-c : tie.Need-add-c Inv-loop μ-loop
+add-c c = search needs
+
+loop-less : tie.Need-loop-less Inv-loop μ-loop
+loop-less c = search needs
+
+loop-again : tie.Need-loop-again Inv-loop μ-loop
+loop-again c = let a = c .before .before .before .loop .inv .1 in
+    (omega arith, ⊎-elim (λ w. row-set _ _ _ _ (w .1) (omega (arith, a .long)) (set-on (w .0 .taken)) a) (λ w. row-skip _ _ _ _ (w .1) (w .0 .left) a) (c .if1 .came))
+
+same-length : tie.Need-same-length Inv-loop μ-loop
+same-length c = search needs
+
+returns : tie.Need-returns Inv-loop μ-loop
+returns c = row-all _ _ _ (c .before .loop .inv .0) (omega arith) (c .before .loop .inv .1)
+
+pub add-codes-spec : {M : Type 1} → statement M
+add-codes-spec =
+    tie.close
+    (tie.spec
+    Inv-loop
+    μ-loop
+    loop-holds
+    add-if1
+    shared-slice-read-if1
+    add-flags
+    slice-write-flags
+    add-c
+    loop-less
+    loop-again
+    same-length
+    returns)

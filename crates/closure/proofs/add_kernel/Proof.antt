@@ -1,0 +1,112 @@
+use Rattle.closure.specs.Adds.{Adds}
+use Rattle.closure.specs.Kernel.{KernelBefore, KernelFollows}
+use Rattle.closure.proofs.KernelLaws.{lines-none, lines-skip, lines-more, lines-all, line-before, line-follows}
+use mathlib.Core.Path.{_≡_, refl, sym, ap, subst, _∙_}
+use mathlib.Core.Logic.{⊎-elim}
+use Prim.Native.Nat.{ℕ, zero, suc, _+_, _*_, _≤_, _<_, _-_}
+use native.Mathlib.Omega.{arith}
+use borrow.Author.Count.{below-more, below-none}
+use lib.ListN.{length, getD, set, length-set, replicate}
+use borrow.Author.Needs.{needs}
+use Rattle.closure.proofs.add_kernel.Statement.{statement}
+use Rattle.closure.proofs.add_kernel.Tie as tie
+use Rattle.closure.proofs.add_kernel.Reads as reads
+use Rattle.closure.proofs.add_kernel.Lts as lts
+use Rattle.closure.proofs.add_item.Reads as add-item-reads
+use Rattle.closure.proofs.dot_of.Reads as dot-of-reads
+use Rattle.closure.proofs.item_of.Reads as item-of-reads
+use Rattle.closure.proofs.state_of.Reads as state-of-reads
+
+abbrev Inv-loop : tie.InvT-loop
+Inv-loop m items kernels lookaheads lines q codes nul fst present₀ follow₀ l₀ present follow l = (l ≤ lines) × Adds (KernelBefore m kernels l q) present₀ present × Adds (KernelFollows m codes nul fst kernels lookaheads l q) follow₀ follow
+
+abbrev μ-loop : tie.MeasureT-loop
+μ-loop m items kernels lookaheads lines q codes nul fst present₀ follow₀ l₀ present follow l = lines - l
+
+loop-holds : tie.Need-loop-holds Inv-loop μ-loop
+loop-holds c = (omega arith, lines-none _ _ _ _, lines-none _ _ _ _)
+
+state-of-requires : tie.Need-state-of-requires Inv-loop μ-loop
+state-of-requires c κs = search needs
+
+add-l : tie.Need-add-l Inv-loop μ-loop
+add-l c = search needs
+
+loop-less : tie.Need-loop-less Inv-loop μ-loop
+loop-less c = search needs
+
+loop-again : tie.Need-loop-again Inv-loop μ-loop
+loop-again c = let v = c .before .before .before .loop .inv in
+    (omega arith, lines-skip _ _ _ _ (λ e. c .if1 .taken (c .before .state-of .ensures .0 ∙ e)) (v .1), lines-skip _ _ _ _ (λ e. c .if1 .taken (c .before .state-of .ensures .0 ∙ e)) (v .2))
+
+item-of-requires : tie.Need-item-of-requires Inv-loop μ-loop
+item-of-requires c κs = search needs
+
+dot-of-requires : tie.Need-dot-of-requires Inv-loop μ-loop
+dot-of-requires c κs = search needs
+
+mul-add-item : tie.Need-mul-add-item Inv-loop μ-loop
+mul-add-item c = search needs
+
+add-item-requires : tie.Need-add-item-requires Inv-loop μ-loop
+add-item-requires c κs = let p = c .before .before .before .before .before .before .before .before .before .before .before .before .before .before .before .pre in
+    let v = c .before .before .before .before .before .before .before .loop .inv in
+    let l = c .before .before .before .before .before .before .before .loop .l in
+    let t : l < c .before .before .before .before .before .before .before .before .before .before .before .before .before .before .before .args .lines = omega arith in (
+      p .0,
+      (
+        (omega (arith, p .1 .1 .0 l t, c .before .before .before .item-of .ensures .0), p .1 .0 .2, omega (arith, t, p .1 .0 .1)),
+        (p .1 .1 .1 .0, (v .1 .long ∙ p .1 .1 .1 .1 .0, v .2 .long ∙ p .1 .1 .1 .1 .1)),
+      ),
+    )
+
+add-l-2 : tie.Need-add-l-2 Inv-loop μ-loop
+add-l-2 c = search needs
+
+loop-less-2 : tie.Need-loop-less-2 Inv-loop μ-loop
+loop-less-2 c = search needs
+
+loop-again-2 : tie.Need-loop-again-2 Inv-loop μ-loop
+loop-again-2 c = let v = c .before .before .before .before .before .before .before .before .before .before .before .before .loop .inv in
+    let s = sym (c .before .before .before .before .before .before .before .before .before .before .state-of .ensures .0) ∙ c .before .before .before .before .before .before .before .before .before .if1 .left in
+    let kernels = c .before .before .before .before .before .before .before .before .before .before .before .before .before .before .before .before .before .before .before .before .args .kernels .now in
+    let l = c .before .before .before .before .before .before .before .before .before .before .before .before .loop .l in
+    let ei = c .before .before .before .before .before .before .before .before .item-of .ensures .0 in
+    let ek = c .before .before .before .before .before .before .before .dot-of .ensures .0 in
+    let a = c .before .before .before .before .add-item .ensures in (
+      omega arith,
+      lines-more _ _ _ _ s (v .1) (line-before _ kernels l ei ek (a .0)),
+      lines-more _ _ _ _ s (v .2) (line-follows _ kernels l ei ek _ _ _ _ (a .1)),
+    )
+
+same-length : tie.Need-same-length Inv-loop μ-loop
+same-length c = c .before .loop .inv .1 .long
+
+same-length-2 : tie.Need-same-length-2 Inv-loop μ-loop
+same-length-2 c = c .before .loop .inv .2 .long
+
+returns : tie.Need-returns Inv-loop μ-loop
+returns c = let v = c .before .loop .inv in
+    (lines-all _ _ _ (v .0) (omega arith) (v .1), lines-all _ _ _ (v .0) (omega arith) (v .2))
+
+pub add-kernel-spec : {M : Type 1} → statement M
+add-kernel-spec =
+    tie.close
+    (tie.spec
+    Inv-loop
+    μ-loop
+    loop-holds
+    state-of-requires
+    add-l
+    loop-less
+    loop-again
+    item-of-requires
+    dot-of-requires
+    mul-add-item
+    add-item-requires
+    add-l-2
+    loop-less-2
+    loop-again-2
+    same-length
+    same-length-2
+    returns)

@@ -1,0 +1,83 @@
+use Rattle.items.specs.Layout.{lengthAt}
+use Rattle.closure.specs.Rests.{restAt}
+use Rattle.fixpoint.proofs.PassLaws.{set-on}
+use Rattle.closure.proofs.AddLaws.{Passed, passed-none, dot-stop, dot-more, dot-end}
+use mathlib.Core.Path.{_≡_, refl, sym, ap, subst, _∙_}
+use mathlib.Core.Logic.{⊎-elim}
+use Prim.Native.Nat.{ℕ, zero, suc, _+_, _*_, _≤_, _<_, _-_}
+use native.Mathlib.Omega.{arith}
+use borrow.Author.Count.{below-more, below-none}
+use lib.ListN.{length, getD, set, length-set, replicate}
+use borrow.Author.Needs.{needs}
+use Rattle.closure.proofs.rest_first.Statement.{statement}
+use Rattle.closure.proofs.rest_first.Tie as tie
+use Rattle.closure.proofs.rest_first.Reads as reads
+use Rattle.closure.proofs.rest_first.Lts as lts
+use Rattle.closure.proofs.add_codes.Reads as add-codes-reads
+use Rattle.items.proofs.length_of.Reads as length-of-reads
+use Rattle.items.proofs.symbol_of.Reads as symbol-of-reads
+
+abbrev Inv-loop : tie.InvT-loop
+Inv-loop m items i k codes nul fst flags₀ at n j₀ flags j = (n ≡ lengthAt m i) × (n ≤ 15) × Passed codes nul fst (restAt m i k) (restAt m i j) at flags₀ flags
+
+abbrev μ-loop : tie.MeasureT-loop
+μ-loop m items i k codes nul fst flags₀ at n j₀ flags j = n - j
+
+length-of-requires : tie.Need-length-of-requires Inv-loop μ-loop
+length-of-requires c κs = search needs
+
+loop-holds : tie.Need-loop-holds Inv-loop μ-loop
+loop-holds c = (c .length-of .ensures .0, c .length-of .ensures .1, passed-none _ _ _ _ _ _)
+
+symbol-of-requires : tie.Need-symbol-of-requires Inv-loop μ-loop
+symbol-of-requires c κs = search needs
+
+mul-add-codes : tie.Need-mul-add-codes Inv-loop μ-loop
+mul-add-codes c = search needs
+
+add-codes-requires : tie.Need-add-codes-requires Inv-loop μ-loop
+add-codes-requires c κs = (omega (arith, c .before .symbol-of .ensures .1, c .before .before .before .before .before .before .before .before .before .pre .1 .1 .0 .1, c .before .before .before .before .before .before .before .before .before .pre .1 .0 .1), omega (arith, c .before .before .before .loop .inv .2 .long, c .before .before .before .before .before .before .before .before .before .pre .1 .1 .1))
+
+shared-slice-read-if1 : tie.Need-shared-slice-read-if1 Inv-loop μ-loop
+shared-slice-read-if1 c = search needs
+
+same-length : tie.Need-same-length Inv-loop μ-loop
+same-length c = c .before .before .before .before .add-codes .ensures .long ∙ c .before .before .before .before .before .before .before .before .loop .inv .2 .long
+
+returns : tie.Need-returns Inv-loop μ-loop
+returns c = dot-stop _ _ _ _ _ _ _ _ _ (omega (arith, c .before .before .before .before .before .before .before .before .loop .inv .0)) (c .before .before .before .before .before .before .symbol-of .ensures .0) (c .before .before .before .before .before .before .before .before .loop .inv .2) (c .before .before .before .before .add-codes .ensures) (c .if1 .taken)
+
+add-j : tie.Need-add-j Inv-loop μ-loop
+add-j c = search needs
+
+loop-less : tie.Need-loop-less Inv-loop μ-loop
+loop-less c = search needs
+
+loop-again : tie.Need-loop-again Inv-loop μ-loop
+loop-again c = (c .before .before .before .before .before .before .before .before .loop .inv .0, c .before .before .before .before .before .before .before .before .loop .inv .1, dot-more _ _ _ _ _ _ _ _ _ (omega (arith, c .before .before .before .before .before .before .before .before .loop .inv .0)) (c .before .before .before .before .before .before .symbol-of .ensures .0) (c .before .before .before .before .before .before .before .before .loop .inv .2) (c .before .before .before .before .add-codes .ensures) (set-on (c .if1 .left)))
+
+same-length-2 : tie.Need-same-length-2 Inv-loop μ-loop
+same-length-2 c = c .before .loop .inv .2 .long
+
+returns-2 : tie.Need-returns-2 Inv-loop μ-loop
+returns-2 c = dot-end _ _ _ _ _ _ _ _ (omega (arith, c .before .loop .inv .0)) (c .before .loop .inv .2)
+
+pub rest-first-spec : {M : Type 1} → statement M
+rest-first-spec =
+    tie.close
+    (tie.spec
+    Inv-loop
+    μ-loop
+    length-of-requires
+    loop-holds
+    symbol-of-requires
+    mul-add-codes
+    add-codes-requires
+    shared-slice-read-if1
+    same-length
+    returns
+    add-j
+    loop-less
+    loop-again
+    same-length-2
+    returns-2)
