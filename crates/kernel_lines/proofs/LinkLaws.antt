@@ -67,6 +67,9 @@ passed-more {P} {kernels} {q} {lines} {p} {n} h f here e =
         on m a b g (no x) (yes lt) = subst P (let z : p - 1 ≡ m = omega arith in z) here
         on m a b g (no x) (no y) = h .past m (let z : p ≤ m = omega arith in z) b g
 
+pub passed-map : {P Q : ℕ → Type 0} {kernels : List ℕ} {q lines p : ℕ} → ((m : ℕ) → P m → Q m) → Passed P kernels q lines p → Passed Q kernels q lines p
+passed-map f h = record { low = h .low; here = h .here; past = λ m a b e. f m (h .past m a b e) }
+
 pub passed-all : {P : ℕ → Type 0} {kernels : List ℕ} {q lines p : ℕ} → Passed P kernels q lines p → p ≡ 0 → (m : ℕ) → m < lines → stateAt kernels m ≡ q → P m
 passed-all h e m l f = h .past m (omega (arith, e)) l f
 

@@ -1,2 +1,2 @@
 pub mod Moves
-pub mod Meets
+pub mod Flags

@@ -1,6 +1,7 @@
 -- What moves from a state, read off memory.
 use Prim.Native.Nat.{ℕ, zero, suc, _+_, _*_, _-_, _≤_, _<_}
 use mathlib.Core.Path.{_≡_}
+use mathlib.Core.Logic.{_⊎_}
 use mathlib.Core.Bool.{cond}
 use mathlib.Core.List.{List}
 use lib.Dec.{eqb, ltb}
@@ -43,18 +44,21 @@ module _ (items kernels present : List ℕ) (rules lines : ℕ) where
   abbrev pub OnlyMoved : ℕ → ℕ → ℕ → Type 0
   OnlyMoved q X s = (l : ℕ) → l < lines → stateAt kernels l ≡ s → MovedAt q X (itemAt kernels l) (dotAt kernels l)
 
--- item i, dot k of q has its line in the next state, where q has one for the symbol after the dot
-module _ (items kernels kinds values gotos : List ℕ) (lines : ℕ) where
-  abbrev pub Arrives : ℕ → ℕ → ℕ → Type 0
-  Arrives q i k = (symbolAfter items i k ≡ 0 → ⊥) → (nextAt kinds values gotos q (symbolAfter items i k) ≡ 0 → ⊥)
-      → LineAt kernels lines (nextAt kinds values gotos q (symbolAfter items i k)) i (k + 1)
+-- the flags in fs are those that were in fs₀ and, apart from that for 0, those of symbols on which something moves
+pub record Flagged (items kernels present : List ℕ) (rules lines q : ℕ) (fs₀ fs : List ℕ) : Type 0 where
+  pub long : length fs ≡ 128
+  pub kept : (X : ℕ) → On fs₀ X → On fs X
+  pub only : (X : ℕ) → On fs X → On fs₀ X ⊎ MovesOn items kernels present rules lines q X
 
 -- ---- memory that is safe to read
-pub record Readable (items kernels links present : List ℕ) (count rules lines : ℕ) : Type 0 where
+pub record Lined (items kernels links : List ℕ) (count lines : ℕ) : Type 0 where
   pub shaped : Shaped items count
-  pub few : rules ≤ count
   pub some-lines : Lines kernels lines count
   pub linked : Linked kernels links lines
+
+pub record Readable (items kernels links present : List ℕ) (count rules lines : ℕ) : Type 0 where
+  pub lined : Lined items kernels links count lines
+  pub few : rules ≤ count
   pub room : length present ≡ 64
 
 -- cells by state and code, next states by state and nonterminal

@@ -1,16 +1,16 @@
-// The moves from a state, against the kernels of the states they lead to.
+// What moves from a state, and on which symbols.
 ghost use mathlib.Core.Path.{_≡_};
 ghost use Prim.Native.Nat.{ℕ, _+_, _-_, _<_, _≤_};
 ghost use mathlib.Core.List.{List};
-ghost use lib.ListN.{length};
+ghost use lib.ListN.{length, replicate};
 ghost use Rattle.language.specs.Grammar.{Grammar};
 ghost use Rattle.leftcorner.specs.Table.{Table};
 ghost use Rattle.items.specs.Layout.{Shaped, leftAt};
 ghost use Rattle.fixpoint.specs.Flags.{On, Decides};
 ghost use Rattle.memory.specs.Memory.{stateAt, itemAt, dotAt};
 ghost use Rattle.memory.specs.Held.{Held};
-ghost use Rattle.moves.specs.Moves.{symbolAfter, nextAt, Present, HasAt, MovedAt, MovesOn, OnlyMoved, Arrives, Readable, Cells};
-ghost use Rattle.moves.specs.Meets.{HoldsPresent, MovesMeet};
+ghost use Rattle.moves.specs.Moves.{symbolAfter, nextAt, Present, HasAt, MovedAt, OnlyMoved, Flagged, Readable, Cells};
+ghost use Rattle.moves.specs.Flags.{HoldsPresent, HoldsMoves};
 
 fn wide(x: u8) -> usize
     ensures { λ r. ⌜ (r ≡ x) × (r < 256) ⌝ }
@@ -122,7 +122,7 @@ fn line_came(items: &[u8], kernels: &[u8], links: &[usize], present: &[u8], coun
 }
 
 // Whether every line of s came by a move from q on x.
-fn only_moved(items: &[u8], kernels: &[u8], links: &[usize], present: &[u8], count: usize, rules: usize, lines: usize, q: usize, x: usize, s: usize) -> bool
+pub fn only_moved(items: &[u8], kernels: &[u8], links: &[usize], present: &[u8], count: usize, rules: usize, lines: usize, q: usize, x: usize, s: usize) -> bool
     requires { ⌜ Readable (now items) (now kernels) (now links) (now present) count rules lines ⌝ }
     requires { ⌜ (q < 256) × (s < 256) ⌝ }
     ensures { λ b. ⌜ Decides (OnlyMoved (now (items .entry)) (now (kernels .entry)) (now (present .entry)) rules lines q x s) b ⌝ }
@@ -136,4 +136,52 @@ fn only_moved(items: &[u8], kernels: &[u8], links: &[usize], present: &[u8], cou
         p = kernel_lines::line_before(kernels, links, lines, l);
     }
     true
+}
+
+// Flags the symbols that stand after the dots of q's kernel items, and 0.
+fn flag_lines(items: &[u8], kernels: &[u8], links: &[usize], present: &[u8], count: usize, rules: usize, lines: usize, q: usize, moves: &mut [u8])
+    requires { ⌜ Readable (now items) (now kernels) (now links) (now present) count rules lines ⌝ }
+    requires { ⌜ (q < 256) × (length (now moves) ≡ 128) ⌝ }
+    ensures { λ _. ⌜ Flagged (now (items .entry)) (now (kernels .entry)) (now (present .entry)) rules lines q (now (moves .entry)) (now (moves .exit)) ⌝ }
+    ensures { λ _. ⌜ ((l : ℕ) → l < lines → stateAt (now (kernels .entry)) l ≡ q → On (now (moves .exit)) (symbolAfter (now (items .entry)) (itemAt (now (kernels .entry)) l) (dotAt (now (kernels .entry)) l))) ⌝ }
+{
+    let mut p = kernel_lines::last_line(kernels, links, lines, q);
+    while 0 < p {
+        let l = p - 1;
+        let i = kernel_lines::item_of(kernels, lines, count, l);
+        let k = kernel_lines::dot_of(kernels, lines, count, l);
+        let x = symbol_after(items, count, i, k);
+        moves[x] = 1;
+        p = kernel_lines::line_before(kernels, links, lines, l);
+    }
+}
+
+// Flags the symbols that the rules which q's closure adds begin with, and 0.
+fn flag_rules(items: &[u8], kernels: &[u8], links: &[usize], present: &[u8], count: usize, rules: usize, lines: usize, q: usize, moves: &mut [u8])
+    requires { ⌜ Readable (now items) (now kernels) (now links) (now present) count rules lines ⌝ }
+    requires { ⌜ (q < 256) × (length (now moves) ≡ 128) ⌝ }
+    ensures { λ _. ⌜ Flagged (now (items .entry)) (now (kernels .entry)) (now (present .entry)) rules lines q (now (moves .entry)) (now (moves .exit)) ⌝ }
+    ensures { λ _. ⌜ ((i : ℕ) → 1 ≤ i → i < rules + 1 → Present (now (items .entry)) (now (present .entry)) i → On (now (moves .exit)) (symbolAfter (now (items .entry)) i 0)) ⌝ }
+{
+    let mut i = 1;
+    while i <= rules {
+        if !is_present(items, present, count, i) {
+            i += 1;
+            continue;
+        }
+        let x = symbol_after(items, count, i, 0);
+        moves[x] = 1;
+        i += 1;
+    }
+}
+
+// Flags the symbols on which something moves from q. The flag for 0, which is no symbol, says nothing.
+pub fn flag_moves(items: &[u8], kernels: &[u8], links: &[usize], present: &[u8], count: usize, rules: usize, lines: usize, q: usize, moves: &mut [u8])
+    requires { ⌜ Readable (now items) (now kernels) (now links) (now present) count rules lines ⌝ }
+    requires { ⌜ (q < 256) × (now moves ≡ replicate 128 0) ⌝ }
+    ensures { λ _. ⌜ length (now (moves .exit)) ≡ 128 ⌝ }
+    ensures { λ _. ⌜ ((g : Grammar) (t : Table) (entries lookaheads kinds values gotos : List ℕ) (strings : ℕ) → Held g t (now (items .entry)) entries (now (kernels .entry)) lookaheads kinds values gotos rules strings lines → HoldsPresent g t q (now (present .entry)) → HoldsMoves g t q (now (moves .exit))) ⌝ }
+{
+    flag_lines(items, kernels, links, present, count, rules, lines, q, moves);
+    flag_rules(items, kernels, links, present, count, rules, lines, q, moves);
 }

@@ -1,7 +1,7 @@
 use Rattle.kernel_lines.proofs.LinkLaws.{Passed, passed-start, passed-more, passed-all}
 use Rattle.memory.specs.Memory.{stateAt, itemAt, dotAt}
 use borrow.Author.Tests.{not-true, not-false}
-use Rattle.moves.specs.Moves.{symbolAfter, nextAt, Present, HasAt, by-line, by-rule, MovedAt, moved, OnlyMoved, Arrives}
+use Rattle.moves.specs.Moves.{symbolAfter, nextAt, Present, HasAt, by-line, by-rule, MovedAt, moved, OnlyMoved}
 use Rattle.fixpoint.proofs.PassLaws.{is-yes, is-no}
 use mathlib.Core.Path.{_≡_, refl, sym, ap, subst, _∙_}
 use mathlib.Core.Logic.{⊎-elim}

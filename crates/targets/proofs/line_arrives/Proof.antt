@@ -1,0 +1,36 @@
+use Rattle.targets.proofs.ArriveLaws.{arrives-to, arrives-still, arrives-nowhere, arrives-line, arrives-not, target-still, target-nowhere, target-moved, target-not}
+use borrow.Author.Tests.{not-true, not-false}
+use Rattle.fixpoint.proofs.PassLaws.{is-yes, is-no}
+use mathlib.Core.Path.{_≡_, refl, sym, ap, subst, _∙_}
+use mathlib.Core.Logic.{⊎-elim}
+use Prim.Native.Nat.{ℕ, zero, suc, _+_, _*_, _≤_, _<_, _-_}
+use native.Mathlib.Omega.{arith}
+use borrow.Author.Count.{below-more, below-none}
+use lib.ListN.{length, getD, set, length-set, replicate}
+use borrow.Author.Needs.{needs}
+use Rattle.targets.proofs.line_arrives.Statement.{statement}
+use Rattle.targets.proofs.line_arrives.Tie as tie
+use Rattle.targets.proofs.line_arrives.Reads as reads
+use Rattle.targets.proofs.line_arrives.Lts as lts
+use Rattle.kernel_lines.proofs.dot_of.Reads as dot-of-reads
+use Rattle.kernel_lines.proofs.item_of.Reads as item-of-reads
+use Rattle.targets.proofs.arrives.Reads as arrives-reads
+
+item-of-requires : tie.Need-item-of-requires
+item-of-requires c κs = search needs
+
+dot-of-requires : tie.Need-dot-of-requires
+dot-of-requires c κs = search needs
+
+arrives-requires : tie.Need-arrives-requires
+arrives-requires c κs = search needs
+
+returns : tie.Need-returns
+returns c = is-no _ (λ m. c .before .arrives .ensures .no (not-true _ (c .if1 .taken)) (arrives-to (sym (c .before .before .before .item-of .ensures .0)) (sym (c .before .before .dot-of .ensures .0)) m))
+
+returns-2 : tie.Need-returns-2
+returns-2 c = is-yes _ (arrives-to (c .before .before .before .item-of .ensures .0) (c .before .before .dot-of .ensures .0) (c .before .arrives .ensures .yes (not-false _ (c .if1 .left))))
+
+pub line-arrives-spec : {M : Type 1} → statement M
+line-arrives-spec =
+    tie.close (tie.spec item-of-requires dot-of-requires arrives-requires returns returns-2)
