@@ -2,3 +2,5 @@ pub mod AddLaws
 pub mod PrepareLaws
 pub mod KernelLaws
 pub mod StepLaws
+pub mod ItemLaws
+pub mod ReachLaws

@@ -5,3 +5,4 @@ pub mod Adds
 pub mod Prepared
 pub mod Kernel
 pub mod Steps
+pub mod InMemory

@@ -5,6 +5,11 @@ ghost use lib.ListN.{length};
 ghost use Rattle.items.specs.Layout.{Shaped};
 ghost use Rattle.fixpoint.specs.Flags.{On, Marks, Decides};
 ghost use Rattle.fixpoint.specs.Least.{Least};
+ghost use Rattle.language.specs.Grammar.{Grammar};
+ghost use Rattle.leftcorner.specs.Table.{Table};
+ghost use Rattle.closure.specs.Expansion.{HoldsClosure};
+ghost use Rattle.closure.specs.FirstBy.{FirstBy};
+ghost use Rattle.closure.specs.InMemory.{InMemory};
 ghost use Rattle.closure.specs.Rests.{Before, restAt};
 ghost use Rattle.closure.specs.Adds.{Adds, InRow, AnyIn, RestFirst};
 ghost use Rattle.closure.specs.Prepared.{Prepared};
@@ -313,4 +318,22 @@ fn close_follow(m: &[u8], items: usize, rules: usize, codes: usize, starts: &[u8
             break 'passes;
         }
     }
+}
+
+// The closure of state q: which nonterminals are expanded in it, and which codes can follow each.
+pub fn close_state(m: &[u8], items: usize, rules: usize, kernels: &[u8], lookaheads: &[u8], lines: usize, q: usize, codes: usize, nul: &[u8], fst: &[u8], starts: &[u8], through: &[u8], present: &mut [u8], follow: &mut [u8])
+    requires { ⌜ Shaped (now m) items ⌝ }
+    requires { ⌜ (rules ≤ items) × (rules ≤ 127) × (codes ≤ 64) ⌝ }
+    requires { ⌜ (lines * 4 ≤ length (now kernels)) × (lines * 64 ≤ length (now lookaheads)) ⌝ }
+    requires { ⌜ ((l : ℕ) → l < lines → itemAt (now kernels) l ≤ items) ⌝ }
+    requires { ⌜ (length (now nul) ≡ 128) × (length (now fst) ≡ 8192) × (length (now starts) ≡ 8192) × (length (now through) ≡ 128) ⌝ }
+    requires { ⌜ Prepared (now m) (rules + 1) codes (now nul) (now fst) (now starts) (now through) ⌝ }
+    requires { ⌜ (length (now present) ≡ 64) × (length (now follow) ≡ 4096) ⌝ }
+    ensures { λ _. ⌜ ((g : Grammar) (t : Table) → InMemory (now (m .entry)) (now (kernels .entry)) (now (lookaheads .entry)) rules lines codes g t → HoldsClosure g t (FirstBy codes (now (nul .entry)) (now (fst .entry))) q (now (present .exit)) (now (follow .exit))) ⌝ }
+{
+    reply::clear(present);
+    reply::clear(follow);
+    add_kernel(m, items, kernels, lookaheads, lines, q, codes, nul, fst, present, follow);
+    close_present(m, items, rules, present);
+    close_follow(m, items, rules, codes, starts, through, present, follow);
 }

@@ -2,8 +2,9 @@ use borrow.Author.Tests.{not-true, not-false}
 use Rattle.items.specs.Layout.{leftAt}
 use Rattle.fixpoint.specs.Flags.{On}
 use Rattle.fixpoint.specs.Least.{Least, seed, least-join, least-marks}
-use Rattle.fixpoint.proofs.CountLaws.{zeros, zeros-le}
-use Rattle.fixpoint.proofs.PassLaws.{Pass, pass-start, pass-more, pass-add, pass-join, set-on, no-gap, from-more}
+use Rattle.fixpoint.specs.Pass.{zeros, Pass}
+use Rattle.fixpoint.proofs.CountLaws.{zeros-le}
+use Rattle.fixpoint.proofs.PassLaws.{pass-start, pass-more, pass-add, pass-join, set-on, no-gap, from-more}
 use Rattle.closure.specs.Steps.{followings, Covered}
 use Rattle.closure.proofs.StepLaws.{any-kept, FollowingMet, CodeMet, covered-least, absent, first-none, codeless, code-in, code-out, code-fired, all-codes, all-follow}
 use mathlib.Core.Path.{_≡_, refl, sym, ap, subst, _∙_}

@@ -1,8 +1,9 @@
 use borrow.Author.Tests.{not-true, not-false}
 use Rattle.fixpoint.specs.Flags.{On}
 use Rattle.fixpoint.specs.Least.{Least, seed, least-join, least-marks}
-use Rattle.fixpoint.proofs.CountLaws.{zeros, zeros-le}
-use Rattle.fixpoint.proofs.PassLaws.{Pass, pass-start, pass-more, pass-add, set-on, no-gap, from-more}
+use Rattle.fixpoint.specs.Pass.{zeros, Pass}
+use Rattle.fixpoint.proofs.CountLaws.{zeros-le}
+use Rattle.fixpoint.proofs.PassLaws.{pass-start, pass-more, pass-add, set-on, no-gap, from-more}
 use Rattle.closure.specs.Steps.{expansions}
 use Rattle.closure.proofs.StepLaws.{ExpansionMet, left-out, first-out, first-in, expand, all-expanded}
 use mathlib.Core.Path.{_≡_, refl, sym, ap, subst, _∙_}

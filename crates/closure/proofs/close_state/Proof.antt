@@ -1,0 +1,80 @@
+use lib.ListN.{length-replicate}
+use Rattle.closure.proofs.ReachLaws.{adds-marks, marks-least, covered, holds-closure}
+use mathlib.Core.Path.{_≡_, refl, sym, ap, subst, _∙_}
+use mathlib.Core.Logic.{⊎-elim}
+use Prim.Native.Nat.{ℕ, zero, suc, _+_, _*_, _≤_, _<_, _-_}
+use native.Mathlib.Omega.{arith}
+use borrow.Author.Count.{below-more, below-none}
+use lib.ListN.{length, getD, set, length-set, replicate}
+use borrow.Author.Needs.{needs}
+use Rattle.closure.proofs.close_state.Statement.{statement}
+use Rattle.closure.proofs.close_state.Tie as tie
+use Rattle.closure.proofs.close_state.Reads as reads
+use Rattle.closure.proofs.close_state.Lts as lts
+use Rattle.closure.proofs.add_kernel.Reads as add-kernel-reads
+use Rattle.closure.proofs.close_follow.Reads as close-follow-reads
+use Rattle.closure.proofs.close_present.Reads as close-present-reads
+use Rattle.reply.proofs.clear.Reads as clear-reads
+
+clear-requires : tie.Need-clear-requires
+clear-requires c κs = search needs
+
+clear-requires-2 : tie.Need-clear-requires-2
+clear-requires-2 c κs = search needs
+
+add-kernel-requires : tie.Need-add-kernel-requires
+add-kernel-requires c κs = let p = c .before .before .before .before .before .before .before .before .before .before .before .before .before .before .before .before .before .before .before .pre in
+    let n = p .1 .1 .1 .1 .0 in (
+      p .0,
+      (
+        (p .1 .1 .0 .0, p .1 .1 .0 .1, p .1 .0 .2),
+        (p .1 .1 .1 .0, ((n .0, n .1), (ap length (c .before .before .before .before .before .before .before .before .clear .ensures) ∙ length-replicate {A = ℕ} _ 0 ∙ c .before .before .before .before .before .before .before .before .before .before .before .before .before .before .before .before .before .before .before .pre .1 .1 .1 .1 .1 .1 .0, ap length (c .before .before .before .before .clear2 .ensures) ∙ length-replicate {A = ℕ} _ 0 ∙ c .before .before .before .before .before .before .before .before .before .before .before .before .before .before .before .before .before .before .before .pre .1 .1 .1 .1 .1 .1 .1))),
+      ),
+    )
+
+close-present-requires : tie.Need-close-present-requires
+close-present-requires c κs = let p = c .before .before .before .before .before .before .before .before .before .before .before .before .before .before .before .before .before .before .before .before .before .before .before .before .before .pre in
+    (p .0, (p .1 .0 .0, c .before .before .before .before .before .add-kernel .ensures .0 .long ∙ ap length (c .before .before .before .before .before .before .before .before .before .before .before .before .before .before .clear .ensures) ∙ length-replicate {A = ℕ} _ 0 ∙ c .before .before .before .before .before .before .before .before .before .before .before .before .before .before .before .before .before .before .before .before .before .before .before .before .before .pre .1 .1 .1 .1 .1 .1 .0))
+
+close-follow-requires : tie.Need-close-follow-requires
+close-follow-requires c κs = let p = c .before .before .before .before .before .before .before .before .before .before .before .before .before .before .before .before .before .before .before .before .before .before .before .before .before .before .before .before .before .before .pre in
+    let n = p .1 .1 .1 .1 .0 in
+    let a = adds-marks (length (c .before .before .before .before .before .before .before .before .before .before .before .before .before .before .before .before .before .before .before .before .before .before .before .before .before .before .before .before .before .before .args .present .now)) (c .before .before .before .before .before .before .before .before .before .before .before .before .before .before .before .before .before .before .before .clear .ensures) (c .before .before .before .before .before .before .before .before .before .before .add-kernel .ensures .0) in
+    let w = adds-marks (length (c .before .before .before .before .before .before .before .before .before .before .before .before .before .before .before .before .before .before .before .before .before .before .before .before .before .before .before .before .before .before .args .follow .now)) (c .before .before .before .before .before .before .before .before .before .before .before .before .before .before .before .clear2 .ensures) (c .before .before .before .before .before .before .before .before .before .before .add-kernel .ensures .1) in (
+      p .0,
+      (
+        p .1 .0,
+        (
+          (n .2, n .3),
+          (
+            (search needs, c .before .before .before .before .before .before .before .before .before .before .add-kernel .ensures .1 .long ∙ ap length (c .before .before .before .before .before .before .before .before .before .before .before .before .before .before .before .clear2 .ensures) ∙ length-replicate {A = ℕ} _ 0 ∙ c .before .before .before .before .before .before .before .before .before .before .before .before .before .before .before .before .before .before .before .before .before .before .before .before .before .before .before .before .before .before .pre .1 .1 .1 .1 .1 .1 .1),
+            covered _ _ _ _ _ _ _ _ _ (p .1 .0 .2) a (c .before .before .before .before .close-present .ensures) w,
+          ),
+        ),
+      ),
+    )
+
+same-length : tie.Need-same-length
+same-length c = search needs
+
+same-length-2 : tie.Need-same-length-2
+same-length-2 c = search needs
+
+returns : tie.Need-returns
+returns c = λ g t H. let p = c .before .before .before .before .before .before .before .before .before .before .before .before .before .before .before .before .before .before .before .before .before .before .before .before .before .before .before .before .before .before .before .before .before .pre in
+    holds-closure _ _ _ _ _ _ _ _ _ _ _ _ (p .0) (p .1 .1 .1 .0) (p .1 .0 .0) (p .1 .0 .2) g t H (p .1 .1 .1 .1 .1 .0)
+      (marks-least (adds-marks (length (c .before .before .before .before .before .before .before .before .before .before .before .before .before .before .before .before .before .before .before .before .before .before .before .before .before .before .before .before .before .before .before .before .before .args .present .now)) (c .before .before .before .before .before .before .before .before .before .before .before .before .before .before .before .before .before .before .before .before .before .before .clear .ensures) (c .before .before .before .before .before .before .before .before .before .before .before .before .before .add-kernel .ensures .0)) (c .before .before .before .before .before .before .before .close-present .ensures))
+      (marks-least (adds-marks (length (c .before .before .before .before .before .before .before .before .before .before .before .before .before .before .before .before .before .before .before .before .before .before .before .before .before .before .before .before .before .before .before .before .before .args .follow .now)) (c .before .before .before .before .before .before .before .before .before .before .before .before .before .before .before .before .before .before .clear2 .ensures) (c .before .before .before .before .before .before .before .before .before .before .before .before .before .add-kernel .ensures .1)) (c .before .before .close-follow .ensures))
+
+pub close-state-spec : {M : Type 1} → statement M
+close-state-spec =
+    tie.close
+    (tie.spec
+    clear-requires
+    clear-requires-2
+    add-kernel-requires
+    close-present-requires
+    close-follow-requires
+    same-length
+    same-length-2
+    returns)
