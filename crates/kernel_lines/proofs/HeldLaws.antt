@@ -10,7 +10,7 @@ use Rattle.language.specs.Sentence.{In, here, there}
 use Rattle.leftcorner.specs.Table.{KernelLine, K, Table}
 use Rattle.leftcorner.specs.Construction.{KernelAt}
 use Rattle.leftcorner.specs.ReadOff.{clash}
-use Rattle.items.proofs.LayoutLaws.{at-below}
+use Rattle.language.specs.GrammarLaws.{at-below}
 use Rattle.memory.specs.Memory.{HoldsKernels}
 use Rattle.kernel_lines.specs.Lines.{IsLine, LineAt}
 

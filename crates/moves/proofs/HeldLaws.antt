@@ -15,7 +15,7 @@ use Rattle.leftcorner.specs.Construction as construction
 use Rattle.leftcorner.specs.Sources.{rule-low}
 use Rattle.leftcorner.specs.ReadOff.{clash}
 use Rattle.items.specs.Layout.{leftAt}
-use Rattle.items.proofs.LayoutLaws.{at-below}
+use Rattle.language.specs.GrammarLaws.{at-below}
 use Rattle.fixpoint.specs.Flags.{On}
 use Rattle.memory.specs.Held.{Held}
 use Rattle.closure.specs.Expansion.{Expanded, HasBy, of-kernel, of-rule, has-by, by-has}
