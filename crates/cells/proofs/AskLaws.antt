@@ -1,14 +1,23 @@
 -- How what is asked of cells adds up.
-use Prim.Native.Nat.{ℕ, _+_, _≤_, _<_}
-use mathlib.Core.Path.{_≡_, refl, sym, ap, subst, _∙_}
+use Prim.Native.Nat.{ℕ, _+_, _*_, _≤_, _<_}
+use mathlib.Core.Path.{_≡_, refl, sym, ap, subst, subst₂, _∙_}
 use mathlib.Core.Logic.{_⊎_, inl, inr}
 use mathlib.Core.Bool.{Bool, true, false, true≢false, false≢true}
 use mathlib.Core.List.{List}
 use native.Mathlib.Decide.{ℕ-discrete}
 use native.Mathlib.Omega.{arith}
-use lib.ListN.{length, getD, set, length-set}
+use lib.ListN.{length, getD, set, length-set, replicate}
 use lib.Seq.{getD-set-same, getD-set-other}
-use Rattle.cells.specs.Demands.{Demand, Asking, Clash, Asks, Wants}
+use borrow.Author.Count.{below-more}
+use Rattle.items.specs.Layout.{lengthAt, markAt}
+use Rattle.fixpoint.specs.Flags.{On, Off}
+use Rattle.fixpoint.proofs.PassLaws.{all-off, off-at, no-gap}
+use Rattle.memory.specs.Memory.{stateAt, itemAt, dotAt}
+use Rattle.closure.specs.FirstBy.{first-low}
+use Rattle.closure.specs.Adds.{Adds}
+use Rattle.carried.specs.Rows.{FirstsAt}
+use Rattle.carried.proofs.FirstLaws.{at-zero}
+use Rattle.cells.specs.Demands.{Demand, Asking, Clash, Asks, Wants, CodeAsks, ItemAsks, announces, pops, LinesAsk}
 
 module _ {D : ℕ → ℕ → Type 0} where
   pub asking-none : (s : List ℕ) → Asking D s s
@@ -80,3 +89,102 @@ module _ (s : List ℕ) (c v : ℕ) (l : c < length s) (pos : 1 ≤ v) where
   ask-other n m = record {
       asking = asking-none s; met = λ z. absurd (false≢true z);
       clash = λ _. record { code = c; wanted = v; other = getD s c 0; wants = record { code = refl; value = refl }; there = record { is = refl; some = n }; differ = m } }
+
+pub asks-is : {D : ℕ → ℕ → Type 0} {s₀ s : List ℕ} {b x : Bool} → b ≡ x → Asks D s₀ s b → Asks D s₀ s x
+asks-is {D} {s₀} {s} e a = subst (Asks D s₀ s) e a
+
+-- ---- the codes of a row
+
+-- all below c have what they want
+abbrev pub Below : List ℕ → ℕ → ℕ → ℕ → ℕ → List ℕ → ℕ → Type 0
+Below from start low codes demand s c = (d : ℕ) → d < c → (v : ℕ) → CodeAsks from start low codes demand d v → Demand s d v
+
+module _ {from : List ℕ} {start low codes demand : ℕ} where
+  pub wants-code : {c : ℕ} → low ≤ c → c < codes → On from (start + c) → (d v : ℕ) → Wants c demand d v → CodeAsks from start low codes demand d v
+  wants-code {c} a b on d v w = subst (λ (x : ℕ). CodeAsks from start low codes demand x v) (sym (w .code)) (record { above = a; below = b; on = on; is = w .value })
+
+  pub codes-skip : {s : List ℕ} (c : ℕ) → Off from (start + c) → Below from start low codes demand s c → Below from start low codes demand s (c + 1)
+  codes-skip c off h = below-more _ c h (λ v w. absurd (w .on .nonzero off))
+
+  pub codes-more : {s s′ : List ℕ} {b : Bool} (c : ℕ) → Asks (Wants c demand) s s′ b → b ≡ true → Below from start low codes demand s c → Below from start low codes demand s′ (c + 1)
+  codes-more c a e h = below-more _ c (λ d l v w. a .asking .kept d v (h d l v w)) (λ v w. a .met e c v (record { code = refl; value = w .is }))
+
+  pub codes-all : {s₀ s : List ℕ} {c : ℕ} → codes ≤ c → Asking (CodeAsks from start low codes demand) s₀ s → Below from start low codes demand s c → Asks (CodeAsks from start low codes demand) s₀ s true
+  codes-all l a h = asks-done a (λ d v w. h d (omega (arith, w .below)) v w)
+
+-- ---- an item
+module _ {items nul fst from : List ℕ} {rules codes i k start : ℕ} where
+  -- at its recognition point
+  pub announce-asks : {row₀ row : List ℕ} {s₀ s : List ℕ} {b : Bool} → markAt items i ≡ k → row₀ ≡ replicate 64 0
+      → Adds (FirstsAt items codes nul fst from start i k) row₀ row → Asks (CodeAsks row 0 0 codes (512 + i)) s₀ s b
+      → Asks (ItemAsks items nul fst from rules codes i k start) s₀ s b
+  announce-asks {row₀} {row} m none r a = asks-map to-item of-item a
+    where
+      flagged : (c : ℕ) → On row₀ c ⊎ FirstsAt items codes nul fst from start i k c → FirstsAt items codes nul fst from start i k c
+      flagged c (inl on) = all-off 64 none on
+      flagged c (inr f) = f
+      to-item : (c v : ℕ) → CodeAsks row 0 0 codes (512 + i) c v → ItemAsks items nul fst from rules codes i k start c v
+      to-item c v w = announces m (flagged c (r .only c (subst (On row) (at-zero c) (w .on)))) (w .is)
+      of-item : (c v : ℕ) → ItemAsks items nul fst from rules codes i k start c v → CodeAsks row 0 0 codes (512 + i) c v
+      of-item c v (announces e f is) = record { above = omega arith; below = first-low codes nul fst (f .low) (f .first); on = subst (On row) (sym (at-zero c)) (r .every c f); is = is }
+      of-item c v (pops n hi len low on is) = absurd (n m)
+
+  module _ (unmarked : markAt items i ≡ k → ⊥) where
+    pub rule-asks : (s : List ℕ) → i ≤ rules → Asks (ItemAsks items nul fst from rules codes i k start) s s true
+    rule-asks s l = asks-none s none
+      where
+        none : (c v : ℕ) → ItemAsks items nul fst from rules codes i k start c v → ⊥
+        none c v (announces e f is) = unmarked e
+        none c v (pops n hi len low on is) = omega (arith, hi, l)
+
+    pub unfinished-asks : (s : List ℕ) → (lengthAt items i ≡ k → ⊥) → Asks (ItemAsks items nul fst from rules codes i k start) s s true
+    unfinished-asks s f = asks-none s none
+      where
+        none : (c v : ℕ) → ItemAsks items nul fst from rules codes i k start c v → ⊥
+        none c v (announces e w is) = unmarked e
+        none c v (pops n hi len low on is) = f len
+
+    pub pop-asks : {s₀ s : List ℕ} {b : Bool} → rules < i → lengthAt items i ≡ k → Asks (CodeAsks from start 0 codes (768 + k)) s₀ s b
+        → Asks (ItemAsks items nul fst from rules codes i k start) s₀ s b
+    pop-asks hi len a = asks-map (λ c v w. pops unmarked hi len (w .below) (w .on) (w .is)) of-item a
+      where
+        of-item : (c v : ℕ) → ItemAsks items nul fst from rules codes i k start c v → CodeAsks from start 0 codes (768 + k) c v
+        of-item c v (announces e f is) = absurd (unmarked e)
+        of-item c v (pops n h l low on is) = record { above = omega arith; below = low; on = on; is = is }
+
+-- ---- a kernel line
+
+-- what line l asks
+abbrev pub LineAsks : List ℕ → List ℕ → List ℕ → List ℕ → List ℕ → ℕ → ℕ → ℕ → ℕ → ℕ → Type 0
+LineAsks items nul fst kernels lookaheads rules codes l c v = ItemAsks items nul fst lookaheads rules codes (itemAt kernels l) (dotAt kernels l) (l * 64) c v
+
+module _ {items nul fst : List ℕ} (kernels : List ℕ) {lookaheads : List ℕ} {rules codes : ℕ} (l : ℕ) where
+  pub line-asks : {i k : ℕ} {s s′ : List ℕ} {b : Bool} → i ≡ itemAt kernels l → k ≡ dotAt kernels l
+      → Asks (ItemAsks items nul fst lookaheads rules codes i k (l * 64)) s s′ b → Asks (LineAsks items nul fst kernels lookaheads rules codes l) s s′ b
+  line-asks {s = s} {s′ = s′} {b = b} ei ek a = subst₂ (λ (j n : ℕ). Asks (ItemAsks items nul fst lookaheads rules codes j n (l * 64)) s s′ b) ei ek a
+
+  pub of-line : {lines q : ℕ} → l < lines → stateAt kernels l ≡ q
+      → (c v : ℕ) → LineAsks items nul fst kernels lookaheads rules codes l c v → LinesAsk items nul fst kernels lookaheads rules lines codes q c v
+  of-line low e c v w = record { line = l; low = low; state = e; asks = w }
+
+-- ---- three parts, one after the other
+module _ {D E G : ℕ → ℕ → Type 0} {s₀ s : List ℕ} {b₁ : Bool} where
+  pub first-clash : Asks D s₀ s b₁ → b₁ ≡ false → Asks (λ (c v : ℕ). D c v ⊎ (E c v ⊎ G c v)) s₀ s false
+  first-clash a e = asks-fail (asking-none s₀) (λ c v d. inl d) a e
+
+  pub second-clash : {s′ : List ℕ} {b₂ : Bool} → Asks D s₀ s b₁ → Asks E s s′ b₂ → b₂ ≡ false → Asks (λ (c v : ℕ). D c v ⊎ (E c v ⊎ G c v)) s₀ s′ false
+  second-clash a b e = asks-fail (asking-map (λ c v d. inl d) (a .asking)) (λ c v d. inr (inl d)) b e
+
+  third-asking : {s′ : List ℕ} {b₂ : Bool} → Asks D s₀ s b₁ → Asks E s s′ b₂ → Asking (λ (c v : ℕ). D c v ⊎ (E c v ⊎ G c v)) s₀ s′
+  third-asking a b = asking-then (asking-map (λ c v d. inl d) (a .asking)) (λ c v d. inr (inl d)) (b .asking)
+
+  pub third-clash : {s′ s″ : List ℕ} {b₂ b₃ : Bool} → Asks D s₀ s b₁ → Asks E s s′ b₂ → Asks G s′ s″ b₃ → b₃ ≡ false → Asks (λ (c v : ℕ). D c v ⊎ (E c v ⊎ G c v)) s₀ s″ false
+  third-clash a b d e = asks-fail (third-asking a b) (λ c v d. inr (inr d)) d e
+
+  pub all-met : {s′ s″ : List ℕ} {b₂ b₃ : Bool} → Asks D s₀ s b₁ → b₁ ≡ true → Asks E s s′ b₂ → b₂ ≡ true → Asks G s′ s″ b₃ → b₃ ≡ true → Asks (λ (c v : ℕ). D c v ⊎ (E c v ⊎ G c v)) s₀ s″ true
+  all-met {s″ = s″} a e b f d h = asks-done (asking-then (third-asking a b) (λ c v d. inr (inr d)) (d .asking)) met-all
+    where
+      met-all : (c v : ℕ) → D c v ⊎ (E c v ⊎ G c v) → Demand s″ c v
+      met-all c v (inl w) = d .asking .kept c v (b .asking .kept c v (a .met e c v w))
+      met-all c v (inr (inl w)) = d .asking .kept c v (b .met f c v w)
+      met-all c v (inr (inr w)) = d .met h c v w

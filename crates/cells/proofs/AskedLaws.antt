@@ -32,6 +32,7 @@ use Rattle.moves.specs.Flags.{HoldsMoves}
 use Rattle.moves.proofs.RowLaws.{row-of}
 use Rattle.carried.specs.Rows.{FirstsAt, RowOf}
 use Rattle.carried.specs.Rows as rows
+use Rattle.carried.proofs.FirstLaws.{at-zero}
 use Rattle.carried.proofs.CarryLaws.{Carried, row-declared, code-low, row-carries, carries-row}
 use Rattle.cells.specs.Demands.{Demand, Clash, Asks, CodeAsks, ItemAsks, announces, pops, LinesAsk, RulesAsk, demandOf, HoldsAsked}
 
@@ -94,8 +95,8 @@ module _ (g : Grammar) (t : Table) {items entries kernels lookaheads kinds value
   short-row (rows.of-rule i a b p) = omega arith
 
   -- the rest of a rule at its recognition point
-  pub rest-groups : {i : ℕ} {r : Rule} → ruleAt g i ≡ some r → restAt items i (length (r .before)) ≡ concat (r .groups)
-  rest-groups {i} {r} e =
+  pub rest-groups : (i : ℕ) {r : Rule} → ruleAt g i ≡ some r → restAt items i (length (r .before)) ≡ concat (r .groups)
+  rest-groups i {r} e =
       let w = H .holds-items .rule-row i e in
       sym (item-held items g t (H .holds-items) i (inl (r, e)) (omega (arith, w .length-is, H .formed .formed i e .short)) .symbols (length (r .before)))
       ∙ (ap (drop (length (r .before))) (symbols-rule g t i r e) ∙ drop-append-seam (r .before) (concat (r .groups)))
@@ -138,7 +139,7 @@ module _ (g : Grammar) (t : Table) {items entries kernels lookaheads kinds value
           let p = at-point (row-declared g t H R) (short-row R) m in
           let h = row-carries g t H nul fst count C R (f .low) (f .on) in
           (A i, to-announce i (p .1) (subst (λ (n : ℕ). Carries g t (FirstBy codes nul fst) q i n (f .code)) (sym (p .2)) h)
-            (subst (λ (β : List ℕ). FirstBy codes nul fst β (f .code) c) (ap (restAt items i) (sym (p .2)) ∙ rest-groups (p .1)) (f .first)), sym e)
+            (subst (λ (β : List ℕ). FirstBy codes nul fst β (f .code) c) (ap (restAt items i) (sym (p .2)) ∙ rest-groups i (p .1)) (f .first)), sym e)
       item-asked {k = k} {c = c} R (pops n hi len low on e) =
           let p = finished (row-declared g t H R) hi len in
           let h = row-carries g t H nul fst count C R low on in
@@ -147,7 +148,7 @@ module _ (g : Grammar) (t : Table) {items entries kernels lookaheads kinds value
             omega (arith, pop-value (length (p .2)) (H .fits .string-short (p .0) (p .1) (p .2) (p .4)), p .5, e))
 
       pub state-asked : {c v : ℕ} → StateAsks c v → (x : Action) × Asked g t (FirstBy codes nul fst) q c x × (demandOf x ≡ v)
-      state-asked {c} (inl w) = let m = M .only c (w .above) (w .on) in (S 0, to-move (m .2), sym (w .is))
+      state-asked {c} (inl w) = let m = M .only c (w .above) (subst (On moves) (at-zero c) (w .on)) in (S 0, to-move (m .2), sym (w .is))
       state-asked (inr (inl w)) = item-asked (rows.of-line (w .line) (w .low) (w .state)) (w .asks)
       state-asked (inr (inr w)) = item-asked (rows.of-rule (w .rule) (w .above) (omega (arith, w .below)) (w .present-rule)) (w .asks)
 
@@ -160,12 +161,12 @@ module _ (g : Grammar) (t : Table) {items entries kernels lookaheads kinds value
       asked-state {c} l (to-move {i = i} {n = n} m) = go (moved-kind m)
         where
           go : IsTerminal g c ⊎ IsNonterminal g c → StateAsks c 256
-          go (inl k) = inl (record { above = k .0; below = omega (arith, k .1); on = M .every c i n m; is = refl })
+          go (inl k) = inl (record { above = k .0; below = omega (arith, k .1); on = subst (On moves) (sym (at-zero c)) (M .every c i n m); is = refl })
           go (inr k) = absurd (omega (arith, k .0))
       asked-state {c} l (to-announce i {d = d} {r = r} e h f) =
           let w = carries-row g t H nul fst count C h in
           row-asks (w .row) (announces (H .holds-items .rule-row i e .mark-is) (record { code = d; low = w .low; on = w .on;
-            first = subst (λ (β : List ℕ). FirstBy codes nul fst β d c) (sym (rest-groups e)) f }) refl)
+            first = subst (λ (β : List ℕ). FirstBy codes nul fst β d c) (sym (rest-groups i e)) f }) refl)
       asked-state {c} l (to-pop k {s = s} {γ = γ} e h) =
           let w = carries-row g t H nul fst count C h in
           let z = H .holds-items .entry-row k s e in
