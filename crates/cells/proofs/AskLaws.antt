@@ -1,15 +1,15 @@
 -- How what is asked of cells adds up.
-use Prim.Native.Nat.{ℕ, _+_, _*_, _≤_, _<_}
+use Prim.Native.Nat.{ℕ, _+_, _*_, _-_, _≤_, _<_}
 use mathlib.Core.Path.{_≡_, refl, sym, ap, subst, subst₂, _∙_}
 use mathlib.Core.Logic.{_⊎_, inl, inr}
 use mathlib.Core.Bool.{Bool, true, false, true≢false, false≢true}
 use mathlib.Core.List.{List}
 use native.Mathlib.Decide.{ℕ-discrete}
 use native.Mathlib.Omega.{arith}
-use lib.ListN.{length, getD, set, length-set, replicate}
+use lib.ListN.{length, getD, set, length-set, replicate, length-replicate}
 use lib.Seq.{getD-set-same, getD-set-other}
 use borrow.Author.Count.{below-more}
-use Rattle.items.specs.Layout.{lengthAt, markAt}
+use Rattle.items.specs.Layout.{leftAt, lengthAt, markAt}
 use Rattle.fixpoint.specs.Flags.{On, Off}
 use Rattle.fixpoint.proofs.PassLaws.{all-off, off-at, no-gap}
 use Rattle.memory.specs.Memory.{stateAt, itemAt, dotAt}
@@ -17,7 +17,7 @@ use Rattle.closure.specs.FirstBy.{first-low}
 use Rattle.closure.specs.Adds.{Adds}
 use Rattle.carried.specs.Rows.{FirstsAt}
 use Rattle.carried.proofs.FirstLaws.{at-zero}
-use Rattle.cells.specs.Demands.{Demand, Asking, Clash, Asks, Wants, CodeAsks, ItemAsks, announces, pops, LinesAsk}
+use Rattle.cells.specs.Demands.{Demand, Asking, Clash, Asks, Wants, CodeAsks, ItemAsks, announces, pops, LinesAsk, RuleAsks}
 
 module _ {D : ℕ → ℕ → Type 0} where
   pub asking-none : (s : List ℕ) → Asking D s s
@@ -188,3 +188,12 @@ module _ {D E G : ℕ → ℕ → Type 0} {s₀ s : List ℕ} {b₁ : Bool} wher
       met-all c v (inl w) = d .asking .kept c v (b .asking .kept c v (a .met e c v w))
       met-all c v (inr (inl w)) = d .asking .kept c v (b .met f c v w)
       met-all c v (inr (inr w)) = d .met h c v w
+
+-- a rule that the closure adds
+pub rule-row : {items nul fst follow : List ℕ} {rules codes i left : ℕ} {s s′ : List ℕ} {b : Bool} → left ≡ leftAt items i
+    → Asks (ItemAsks items nul fst follow rules codes i 0 ((left - 64) * 64)) s s′ b → Asks (RuleAsks items nul fst follow rules codes i) s s′ b
+rule-row {items} {nul} {fst} {follow} {rules} {codes} {i} {s = s} {s′ = s′} {b = b} e a =
+    subst (λ (n : ℕ). Asks (ItemAsks items nul fst follow rules codes i 0 ((n - 64) * 64)) s s′ b) e a
+
+pub zero-length : {s : List ℕ} → s ≡ replicate 64 0 → length s ≡ 64
+zero-length e = ap length e ∙ length-replicate {A = ℕ} 64 0

@@ -34,16 +34,16 @@ mul-ask-item : tie.Need-mul-ask-item Inv-loop μ-loop
 mul-ask-item c = search needs
 
 ask-item-requires : tie.Need-ask-item-requires Inv-loop μ-loop
-ask-item-requires c κs = search needs
+ask-item-requires c κs = let o = c .before .before .before .before .loop .inv in (c .before .before .before .before .before .before .before .before .before .before .before .before .before .pre .1 .0, ((c .before .before .item-of .ensures .1, omega (arith, c .before .before .item-of .ensures .1, c .before .before .before .before .before .before .before .before .before .before .before .before .before .pre .1 .1 .0), c .before .dot-of .ensures .1, omega (arith, o .0 .low, c .before .before .before .before .before .before .before .before .before .before .before .before .before .pre .1 .1 .2)), o .1 .long ∙ c .before .before .before .before .before .before .before .before .before .before .before .before .before .pre .1 .1 .3))
 
 same-length : tie.Need-same-length Inv-loop μ-loop
 same-length c = c .before .before .before .ask-item .ensures .asking .long ∙ c .before .before .before .before .before .before .before .before .loop .inv .1 .long
 
 returns : tie.Need-returns Inv-loop μ-loop
-returns c = let o = c .before .before .before .before .before .before .before .before .loop .inv in asks-fail (o .1) (of-line _ _ (omega (arith, o .0 .low)) (o .0 .here (λ e. omega (arith, e)))) (line-asks _ _ (c .before .before .before .before .before .before .item-of .ensures .0) (c .before .before .before .before .before .dot-of .ensures .0) (c .before .before .before .ask-item .ensures)) (not-true _ (c .if1 .taken))
+returns c = let o = c .before .before .before .before .before .before .before .before .loop .inv in asks-fail (o .1) (of-line _ _ (omega (arith, o .0 .low)) (o .0 .here (λ e. omega (arith, e)))) (line-asks (c .before .before .before .before .before .before .before .before .before .before .before .before .before .before .before .before .before .args .kernels .now) (c .before .before .before .before .before .before .before .before .loop .p - 1) (c .before .before .before .before .before .before .item-of .ensures .0) (c .before .before .before .before .before .dot-of .ensures .0) (c .before .before .before .ask-item .ensures)) (not-true _ (c .if1 .taken))
 
 line-before-requires : tie.Need-line-before-requires Inv-loop μ-loop
-line-before-requires c κs = search needs
+line-before-requires c κs = (c .before .before .before .before .before .before .before .before .before .before .before .before .before .before .before .before .before .pre .0 .linked, (omega (arith, c .before .before .before .before .before .before .before .before .loop .inv .0 .low), c .before .before .before .before .before .before .before .before .before .before .before .before .before .before .before .before .before .pre .0 .some-lines .few))
 
 loop-less : tie.Need-loop-less Inv-loop μ-loop
 loop-less c = search needs

@@ -1,7 +1,5 @@
-use Rattle.cells.specs.Demands.{Asks, ItemAsks}
-use Rattle.cells.proofs.AskLaws.{asks-is}
-use mathlib.Core.Path.{subst}
-use Prim.Native.Nat.{ℕ, _*_, _-_}
+use Rattle.cells.proofs.AskLaws.{asks-is, rule-row}
+use native.Mathlib.Omega.{arith}
 use borrow.Author.Tests.{not-true, not-false}
 use borrow.Author.Needs.{needs}
 use Rattle.cells.proofs.ask_rule.Statement.{statement}
@@ -11,25 +9,25 @@ left-of-requires : tie.Need-left-of-requires
 left-of-requires c κs = search needs
 
 sub-ask-item : tie.Need-sub-ask-item
-sub-ask-item c = search needs
+sub-ask-item c = omega (arith, c .left-of .ensures .0, c .before .before .before .before .before .before .pre .1 .0 .2)
 
 mul-ask-item : tie.Need-mul-ask-item
-mul-ask-item c = search needs
+mul-ask-item c = omega (arith, c .left-of .ensures .1)
 
 ask-item-requires : tie.Need-ask-item-requires
-ask-item-requires c κs = search needs
+ask-item-requires c κs = (c .before .before .before .before .before .before .before .pre .0, ((c .before .before .before .before .before .before .before .pre .1 .0 .0, c .before .before .before .before .before .before .before .pre .1 .0 .1, omega arith, omega (arith, c .before .left-of .ensures .1, c .before .before .before .before .before .before .before .pre .1 .1 .0)), c .before .before .before .before .before .before .before .pre .1 .1 .1))
 
 same-length : tie.Need-same-length
 same-length c = c .before .before .before .ask-item .ensures .asking .long
 
 returns : tie.Need-returns
-returns c = asks-is (not-true _ (c .if1 .taken)) (subst (λ (n : ℕ). Asks (ItemAsks (c .before .before .before .before .before .before .before .before .before .before .before .args .items .now) (c .before .before .before .before .before .before .before .before .before .before .before .args .nul .now) (c .before .before .before .before .before .before .before .before .before .before .before .args .fst .now) (c .before .before .before .before .before .before .before .before .before .before .before .args .follow .now) (c .before .before .before .before .before .before .before .before .before .before .before .args .rules) (c .before .before .before .before .before .before .before .before .before .before .before .args .codes) (c .before .before .before .before .before .before .before .before .before .before .before .args .i) 0 ((n - 64) * 64)) _ _ _) (c .before .before .before .before .before .left-of .ensures .0) (c .before .before .before .ask-item .ensures))
+returns c = asks-is (not-true _ (c .if1 .taken)) (rule-row (c .before .before .before .before .before .left-of .ensures .0) (c .before .before .before .ask-item .ensures))
 
 same-length-2 : tie.Need-same-length-2
 same-length-2 c = c .before .before .before .ask-item .ensures .asking .long
 
 returns-2 : tie.Need-returns-2
-returns-2 c = asks-is (not-false _ (c .if1 .left)) (subst (λ (n : ℕ). Asks (ItemAsks (c .before .before .before .before .before .before .before .before .before .before .before .args .items .now) (c .before .before .before .before .before .before .before .before .before .before .before .args .nul .now) (c .before .before .before .before .before .before .before .before .before .before .before .args .fst .now) (c .before .before .before .before .before .before .before .before .before .before .before .args .follow .now) (c .before .before .before .before .before .before .before .before .before .before .before .args .rules) (c .before .before .before .before .before .before .before .before .before .before .before .args .codes) (c .before .before .before .before .before .before .before .before .before .before .before .args .i) 0 ((n - 64) * 64)) _ _ _) (c .before .before .before .before .before .left-of .ensures .0) (c .before .before .before .ask-item .ensures))
+returns-2 c = asks-is (not-false _ (c .if1 .left)) (rule-row (c .before .before .before .before .before .left-of .ensures .0) (c .before .before .before .ask-item .ensures))
 
 pub ask-rule-spec : {M : Type 1} → statement M
 ask-rule-spec =

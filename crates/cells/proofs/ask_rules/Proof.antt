@@ -32,7 +32,7 @@ loop-again : tie.Need-loop-again Inv-loop μ-loop
 loop-again c = (omega arith, c .before .before .before .loop .inv .1, from-more _ 1 (c .before .before .before .loop .i) (c .before .before .before .loop .inv .2) (λ p. absurd (c .before .is-present .ensures .no (not-true _ (c .if1 .taken)) p)))
 
 ask-rule-requires : tie.Need-ask-rule-requires Inv-loop μ-loop
-ask-rule-requires c κs = search needs
+ask-rule-requires c κs = (c .before .before .before .before .before .before .before .before .before .before .before .pre .0, ((omega (arith, c .before .before .before .before .before .before .before .before .before .before .before .pre .1 .0 .0), omega (arith, c .before .before .before .before .before .before .before .before .before .before .before .pre .1 .0 .0, c .before .before .before .before .before .before .before .before .before .before .before .pre .1 .0 .1), c .before .before .is-present .ensures .yes (not-false _ (c .before .if1 .left)) .nonterminal), (c .before .before .before .before .before .before .before .before .before .before .before .pre .1 .1 .1, c .before .before .before .before .loop .inv .1 .long ∙ c .before .before .before .before .before .before .before .before .before .before .before .pre .1 .1 .2)))
 
 same-length : tie.Need-same-length Inv-loop μ-loop
 same-length c = c .before .before .before .ask-rule .ensures .asking .long ∙ c .before .before .before .before .before .before .before .before .loop .inv .1 .long
