@@ -1,7 +1,7 @@
 -- Links lead through all lines of a state, from the last to the first.
 use Prim.Native.Nat.{ℕ, zero, suc, _+_, _-_, _≤_, _<_}
 use mathlib.Core.Path.{_≡_, refl, sym, ap, subst, _∙_}
-use mathlib.Core.Bool.{Bool, true, false, cond}
+use mathlib.Core.Bool.{Bool, cond}
 use mathlib.Core.List.{List}
 use native.Mathlib.Nat.{not-suc-le-zero}
 use native.Mathlib.Decide.{ℕ-discrete, decLt}
@@ -12,7 +12,7 @@ use lib.ListN.{length, getD, set, length-set}
 use lib.Seq.{getD-set-same, getD-set-other}
 use Rattle.fixpoint.specs.declared.Found.{Found}
 use Rattle.memory.specs.Memory.{stateAt}
-use Rattle.kernel_lines.specs.Lines.{IsLine, LineAt, Finds, lastBefore}
+use Rattle.kernel_lines.specs.Lines.{LineAt, Finds, lastBefore}
 
 module _ (kernels : List ℕ) (q : ℕ) where
   -- p is one more than the last line before l for q, or 0

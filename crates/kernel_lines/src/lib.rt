@@ -88,7 +88,7 @@ pub fn line_before(kernels: &[u8], links: &[usize], lines: usize, l: usize) -> u
 }
 
 // Whether line l has item i and dot k.
-fn is_of(kernels: &[u8], lines: usize, items: usize, l: usize, i: usize, k: usize) -> bool
+pub fn is_of(kernels: &[u8], lines: usize, items: usize, l: usize, i: usize, k: usize) -> bool
     requires { ⌜ Lines (now kernels) lines items ⌝ }
     requires { ⌜ l < lines ⌝ }
     ensures { λ b. ⌜ Decides ((itemAt (now (kernels .entry)) l ≡ i) × (dotAt (now (kernels .entry)) l ≡ k)) b ⌝ }

@@ -60,8 +60,8 @@ module _ (g : Grammar) where
       (ap listed (closings-cons g (s .front) (s .back) γ γs (s .front-is))
       ∙ listed-++ (flat (traces g (s .front))) (closed ∷ closings γs (traces g (s .back)))
       ∙ ap₂ (λ (l n : List ℕ). l ++ n)
-          (forest-lists (s .front) (all-left Lists (s .front) (s .back) b) γ (s .front-is))
-          (groups-list γs (s .back) (all-right Lists (s .front) (s .back) b) (s .back-is))
+      (forest-lists (s .front) (all-left Lists (s .front) (s .back) b) γ (s .front-is))
+      (groups-list γs (s .back) (all-right Lists (s .front) (s .back) b) (s .back-is))
       ∙ sym (ap concat (listings-⧺ (s .front) (s .back)) ∙ concat-++ (listings g (s .front)) (listings g (s .back))))
 
   node-lists : (i : ℕ) (F : Forest) → All Lists F → Lists (node i F)
@@ -74,8 +74,8 @@ module _ (g : Grammar) where
       (ap listed (trace-node g i r (s .front) (s .back) (h .1) (s .front-is))
       ∙ listed-++ (flat (traces g (s .front))) (announced i ∷ closings (r .groups) (traces g (s .back)))
       ∙ ap₂ (λ (l n : List ℕ). l ++ i ∷ n)
-          (forest-lists (s .front) (all-left Lists (s .front) (s .back) b) (r .before) (s .front-is))
-          (groups-list (r .groups) (s .back) (all-right Lists (s .front) (s .back) b) (s .back-is))
+      (forest-lists (s .front) (all-left Lists (s .front) (s .back) b) (r .before) (s .front-is))
+      (groups-list (r .groups) (s .back) (all-right Lists (s .front) (s .back) b) (s .back-is))
       ∙ sym (listing-node i r (s .front) (s .back) (h .1) (s .front-is)))
 
   pub listed-trace : (T : Tree) (X : ℕ) → IsTree g T X → listed (trace g T) ≡ listing g T
@@ -111,9 +111,13 @@ module _ (g : Grammar) where
       let b : All Counts (G ⧺ H) = rw (← s .cut) a in
       rw (s .cut)
       (ap (unitsIn g) (listing-node i r G H (h .1) (s .front-is))
-      ∙ omega
-          ( arith, unitsIn-++ (concat (listings g G)) (i ∷ concat (listings g H)), unitsAll-⧺ G H
-          , forest-counts G (all-left Counts G H b) (r .before) (s .front-is), forest-counts H (all-right Counts G H b) (concat (r .groups)) (s .back-is) ))
+      ∙ omega (
+        arith,
+        unitsIn-++ (concat (listings g G)) (i ∷ concat (listings g H)),
+        unitsAll-⧺ G H,
+        forest-counts G (all-left Counts G H b) (r .before) (s .front-is),
+        forest-counts H (all-right Counts G H b) (concat (r .groups)) (s .back-is),
+      ))
 
   pub units-listed : (T : Tree) (X : ℕ) → IsTree g T X → unitsIn g (listing g T) ≡ units g T
   unfolding Counts

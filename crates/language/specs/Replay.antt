@@ -131,6 +131,7 @@ module _ (g : Grammar) where
     where
       frame : Frame
       frame = record { rule = i; children = K; more = length γs; under = U }
+
       begun : Shape
       begun = record { now = nil; frames = frame ∷ fs }
 
@@ -171,11 +172,11 @@ module _ (g : Grammar) where
       (ap (λ (τ : List Event). replay τ (record { now = G; frames = fs })) (trace-node g i r (s .front) (s .back) (h .1) (s .front-is))
       ∙ replay-++ (flat (traces g (s .front))) (announced i ∷ closings (r .groups) (traces g (s .back))) (record { now = G; frames = fs })
       ∙ ap (replay (announced i ∷ closings (r .groups) (traces g (s .back))))
-          (forest (s .front) (all-left Rebuilt (s .front) (s .back) a′) (r .before) G fs (s .front-is))
+      (forest (s .front) (all-left Rebuilt (s .front) (s .back) a′) (r .before) G fs (s .front-is))
       ∙ ap (replay (closings (r .groups) (traces g (s .back)))) (opened-at (ruleAt g i) r i (s .front) G fs (h .1) (s .front-is))
       ∙ groups (r .groups) (s .back) (all-right Rebuilt (s .front) (s .back) a′) (s .back-is) i (onto (s .front) nil) G fs
       ∙ ap (λ (H : Forest). record { now = cons (node i H) G; frames = fs })
-          (ap (λ (H : Forest). onto H nil) (onto-split (s .front) (s .back) nil) ∙ onto-twice (s .front ⧺ s .back)))
+      (ap (λ (H : Forest). onto H nil) (onto-split (s .front) (s .back) nil) ∙ onto-twice (s .front ⧺ s .back)))
 
   rebuilt : (T : Tree) → Rebuilt T
   unfolding Rebuilt

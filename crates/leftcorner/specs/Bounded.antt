@@ -42,10 +42,10 @@ module _ (g : Grammar) (m : Automaton) where
   start-need (goes-on e x) = omega arith
 
   module _ (n k : ℕ) where
-    fits-yes : (p : ℕ) (U l : List ℕ) (v : Verdict) → length U ≤ n → length l ≤ k → fits g m n k p U l v ≡ v
+    pub fits-yes : (p : ℕ) (U l : List ℕ) (v : Verdict) → length U ≤ n → length l ≤ k → fits g m n k p U l v ≡ v
     fits-yes p U l v a b = simp (le-leb (length U) n a, le-leb (length l) k b)
 
-    fits-no : (p : ℕ) (U l : List ℕ) (v : Verdict) → (n < length U) ⊎ (k < length l) → fits g m n k p U l v ≡ short-at p
+    pub fits-no : (p : ℕ) (U l : List ℕ) (v : Verdict) → (n < length U) ⊎ (k < length l) → fits g m n k p U l v ≡ short-at p
     fits-no p U l v (inl a) = simp (lt-leb (length U) n a)
     fits-no p U l v (inr b) = go (leb (length U) n)
       where

@@ -55,7 +55,7 @@ module _ (g : Grammar) (t : Table) (D : Declared g) (M : Meets g t) where
       let o = source-of g t (M .form) (has-of g t h) in
       let w = moves-at g t k X β (o .1) (not-past g t M k q i (has-of g t h)) go in
       subst (λ (κ : Source). Held q κ zero c) (one-source g t (rule-item j r e) s refl)
-        (closure (held (o .1) h) (w .1) e l (subst (λ (b : List ℕ). First g b d c) (w .2) f))
+      (closure (held (o .1) h) (w .1) e l (subst (λ (b : List ℕ). First g b d c) (w .2) f))
 
   carried : {q k d : ℕ} {ι : Source} → Held q ι k d → (i : ℕ) × IsItem g t ι i × Carries g t (First g) q i k d
   carried (kernel h) = (h .item, h .is, in-kernel (h .line) (h .code))
@@ -79,9 +79,13 @@ module _ (g : Grammar) (t : Table) (D : Declared g) (M : Meets g t) where
   the-move q X i n m =
       let f = M .cells q .filled X (S 0) (to-move m) in
       let s = forget-next (f .0) (f .2) in
-      record
-        { action = f .0; state = s .0; line = f .1; next-is = s .1
-        ; goto-is = ap gotoState (action-is g t (M .form) q X (f .0) (f .1)) ∙ goto-next (f .0) (s .0) (s .1) }
+      record {
+        action = f .0;
+        state = s .0;
+        line = f .1;
+        next-is = s .1;
+        goto-is = ap gotoState (action-is g t (M .form) q X (f .0) (f .1)) ∙ goto-next (f .0) (s .0) (s .1);
+      }
 
   -- an item that moves, by number
   record Going (q : ℕ) (ι : Source) (k d X : ℕ) (β : List ℕ) : Type 0 where
@@ -104,7 +108,7 @@ module _ (g : Grammar) (t : Table) (D : Declared g) (M : Meets g t) where
       let m = o .move in
       let s = M .items q .move-has X (m .state) (o .item) (suc k) (m .action) (m .line) (m .next-is) (o .by) in
       let c = M .lookaheads (m .state) .of-move q X (o .item) k d (β ++ behind g (stringAt t) ι) (s .0) (m .action) (m .line) (m .next-is) (o .carries)
-                (goes-of g t k X β (o .is) e) (s .1) in
+      (goes-of g t k X β (o .is) e) (s .1) in
       subst (λ (p : ℕ). KernelCode g t p ι (suc k) d) (sym (m .goto-is)) (record { item = o .item; codes = s .0; is = o .is; line = s .1; code = c })
 
   shift-cell : (y : Action) (q a s : ℕ) → IsTerminal g a → ActionAt g t q a y → nextState y ≡ some s → cellOf g t (some y) ≡ shift s
@@ -149,14 +153,14 @@ module _ (g : Grammar) (t : Table) (D : Declared g) (M : Meets g t) where
       → (s : ℕ) × EntryAt g t e s (stringAt t e)
   announced-entry q b i es δs e εs h p =
       found-entry g t (M .form) (groupsOf (ruleAt g i)) (group-wanted i (ruleAt g i) refl) e
-        (subst (λ (l : List ℕ). In e l) (sym p ∙ announce-line g t q b i es h .1) (in-right δs here))
+      (subst (λ (l : List ℕ). In e l) (sym p ∙ announce-line g t q b i es h .1) (in-right δs here))
 
   entry-code : (e s c : ℕ) (γ : List ℕ) → EntryAt g t e s γ → ((σ : List ℕ) → KernelAt g t s (entryItem g t e) zero σ → In c σ)
       → KernelCode g t (u .enter e) (entry e) zero c
   entry-code e s c γ h has =
       let k = M .items s .entry-has e γ h in
       subst (λ (p : ℕ). KernelCode g t p (entry e) zero c) (sym (ap stateOf h))
-        (record { item = entryItem g t e; codes = k .0; is = entry-item e s γ h; line = k .1; code = has (k .0) (k .1) })
+      (record { item = entryItem g t e; codes = k .0; is = entry-item e s γ h; line = k .1; code = has (k .0) (k .1) })
 
   start : KernelCode g t (u .enter 1) (entry 1) zero zero
   start =
@@ -169,14 +173,21 @@ module _ (g : Grammar) (t : Table) (D : Declared g) (M : Meets g t) where
   group {q = q} {i = i} {d = d} {c = c} {r = r} b es δs e εs re h k p f =
       let x = announced-entry q b i es δs e εs k p in
       let y : r .groups ≡ map (stringAt t) δs ++ stringAt t e ∷ map (stringAt t) εs =
-            sym (ap groupsOf re) ∙ sym (group-strings i)
-            ∙ ap (map (stringAt t)) (sym (announce-line g t q b i es k .1) ∙ p) ∙ map-append (stringAt t) δs (e ∷ εs) in
+      sym (ap groupsOf re) ∙ sym (group-strings i)
+      ∙ ap (map (stringAt t)) (sym (announce-line g t q b i es k .1) ∙ p) ∙ map-append (stringAt t) δs (e ∷ εs) in
       entry-code e (x .0) c (stringAt t e) (x .1)
-        (λ σ l. M .lookaheads (x .0) .of-group e q i d c (stringAt t e) σ r (map (stringAt t) δs) (map (stringAt t) εs) (x .1) re y (rule-carried h) f l)
+      (λ σ l. M .lookaheads (x .0) .of-group e q i d c (stringAt t e) σ r (map (stringAt t) δs) (map (stringAt t) εs) (x .1) re y (rule-carried h) f l)
 
   pub complete : Complete g (stringAt t) (KernelCode g t) (automaton g t)
-  complete = record { goal-string = ap stringOf (M .entries .goal-first .1); start = start; moves = moves; shifts = shifts; announces = announces
-    ; group = λ {b = b} {es = es} δs e εs re h k p f. group b es δs e εs re h k p f; pops = pops }
+  complete = record {
+    goal-string = ap stringOf (M .entries .goal-first .1);
+    start = start;
+    moves = moves;
+    shifts = shifts;
+    announces = announces;
+    group = λ {b = b} {es = es} δs e εs re h k p f. group b es δs e εs re h k p f;
+    pops = pops;
+  }
 
   -- ---- and nothing else
 
@@ -198,10 +209,11 @@ module _ (g : Grammar) (t : Table) (D : Declared g) (M : Meets g t) where
   popped-by : {q c n : ℕ} → Asked g t (First g) q c (P n) → Popped g (stringAt t) (KernelCode g t) u q c n
   popped-by {q = q} {c = c} (to-pop e {s = s} {γ = γ} h k) =
       let f : γ ≡ stringAt t e = sym (ap stringOf h) in
-      record
-        { number = e
-        ; is = ap (λ (l : List ℕ). suc (length l)) f
-        ; holds = subst (λ (l : List ℕ). Held q (entry e) (length l) c) f (held (entry-item e s γ h) k) }
+      record {
+        number = e;
+        is = ap (λ (l : List ℕ). suc (length l)) f;
+        holds = subst (λ (l : List ℕ). Held q (entry e) (length l) c) f (held (entry-item e s γ h) k);
+      }
 
   module _ (R : AllProductive g) where
     moved-by : {q X i n : ℕ} {ι : Source} → IsItem g t ι i → MovedBy g t q X i n → Moved g (stringAt t) (KernelCode g t) u q X ι n
@@ -227,16 +239,25 @@ module _ (g : Grammar) (t : Table) (D : Declared g) (M : Meets g t) where
         let v = line-moves g t M q a s (S s) l refl in
         let o = moved-source (v .2) in
         let m = moved-by (o .1) (v .2) in
-        record { source = o .0; dot = m .dot; code = m .code; rest = m .rest; holds = m .holds; there = m .there; terminal = M .form .shift-kind q a s l
-               ; is = sym (ap gotoState (action-is g t (M .form) q a (S s) l)) }
+        record {
+          source = o .0;
+          dot = m .dot;
+          code = m .code;
+          rest = m .rest;
+          holds = m .holds;
+          there = m .there;
+          terminal = M .form .shift-kind q a s l;
+          is = sym (ap gotoState (action-is g t (M .form) q a (S s) l));
+        }
 
     pub exact : Exact g (stringAt t) (KernelCode g t) (automaton g t)
-    exact = record
-      { rich = λ i r e. string-derives g R (right r) (λ X m. D .right-kind i r X e m)
-      ; rich-goal = string-derives g R (g .goal ∷ []) (goal-declared g D)
-      ; state-number = λ {q} {ι} {k} {d} h. M .form .kernel-state q (h .item) k (h .codes) (h .line) .0
-      ; entered = entered
-      ; moved = came
-      ; shifted = shifted
-      ; announced = λ q c i es e. let l = announce-line g t q c i es e in announced-by es (l .1) (M .cells q .asked c (A i) (l .0))
-      ; popped = λ q c n e. popped-by (M .cells q .asked c (P n) (pop-line g t q c n e)) }
+    exact = record {
+      rich = λ i r e. string-derives g R (right r) (λ X m. D .right-kind i r X e m);
+      rich-goal = string-derives g R (g .goal ∷ []) (goal-declared g D);
+      state-number = λ {q} {ι} {k} {d} h. M .form .kernel-state q (h .item) k (h .codes) (h .line) .0;
+      entered = entered;
+      moved = came;
+      shifted = shifted;
+      announced = λ q c i es e. let l = announce-line g t q c i es e in announced-by es (l .1) (M .cells q .asked c (A i) (l .0));
+      popped = λ q c n e. popped-by (M .cells q .asked c (P n) (pop-line g t q c n e));
+    }

@@ -27,13 +27,13 @@ first-nil = record { forest = nil; derives = tt; begins = refl }
 
 first-++ : (g : Grammar) (F : Forest) (α β w : List ℕ) (d : ℕ) → IsForest g F α → First g β d (next w 0) → First g (α ++ β) d (next (yields F ++ w) 0)
 first-++ g F α β w d h f =
-    record
-      { forest = F ⧺ f .forest
-      ; derives = join g α β F (f .forest) h (f .derives)
-      ; begins =
+    record {
+      forest = F ⧺ f .forest;
+      derives = join g α β F (f .forest) h (f .derives);
+      begins =
           ap (λ (l : List ℕ). next l d) (yields-⧺ F (f .forest)) ∙ next-join (yields F) (yields (f .forest)) d
-          ∙ ap (next (yields F)) (f .begins) ∙ sym (next-join (yields F) w 0)
-      }
+          ∙ ap (next (yields F)) (f .begins) ∙ sym (next-join (yields F) w 0);
+    }
 
 module _ {g : Grammar} {string : ℕ → List ℕ} {Kernel : ℕ → Source → ℕ → ℕ → Type 0} {m : Automaton}
     (C : Complete g string Kernel m) (E : Exact g string Kernel m) where
@@ -57,10 +57,10 @@ module _ {g : Grammar} {string : ℕ → List ℕ} {Kernel : ℕ → Source → 
   unfolding Walks
   leaf-walks a X q ρ ι k d β w h hold e f =
       more
-        (ap (λ (x : Cell). act g m x (q ∷ ρ) a) (C .shifts hold (e ∙ ap (λ (Y : ℕ). Y ∷ β) (sym (h .0))) (h .1))
-        ∙ shift-on (m .goto q a) (q ∷ ρ) a (h .1 .0)
-        ∙ ap (λ (Y : ℕ). on (shifted a) (m .goto q Y ∷ q ∷ ρ)) (h .0))
-        stop
+      (ap (λ (x : Cell). act g m x (q ∷ ρ) a) (C .shifts hold (e ∙ ap (λ (Y : ℕ). Y ∷ β) (sym (h .0))) (h .1))
+      ∙ shift-on (m .goto q a) (q ∷ ρ) a (h .1 .0)
+      ∙ ap (λ (Y : ℕ). on (shifted a) (m .goto q Y ∷ q ∷ ρ)) (h .0))
+      stop
 
   pub forest-walks : (F : Forest) → All Walks F → (α γ : List ℕ) (q : ℕ) (ρ : List ℕ) (ι : Source) (k d : ℕ) (w : List ℕ) → IsForest g F α
       → Holds g string Kernel q ι k d → drop k (track g string ι) ≡ α ++ γ → First g (γ ++ behind g string ι) d (next w 0)
@@ -83,9 +83,9 @@ module _ {g : Grammar} {string : ℕ → List ℕ} {Kernel : ℕ → Source → 
       run-++ g m
       (forest-walks F a (string e) [] (m .enter e) (map (m .enter) εs ++ s ∷ ρ) (entry e) zero (next w 0) w h (kernel K) (sym (append-nil (string e))) first-nil)
       (more
-        (close-step g m (m .enter e) (string e) (map (m .enter) εs ++ s ∷ ρ) (next w 0) (C .pops (rw (far-zero (string e)) at held))
-        ∙ pop-groups g m εs s ρ (next w 0))
-        stop)
+      (close-step g m (m .enter e) (string e) (map (m .enter) εs ++ s ∷ ρ) (next w 0) (C .pops (rw (far-zero (string e)) at held))
+      ∙ pop-groups g m εs s ρ (next w 0))
+      stop)
     where
       held : Holds g string Kernel (last m (m .enter e) (string e)) (entry e) (far zero (string e)) (next w 0)
       held = walked (string e) [] (m .enter e) (entry e) zero (next w 0) (kernel K) (sym (append-nil (string e)))
@@ -101,11 +101,16 @@ module _ {g : Grammar} {string : ℕ → List ℕ} {Kernel : ℕ → Source → 
       let H = c .back in
       let all : All Walks (G ⧺ H) = rw (← c .cut) a in
       let K : Kernel (m .enter e) (entry e) zero (next (yields H ++ w) 0)
-            = C .group δs e εs er hold x u (record { forest = H; derives = c .back-is; begins = next-end (yields H) w d n }) in
-      rw ( c .cut, closings-cons g G H (string e) (map string εs) (c .front-is), yields-⧺ G H, append-assoc (yields G) (yields H) w
-         , ← append-snoc (flat (traces g G)) closed (closings (map string εs) (traces g H)))
+      = C .group δs e εs er hold x u (record { forest = H; derives = c .back-is; begins = next-end (yields H) w d n }) in
+      rw (
+        c .cut,
+        closings-cons g G H (string e) (map string εs) (c .front-is),
+        yields-⧺ G H,
+        append-assoc (yields G) (yields H) w,
+        ← append-snoc (flat (traces g G)) closed (closings (map string εs) (traces g H)),
+      )
       (run-++ g m (group-walks G (all-left Walks G H all) e εs s ρ (yields H ++ w) (c .front-is) K)
-        (groups-walk εs (δs ++ e ∷ []) H (all-right Walks G H all) p b i d r es s ρ w (c .back-is) er hold x (u ∙ sym (append-snoc δs e εs)) n))
+      (groups-walk εs (δs ++ e ∷ []) H (all-right Walks G H all) p b i d r es s ρ w (c .back-is) er hold x (u ∙ sym (append-snoc δs e εs)) n))
 
   -- a rule at its recognition point, d before w: it is announced, and its groups are walked
   pub rule-walks : (H : Forest) → All Walks H → (i : ℕ) (r : Rule) (q : ℕ) (ρ : List ℕ) (d : ℕ) (w : List ℕ)
@@ -117,10 +122,10 @@ module _ {g : Grammar} {string : ℕ → List ℕ} {Kernel : ℕ → Source → 
       let gs : map string (a₀ .0) ≡ r .groups = groups-are (a₀ .1) er in
       let h′ : IsForest g H (concat (map string (a₀ .0))) = rw gs h in
       more (announce-step g m i r (a₀ .0) q ρ (next (yields H ++ w) 0) er (a₀ .1))
-        (subst
-          (λ (l : List (List ℕ)). Run g m (map (m .enter) (a₀ .0) ++ m .goto q (r .left) ∷ q ∷ ρ) (yields H ++ w) (closings l (traces g H)) (m .goto q (r .left) ∷ q ∷ ρ) w)
-          gs
-          (groups-walk (a₀ .0) [] H a (last m q (r .before)) (next (yields H ++ w) 0) i d r (a₀ .0) (m .goto q (r .left)) (q ∷ ρ) w h′ er hold (a₀ .1) refl n))
+      (subst
+      (λ (l : List (List ℕ)). Run g m (map (m .enter) (a₀ .0) ++ m .goto q (r .left) ∷ q ∷ ρ) (yields H ++ w) (closings l (traces g H)) (m .goto q (r .left) ∷ q ∷ ρ) w)
+      gs
+      (groups-walk (a₀ .0) [] H a (last m q (r .before)) (next (yields H ++ w) 0) i d r (a₀ .0) (m .goto q (r .left)) (q ∷ ρ) w h′ er hold (a₀ .1) refl n))
 
   node-walks : (i : ℕ) (F : Forest) → All Walks F → Walks (node i F)
   unfolding Walks
@@ -133,14 +138,14 @@ module _ {g : Grammar} {string : ℕ → List ℕ} {Kernel : ℕ → Source → 
       let on-track : drop zero (track g string (rule i)) ≡ r .before ++ [] = ap beforeOf (h .1) ∙ sym (append-nil (r .before)) in
       let begun : Holds g string Kernel q (rule i) zero (next w 0) = closure hold e (h .1) (h .2) f in
       let front : Holds g string Kernel (last m q (r .before)) (rule i) (length (r .before)) (next w 0)
-            = rw (← far-zero (r .before)) (walked (r .before) [] q (rule i) zero (next w 0) begun on-track) in
+      = rw (← far-zero (r .before)) (walked (r .before) [] q (rule i) zero (next w 0) begun on-track) in
       let starts : First g (concat (r .groups)) (next w 0) (next (yields H ++ w) 0)
-            = record { forest = H; derives = c .back-is; begins = next-end (yields H) w (next w 0) refl } in
+      = record { forest = H; derives = c .back-is; begins = next-end (yields H) w (next w 0) refl } in
       let starts′ : First g (behind g string (rule i)) (next w 0) (next (yields H ++ w) 0) = rw (h .1) starts in
       rw (c .cut, trace-node g i r G H (h .1) (c .front-is), yields-⧺ G H, append-assoc (yields G) (yields H) w, ← h .2)
       (run-++ g m
-        (forest-walks G (all-left Walks G H all) (r .before) [] q ρ (rule i) zero (next w 0) (yields H ++ w) (c .front-is) begun on-track starts′)
-        (rule-walks H (all-right Walks G H all) i r q ρ (next w 0) w (c .back-is) (h .1) front refl))
+      (forest-walks G (all-left Walks G H all) (r .before) [] q ρ (rule i) zero (next w 0) (yields H ++ w) (c .front-is) begun on-track starts′)
+      (rule-walks H (all-right Walks G H all) i r q ρ (next w 0) w (c .back-is) (h .1) front refl))
 
   pub walks : (T : Tree) → Walks T
   walks = tree-ind Walks leaf-walks node-walks

@@ -60,9 +60,9 @@ wrong-place g u [] w e b n =
     at-end (ap length f) (subst (BeginsSentence g) f b) (λ s. n (subst (Sentence g) (sym f) s))
 wrong-place g u (a ∷ x) w e b n =
     at-token
-      (omega (arith, ap length e, length-append u (a ∷ x)))
-      (subst (BeginsSentence g) (sym (take-append-seam u (a ∷ x)) ∙ ap (take (length u)) e) b)
-      (λ z. n (subst (BeginsSentence g) upto z))
+    (omega (arith, ap length e, length-append u (a ∷ x)))
+    (subst (BeginsSentence g) (sym (take-append-seam u (a ∷ x)) ∙ ap (take (length u)) e) b)
+    (λ z. n (subst (BeginsSentence g) upto z))
   where
     upto : take (suc (length u)) w ≡ u ++ a ∷ []
     upto =
@@ -108,26 +108,32 @@ module _ {g : Grammar} {string : ℕ → List ℕ} {Kernel : ℕ → Source → 
   settled : (w : List ℕ) → Settled C E w → Correct g m w
   settled w (is-whole τ U r h s) =
       let x = walk-from g m r zero (ends-whole h) in
-      record
-        { ending = accepted; stackNeed = x .0; listed = listed τ; ends = x .1
-        ; whole-exactly = record { to = λ e. s; from = λ z. refl }
-        ; one-derivation = one w
-        ; its-listing = lists w r h
-        ; wrong-exactly = λ p. record { to = λ e. failed-accepted (sym e); from = λ z. absurd (not-sentence z s) }
-        ; safe = safe-within w
-        }
+      record {
+        ending = accepted;
+        stackNeed = x .0;
+        listed = listed τ;
+        ends = x .1;
+        whole-exactly = record { to = λ e. s; from = λ z. refl };
+        one-derivation = one w;
+        its-listing = lists w r h;
+        wrong-exactly = λ p. record { to = λ e. failed-accepted (sym e); from = λ z. absurd (not-sentence z s) };
+        safe = safe-within w;
+      }
   settled w (is-wrong u y τ U parts r h b none) =
       let x = walk-from g m r zero (ends-wrong h) in
       let place : takenBy τ zero ≡ length u = omega (arith, run-counts r [] base zero, ap length parts, length-append u y) in
       let at-place : WrongAt g w (takenBy τ zero) = rw place (wrong-place g u y w parts b none) in
-      record
-        { ending = failed (takenBy τ zero); stackNeed = x .0; listed = listed τ; ends = x .1
-        ; whole-exactly = record { to = λ e. failed-accepted e; from = λ s. absurd (not-sentence at-place s) }
-        ; one-derivation = one w
-        ; its-listing = λ T t e. absurd (not-sentence at-place (record { tree = T; derives = t; yields-it = e }))
-        ; wrong-exactly = λ p. record { to = λ e. subst (WrongAt g w) (same-place e) at-place; from = λ z. ap failed (one-place at-place z) }
-        ; safe = safe-within w
-        }
+      record {
+        ending = failed (takenBy τ zero);
+        stackNeed = x .0;
+        listed = listed τ;
+        ends = x .1;
+        whole-exactly = record { to = λ e. failed-accepted e; from = λ s. absurd (not-sentence at-place s) };
+        one-derivation = one w;
+        its-listing = λ T t e. absurd (not-sentence at-place (record { tree = T; derives = t; yields-it = e }));
+        wrong-exactly = λ p. record { to = λ e. subst (WrongAt g w) (same-place e) at-place; from = λ z. ap failed (one-place at-place z) };
+        safe = safe-within w;
+      }
 
   pub correct : (w : List ℕ) → ((a : ℕ) → In a w → IsTerminal g a) → Correct g m w
   correct w t = settled w (settle C E w (λ a i. t a i .0))

@@ -19,16 +19,16 @@ demand3 g t D R M w tokens =
     let C = complete g t D M in
     let E = exact g t D M R in
     let c = correct C E w tokens in
-    record
-      { ending = c .ending
-      ; stackNeed = c .stackNeed
-      ; listed = c .listed
-      ; ends = c .ends
-      ; enough = enough g (automaton g t) (pops-some C E) (c .ends) (λ a i. tokens a i .0)
-      ; short = short g (automaton g t) (pops-some C E) (c .ends)
-      ; whole-exactly = c .whole-exactly
-      ; one-derivation = c .one-derivation
-      ; its-listing = c .its-listing
-      ; wrong-exactly = c .wrong-exactly
-      ; safe = c .safe
-      }
+    record {
+      ending = c .ending;
+      stackNeed = c .stackNeed;
+      listed = c .listed;
+      ends = c .ends;
+      enough = enough g (automaton g t) (pops-some C E) (c .ends) (λ a i. tokens a i .0);
+      short = short g (automaton g t) (pops-some C E) (c .ends);
+      whole-exactly = c .whole-exactly;
+      one-derivation = c .one-derivation;
+      its-listing = c .its-listing;
+      wrong-exactly = c .wrong-exactly;
+      safe = c .safe;
+    }

@@ -53,8 +53,8 @@ module _ {g : Grammar} {string : ℕ → List ℕ} {Kernel : ℕ → Source → 
       → length (take n γ) ≡ n → p ∷ S ≡ gotos m b (take n γ) U → Holds g string Kernel (last m b γ) ι (length γ) d
   held-end ι γ t n d p S b U hold long st =
       subst (λ (q : ℕ). Holds g string Kernel q ι (length γ) d) (last-++ m (take n γ) (drop n γ) b p S U st ∙ ap (last m b) (take-append-drop n γ))
-        (subst (λ (k : ℕ). Holds g string Kernel (last m p (drop n γ)) ι k d) (far-drop n γ long)
-          (walked C E (drop n γ) [] p ι n d hold (ap (drop n) t ∙ sym (append-nil (drop n γ)))))
+      (subst (λ (k : ℕ). Holds g string Kernel (last m p (drop n γ)) ι k d) (far-drop n γ long)
+      (walked C E (drop n γ) [] p ι n d hold (ap (drop n) t ∙ sym (append-nil (drop n γ)))))
 
   -- and the walk over what its track has ahead does so
   pub track-run : (ι : Source) (γ : List ℕ) → track g string ι ≡ γ → (n d p : ℕ) (S : List ℕ) (b : ℕ) (U : List ℕ) (F : Forest) (w : List ℕ)
@@ -62,30 +62,36 @@ module _ {g : Grammar} {string : ℕ → List ℕ} {Kernel : ℕ → Source → 
       → Run g m (p ∷ S) (yields F ++ w) (flat (traces g F)) (gotos m b γ U) w
   track-run ι γ t n d p S b U F w hold st hF f =
       subst (λ (l : List ℕ). Run g m (p ∷ S) (yields F ++ w) (flat (traces g F)) l w)
-        (gotos-++ m (take n γ) (drop n γ) b p S U st ∙ ap (λ (l : List ℕ). gotos m b l U) (take-append-drop n γ))
-        (forest-walks C E F (walks-all C E F) (drop n γ) [] p S ι n d w hF hold (ap (drop n) t ∙ sym (append-nil (drop n γ))) f)
+      (gotos-++ m (take n γ) (drop n γ) b p S U st ∙ ap (λ (l : List ℕ). gotos m b l U) (take-append-drop n γ))
+      (forest-walks C E F (walks-all C E F) (drop n γ) [] p S ι n d w hF hold (ap (drop n) t ∙ sym (append-nil (drop n γ))) f)
 
   -- a rule's item is finished: the walk comes to the N state above the item's beginning
   pub rule-run : (n i d : ℕ) (r : Rule) (p : ℕ) (S : List ℕ) (b : ℕ) (U : List ℕ) (F : Forest) → ruleAt g i ≡ some r
       → Holds g string Kernel p (rule i) n d → length (take n (r .before)) ≡ n → p ∷ S ≡ gotos m b (take n (r .before)) U
       → IsForest g F (drop n (r .before) ++ concat (r .groups))
       → (τ : List Event) × Run g m (p ∷ S) (yields F ++ d ∷ []) τ (m .goto b (r .left) ∷ b ∷ U) (d ∷ [])
-  rule-run n i d r p S b U F er hold long st hF =
-      ( τ
-      , subst (λ (l : List ℕ). Run g m (p ∷ S) l τ (m .goto b (r .left) ∷ b ∷ U) (d ∷ [])) yield-is
-          (run-++ g m
-            (track-run (rule i) (r .before) (ap beforeOf er) n d p S b U G (yields H ++ d ∷ []) hold st (s .front-is) (rw er starts))
-            (rule-walks C E H (walks-all C E H) i r b U d (d ∷ []) (s .back-is) er (held-end (rule i) (r .before) (ap beforeOf er) n d p S b U hold long st) refl)) )
+  rule-run n i d r p S b U F er hold long st hF = (
+    τ,
+    subst (λ (l : List ℕ). Run g m (p ∷ S) l τ (m .goto b (r .left) ∷ b ∷ U) (d ∷ [])) yield-is
+        (run-++ g m
+        (track-run (rule i) (r .before) (ap beforeOf er) n d p S b U G (yields H ++ d ∷ []) hold st (s .front-is) (rw er starts))
+        (rule-walks C E H (walks-all C E H) i r b U d (d ∷ []) (s .back-is) er (held-end (rule i) (r .before) (ap beforeOf er) n d p S b U hold long st) refl)),
+  )
     where
       s : Split g (drop n (r .before)) (concat (r .groups)) F
       s = split g (drop n (r .before)) (concat (r .groups)) F hF
+
       G : Forest
       G = s .front
+
       H : Forest
       H = s .back
+
       τ : List Event
       τ = flat (traces g G) ++ announced i ∷ closings (r .groups) (traces g H)
+
       yield-is : yields G ++ (yields H ++ d ∷ []) ≡ yields F ++ d ∷ []
       yield-is = sym (append-assoc (yields G) (yields H) (d ∷ [])) ∙ ap (λ (l : List ℕ). l ++ d ∷ []) (sym (yields-⧺ G H) ∙ ap yields (sym (s .cut)))
+
       starts : First g (concat (r .groups)) d (next (yields H ++ d ∷ []) 0)
       starts = record { forest = H; derives = s .back-is; begins = next-end (yields H) (d ∷ []) d refl }

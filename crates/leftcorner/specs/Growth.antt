@@ -75,10 +75,12 @@ module _ (g : Grammar) where
       → (W : Tree) × IsTree g W (r .left) × (yield W ≡ yield M) × (size M < size W)
   unfolding Grows
   grown i r Z a X G M h =
-      let x = G M h in
-      ( node i (cons (x .0) (a .forest)), (r, a .is, refl, rw (a .right-is) (x .1, a .forest-is))
-      , ap (λ (l : List ℕ). yield (x .0) ++ l) (a .silent) ∙ append-nil (yield (x .0)) ∙ x .2
-      , omega (arith, x .3) )
+      let x = G M h in (
+        node i (cons (x .0) (a .forest)),
+        (r, a .is, refl, rw (a .right-is) (x .1, a .forest-is)),
+        ap (λ (l : List ℕ). yield (x .0) ++ l) (a .silent) ∙ append-nil (yield (x .0)) ∙ x .2,
+        omega (arith, x .3),
+      )
 
   -- every left side is one that the chain may still come to, or one whose trees have grown into Z's
   pub Chain : ℕ → List ℕ → Type 0
@@ -95,6 +97,7 @@ module _ (g : Grammar) where
       now : (Y ≡ r .left) ⊎ In Y (without k) → In Y (without k) ⊎ Grows Y (r .left)
       now (inl x) = inr (subst (λ (X : ℕ). Grows Y X) x (grows-refl Y))
       now (inr x) = inl x
+
       pick : In Y l ⊎ Grows Y Z → In Y (without k) ⊎ Grows Y (r .left)
       pick (inl x) = now (in-without k x)
       pick (inr x) = inr (λ N hN. let o = grown i r Z a Y x N hN in (o .0, o .1, o .2, omega (arith, o .3)))
@@ -113,8 +116,8 @@ module _ {g : Grammar} {string : ℕ → List ℕ} {Kernel : ℕ → Source → 
       let a = F .fits (cons M (R .0)) iM in
       let c = F .fits (cons W (R .0)) iW in
       let same : a .tree ≡ c .tree
-            = one-derivation C E (a .tree) (c .tree) (a .derives) (c .derives)
-                (a .yields-it ∙ ap (λ (l : List ℕ). v ++ ((l ++ yields (R .0)) ++ F .tail)) (sym y) ∙ sym (c .yields-it)) in
+      = one-derivation C E (a .tree) (c .tree) (a .derives) (c .derives)
+      (a .yields-it ∙ ap (λ (l : List ℕ). v ++ ((l ++ yields (R .0)) ++ F .tail)) (sym y) ∙ sym (c .yields-it)) in
       omega (arith, lt, ap size same, F .weighs (cons M (R .0)) iM, F .weighs (cons W (R .0)) iW)
 
   -- so a chain at Z that goes on by rule i, whose left side b expects, comes to a left side that it had not met

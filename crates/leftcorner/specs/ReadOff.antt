@@ -152,4 +152,4 @@ module _ (g : Grammar) (t : Table) where
     found-strings (γ ∷ γs) all =
         let k = all γ here in
         ap₂ (λ (δ : List ℕ) (δs : List (List ℕ)). δ ∷ δs) (ap (stringAt t) (entry-is (k .0) (k .1) γ (k .2)) ∙ ap stringOf (k .2))
-          (found-strings γs (λ δ m. all δ (there m)))
+        (found-strings γs (λ δ m. all δ (there m)))

@@ -61,7 +61,7 @@ module _ {g : Grammar} {string : ℕ → List ℕ} {Kernel : ℕ → Source → 
     rises p S K ι k d (kernel h) F hF e = K ι k d h F hF e
     rises p S K ι k d (closure {ι = κ} {k = n} {d = a} {X = X} {β = β} {i = i} {r = r} hold x er el f) F hF e =
         rises p S K κ n a hold (cons (node i F) (f .forest)) (rw (ahead-at C E κ n X β x) ((r, er, el, rw (ahead-rule C E i r er) at hF), f .derives))
-          (next-join (yields F) (yields (f .forest)) a ∙ ap (next (yields F)) (f .begins) ∙ e)
+        (next-join (yields F) (yields (f .forest)) a ∙ ap (next (yields F)) (f .begins) ∙ e)
 
     -- a state rests if its kernel items do
     state-rests : (p : ℕ) (S : List ℕ) → Kernels p S → Rests g m c (p ∷ S)
@@ -71,11 +71,13 @@ module _ {g : Grammar} {string : ℕ → List ℕ} {Kernel : ℕ → Source → 
         by-announce i es a =
             let r = a .rule-of in
             let f : ahead C E (rule i) (length (r .before)) ≡ concat (r .groups)
-                  = ap (λ (o : Option Rule). drop (length (r .before)) (beforeOf o) ++ afterOf o) (a .is)
-                  ∙ ap (λ (l : List ℕ). l ++ concat (r .groups)) (drop-length (r .before)) in
+            = ap (λ (o : Option Rule). drop (length (r .before)) (beforeOf o) ++ afterOf o) (a .is)
+            ∙ ap (λ (l : List ℕ). l ++ concat (r .groups)) (drop-length (r .before)) in
             rises p S K (rule i) (length (r .before)) (a .code) (a .holds) (a .first .forest) (rw f (a .first .derives)) (a .first .begins)
+
         by-pop : (n : ℕ) → Popped g string Kernel m p c n → Rests g m c (p ∷ S)
         by-pop n x = rises p S K (entry (x .number)) (length (string (x .number))) c (x .holds) nil (rw (drop-length (string (x .number))) tt) refl
+
         go : (x : Cell) → m .cell p c ≡ x → Rests g m c (p ∷ S)
         go (shift s) k = at-shift (ap (λ (y : Cell). act g m y (p ∷ S) c) k ∙ shift-on s (p ∷ S) c (E .shifted p c s k .terminal .0))
         go (announce i es) k = by-announce i es (E .announced p c i es k)
@@ -99,28 +101,36 @@ module _ {g : Grammar} {string : ℕ → List ℕ} {Kernel : ℕ → Source → 
     unfolding Shorter
     entry-rests h ih p S u s le e n d K F hF x =
         run-rests g m (track-run C E (entry e) γ refl n d p S b U F (d ∷ []) (kernel K) (o .stack-is) hF′ first-nil) c
-          (sym (next-end (yields F) (d ∷ []) d refl) ∙ x)
-          (λ y. pick (popped (nothing-read (yields F) d y)) (closing C E b U (o .read) (o .stack) e (o .code) (held-entry C E (o .holds)) (o .trees ⧺ F) trees-are))
+        (sym (next-end (yields F) (d ∷ []) d refl) ∙ x)
+        (λ y. pick (popped (nothing-read (yields F) d y)) (closing C E b U (o .read) (o .stack) e (o .code) (held-entry C E (o .holds)) (o .trees ⧺ F) trees-are))
       where
         γ : List ℕ
         γ = string e
+
         o : Base C E (entry e) n (p ∷ S) u
         o = back C E n p S u s (entry e) d (kernel K)
+
         b : ℕ
         b = o .bottom
+
         U : List ℕ
         U = o .under
+
         hF′ : IsForest g F (drop n γ)
         hF′ = rw (append-nil (drop n γ)) at hF
+
         popped : yields F ≡ [] → step g m (gotos m b γ U) c ≡ popTo U c
         popped y =
             close-step g m b γ U c
-              (subst (λ (a : ℕ). m .cell (last m b γ) a ≡ pop (suc (length γ))) (ap (λ (l : List ℕ). next l d) (sym y) ∙ x)
-                (C .pops (held-end C E (entry e) γ refl n d p S b U (kernel K) (o .long) (o .stack-is))))
+            (subst (λ (a : ℕ). m .cell (last m b γ) a ≡ pop (suc (length γ))) (ap (λ (l : List ℕ). next l d) (sym y) ∙ x)
+            (C .pops (held-end C E (entry e) γ refl n d p S b U (kernel K) (o .long) (o .stack-is))))
+
         trees-are : IsForest g (o .trees ⧺ F) γ
         trees-are = rw (take-append-drop n γ) at (join g (take n γ) (drop n γ) (o .trees) F (o .trees-are) hF′)
+
         short : length U ≤ h
         short = omega (arith, le, ap length (o .stack-is), gotos-length m b (take n γ) U)
+
         pick : step g m (gotos m b γ U) c ≡ popTo U c
             → Leaves C E U ((o .read ≡ []) × (e ≡ 1)) (o .read ++ yields (o .trees ⧺ F)) → Rests g m c (gotos m b γ U)
         pick z (inl y) = bottom-rests (gotos m b γ U) (z ∙ ap (λ (l : List ℕ). popTo l c) (y .0))
@@ -151,40 +161,52 @@ module _ {g : Grammar} {string : ℕ → List ℕ} {Kernel : ℕ → Source → 
       where
         y : Moved g string Kernel m b Z (rule i) n
         y = E .moved (ex .holds) (ex .there) (rule i) n d K
+
         found : (r : Rule) × (ruleAt g i ≡ some r)
         found = is-rule i (y .dot) Z (y .rest) (y .there)
+
         r : Rule
         r = found .0
+
         er : ruleAt g i ≡ some r
         er = found .1
+
         st : Stack C E (m .goto b Z ∷ b ∷ U) (v ++ yield M)
         st = push s ex M hM
+
         is-ahead : (k : ℕ) → n ≡ k → IsForest g F (drop k (r .before) ++ concat (r .groups))
         is-ahead k z = subst (λ (l : List ℕ). IsForest g F l) (ap₂ (λ (o : Option Rule) (a : ℕ). drop a (beforeOf o) ++ afterOf o) er z) hF
+
         at-dot : (k : ℕ) → n ≡ k → Kernel (m .goto b Z) (rule i) k d
         at-dot k z = subst (λ (a : ℕ). Kernel (m .goto b Z) (rule i) a d) z K
+
         by-dot : (k : ℕ) → n ≡ suc k → Holds g string Kernel b (rule i) k (y .code)
             → drop k (track g string (rule i)) ≡ Z ∷ y .rest → Rests g m c (m .goto b Z ∷ b ∷ U)
         by-dot zero is hold th =
             let f : r .before ≡ Z ∷ y .rest = ap beforeOf (sym er) ∙ th in
             let a = one-taken (r .before) Z (y .rest) f in
             rule-rests (m .goto b Z) (b ∷ U) (v ++ yield M) st 1 i d r b U F er (at-dot 1 is) (ap length (a .0))
-              (ap (λ (l : List ℕ). gotos m b l U) (sym (a .0))) (is-ahead 1 is) x
-              (λ nul v′ s′. up i r
-                (record
-                  { is = er; rest = y .rest ++ concat (r .groups); right-is = ap (λ (l : List ℕ). l ++ concat (r .groups)) f; forest = F
-                  ; forest-is = subst (λ (l : List ℕ). IsForest g F (l ++ concat (r .groups))) (a .1) (is-ahead 1 is); silent = nul })
-                (y .code) hold)
+            (ap (λ (l : List ℕ). gotos m b l U) (sym (a .0))) (is-ahead 1 is) x
+            (λ nul v′ s′. up i r
+            (record {
+              is = er;
+              rest = y .rest ++ concat (r .groups);
+              right-is = ap (λ (l : List ℕ). l ++ concat (r .groups)) f;
+              forest = F;
+              forest-is = subst (λ (l : List ℕ). IsForest g F (l ++ concat (r .groups))) (a .1) (is-ahead 1 is);
+              silent = nul;
+            })
+            (y .code) hold)
         by-dot (suc k) is hold th =
             let o = back C E (suc (suc k)) (m .goto b Z) (b ∷ U) (v ++ yield M) st (rule i) d (kernel (at-dot (suc (suc k)) is)) in
             let f : track g string (rule i) ≡ r .before = ap beforeOf er in
             let long : length (take (suc (suc k)) (r .before)) ≡ suc (suc k) = rw f at (o .long) in
             let stk : m .goto b Z ∷ b ∷ U ≡ gotos m (o .bottom) (take (suc (suc k)) (r .before)) (o .under)
-                  = subst (λ (l : List ℕ). m .goto b Z ∷ b ∷ U ≡ gotos m (o .bottom) (take (suc (suc k)) l) (o .under)) f (o .stack-is) in
+            = subst (λ (l : List ℕ). m .goto b Z ∷ b ∷ U ≡ gotos m (o .bottom) (take (suc (suc k)) l) (o .under)) f (o .stack-is) in
             rule-rests (m .goto b Z) (b ∷ U) (v ++ yield M) st (suc (suc k)) i d r (o .bottom) (o .under) F er (at-dot (suc (suc k)) is) long stk
-              (is-ahead (suc (suc k)) is) x
-              (λ nul v′ s′. ih (m .goto (o .bottom) (r .left) ∷ o .bottom ∷ o .under) v′ s′
-                (omega (arith, le, long, ap length stk, gotos-length m (o .bottom) (take (suc (suc k)) (r .before)) (o .under))))
+            (is-ahead (suc (suc k)) is) x
+            (λ nul v′ s′. ih (m .goto (o .bottom) (r .left) ∷ o .bottom ∷ o .under) v′ s′
+            (omega (arith, le, long, ap length stk, gotos-length m (o .bottom) (take (suc (suc k)) (r .before)) (o .under))))
 
     -- ---- a chain of rules that add no token: each new left side is one not yet met
 
@@ -194,10 +216,10 @@ module _ {g : Grammar} {string : ℕ → List ℕ} {Kernel : ℕ → Source → 
         → Rests g m c (m .goto b Z ∷ b ∷ U)
     climbs h ih b U v Z s ex M hM le l inv again =
         state-rests (m .goto b Z) (b ∷ U) (push-kernels h ih b U v Z s ex M hM le
-          (λ i r a d hold.
-            let p = parent C E b U v s i d r (a .is) hold in
-            let o = onward C E b U v Z l s inv i r a p in
-            again (r .left) p (node i (cons M (a .forest))) (r, a .is, refl, rw (a .right-is) (hM, a .forest-is)) (o .0) (o .1)))
+        (λ i r a d hold.
+        let p = parent C E b U v s i d r (a .is) hold in
+        let o = onward C E b U v Z l s inv i r a p in
+        again (r .left) p (node i (cons M (a .forest))) (r, a .is, refl, rw (a .right-is) (hM, a .forest-is)) (o .0) (o .1)))
 
     chain : (n h : ℕ) → Shorter h → (b : ℕ) (U v : List ℕ) (Z : ℕ) → Stack C E (b ∷ U) v → Expects C E b Z → (M : Tree) → IsTree g M Z → length (b ∷ U) ≤ h
         → (l : List ℕ) → length l ≤ n → Chain g Z l → Rests g m c (m .goto b Z ∷ b ∷ U)
@@ -222,7 +244,7 @@ module _ {g : Grammar} {string : ℕ → List ℕ} {Kernel : ℕ → Source → 
         chain (length (lefts (g .rules))) h ih b U v Z s ex M hM (omega (arith, le)) (lefts (g .rules)) (omega arith) (chain-start g Z)
     taller h ih S u (pend {q = b} {S = U} {u = v} s o δs e εs en D hD) le =
         entered-rests h ih e (map (m .enter) εs ++ m .goto b (o .rule-of .left) ∷ b ∷ U) (v ++ (yields (o .trees) ++ yields D))
-          (used C E o δs e εs en) (pend s o δs e εs en D hD) le
+        (used C E o δs e εs en) (pend s o δs e εs en D hD) le
 
     shorter : (h : ℕ) → Shorter h
     unfolding Shorter

@@ -41,8 +41,10 @@ module _ {g : Grammar} {string : ℕ → List ℕ} {Kernel : ℕ → Source → 
     where
       e : Ended C E S u
       e = ending C E S u s
+
       full : Run g m (start g m) (u ++ []) (R .events ++ e .events) (e .last) []
       full = run-++ g m (R .runs []) (e .runs)
+
       go : ((step g m (e .last) 0 ≡ whole) × Sentence g u) ⊎ (step g m (e .last) 0 ≡ wrong) → Settled (u ++ [])
       go (inl h) = is-whole (R .events ++ e .events) (e .last) full (h .0) (sentence-at (sym (append-nil u)) (h .1))
       go (inr h) = is-wrong u [] (R .events ++ e .events) (e .last) refl full h b (λ z. not-both (u ++ []) full h (sentence-at (sym (append-nil u)) z))
@@ -54,15 +56,16 @@ module _ {g : Grammar} {string : ℕ → List ℕ} {Kernel : ℕ → Source → 
           → Settled (u ++ a ∷ x)
       go (inl z) rec =
           subst Settled (append-assoc u (a ∷ []) x)
-            (rec (z .after) (z .stack) (z .begins)
-              (record
-                { events = R .events ++ z .events
-                ; runs = λ y. subst (λ (l : List ℕ). Run g m (start g m) l (R .events ++ z .events) (z .after) y) (sym (append-assoc u (a ∷ []) y))
-                    (run-++ g m (R .runs (a ∷ y)) (z .runs y)) }))
+          (rec (z .after) (z .stack) (z .begins)
+          (record {
+            events = R .events ++ z .events;
+            runs = λ y. subst (λ (l : List ℕ). Run g m (start g m) l (R .events ++ z .events) (z .after) y) (sym (append-assoc u (a ∷ []) y))
+                (run-++ g m (R .runs (a ∷ y)) (z .runs y));
+          }))
       go (inr z) rec =
           is-wrong u (a ∷ x) (R .events ++ z .events) (z .last) refl (run-++ g m (R .runs (a ∷ x)) (z .runs x)) (z .is-wrong) b
-            (λ v. not-both (u ++ a ∷ v .remainder) (run-++ g m (R .runs (a ∷ v .remainder)) (z .runs (v .remainder))) (z .is-wrong)
-              (sentence-at (append-assoc u (a ∷ []) (v .remainder)) (v .sentence)))
+          (λ v. not-both (u ++ a ∷ v .remainder) (run-++ g m (R .runs (a ∷ v .remainder)) (z .runs (v .remainder))) (z .is-wrong)
+          (sentence-at (append-assoc u (a ∷ []) (v .remainder)) (v .sentence)))
 
   begins-nothing : BeginsSentence g []
   begins-nothing =

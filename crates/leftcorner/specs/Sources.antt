@@ -96,12 +96,14 @@ module _ (g : Grammar) (t : Table) where
   pub goes-of : {ι : Source} {i : ℕ} (k X : ℕ) (α : List ℕ) → IsItem ι i → drop k (track g (stringAt t) ι) ≡ X ∷ α → Goes g t i k X (α ++ behind g (stringAt t) ι)
   goes-of k X α (rule-item i r e) h =
       let j = drop-join k (r .before) (concat (r .groups)) X α (subst (λ (o : Option Rule). drop k (beforeOf o) ≡ X ∷ α) e h) in
-      record
-        { before = ap (drop k) (symbols-rule i r e) ∙ j .1 ∙ ap (λ (o : Option Rule). X ∷ (α ++ afterOf o)) (sym e)
-        ; unmarked = λ m. let f : some (length (r .before)) ≡ some k = sym (point-rule i r e) ∙ m in let l : length (r .before) ≡ k = cc in omega (arith, j .0, l) }
-  goes-of k X α (entry-item e s γ a) h = record
-    { before = ap (drop k) (symbols-entry e s γ a) ∙ h ∙ ap (λ (l : List ℕ). X ∷ l) (sym (append-nil α))
-    ; unmarked = λ m. let f : none ≡ some k = sym (point-entry e s γ a) ∙ m in clash cc }
+      record {
+        before = ap (drop k) (symbols-rule i r e) ∙ j .1 ∙ ap (λ (o : Option Rule). X ∷ (α ++ afterOf o)) (sym e);
+        unmarked = λ m. let f : some (length (r .before)) ≡ some k = sym (point-rule i r e) ∙ m in let l : length (r .before) ≡ k = cc in omega (arith, j .0, l);
+      }
+  goes-of k X α (entry-item e s γ a) h = record {
+    before = ap (drop k) (symbols-entry e s γ a) ∙ h ∙ ap (λ (l : List ℕ). X ∷ l) (sym (append-nil α));
+    unmarked = λ m. let f : none ≡ some k = sym (point-entry e s γ a) ∙ m in clash cc;
+  }
 
   -- where the dot is not past the recognition point
   pub moves-at : {ι : Source} {i : ℕ} (k X : ℕ) (β : List ℕ) → IsItem ι i → ((m : ℕ) → recognitionPoint g t i ≡ some m → k ≤ m) → Goes g t i k X β

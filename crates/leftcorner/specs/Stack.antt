@@ -98,31 +98,31 @@ module _ {g : Grammar} {string : ℕ → List ℕ} {Kernel : ℕ → Source → 
   live-closure u q K ι k d (closure {ι = κ} {k = n} {d = c} {X = X} {β = β} {i = i} {r = r} hold e er el f) =
       let F = live-closure u q K κ n c hold in
       let R = E .rich i r er in
-      record
-        { tail = yields (f .forest) ++ F .tail
-        ; rest = R .0
-        ; rest-is = rw (ahead-rule i r er) (R .1)
-        ; fits = λ G hG. sentence-at
+      record {
+        tail = yields (f .forest) ++ F .tail;
+        rest = R .0;
+        rest-is = rw (ahead-rule i r er) (R .1);
+        fits = λ G hG. sentence-at
             (ap (λ (l : List ℕ). u ++ l) (append-assoc (yields G) (yields (f .forest)) (F .tail)))
-            (F .fits (cons (node i G) (f .forest)) (rw (ahead-at κ n X β e) ((r, er, el, rw (ahead-rule i r er) at hG), f .derives)))
-        ; weight = suc (sizes (f .forest) + F .weight)
-        ; weighs = λ G hG. omega (arith, F .weighs (cons (node i G) (f .forest)) (rw (ahead-at κ n X β e) ((r, er, el, rw (ahead-rule i r er) at hG), f .derives)))
-        }
+            (F .fits (cons (node i G) (f .forest)) (rw (ahead-at κ n X β e) ((r, er, el, rw (ahead-rule i r er) at hG), f .derives)));
+        weight = suc (sizes (f .forest) + F .weight);
+        weighs = λ G hG. omega (arith, F .weighs (cons (node i G) (f .forest)) (rw (ahead-at κ n X β e) ((r, er, el, rw (ahead-rule i r er) at hG), f .derives)));
+      }
 
   live-base : (ι : Source) (k d : ℕ) → Kernel (m .enter 1) ι k d → Fits [] ι k
   live-base ι k d h =
       let en = E .entered 1 goal-entry ι k d h in
       rw (en .0, en .1)
-      (record
-        { tail = []
-        ; rest = E .rich-goal .0
-        ; rest-is = rw (C .goal-string) (E .rich-goal .1)
-        ; fits = λ G hG.
+      (record {
+        tail = [];
+        rest = E .rich-goal .0;
+        rest-is = rw (C .goal-string) (E .rich-goal .1);
+        fits = λ G hG.
             let o = one-tree g G (g .goal) (rw (C .goal-string) at hG) in
-            record { tree = o .tree; derives = o .is; yields-it = sym (append-nil (yields G) ∙ o .yield-is) }
-        ; weight = 0
-        ; weighs = λ G hG. omega (arith, one-tree g G (g .goal) (rw (C .goal-string) at hG) .size-is)
-        })
+            record { tree = o .tree; derives = o .is; yields-it = sym (append-nil (yields G) ∙ o .yield-is) };
+        weight = 0;
+        weighs = λ G hG. omega (arith, one-tree g G (g .goal) (rw (C .goal-string) at hG) .size-is);
+      })
 
   live-push : (u : List ℕ) (q X : ℕ) (T : Tree) → IsTree g T X → Live u q → (ι : Source) (n : ℕ) → Moved g string Kernel m q X ι n → Fits (u ++ yield T) ι n
   live-push u q X T hT L ι n v =
@@ -131,14 +131,14 @@ module _ {g : Grammar} {string : ℕ → List ℕ} {Kernel : ℕ → Source → 
       let later = ahead-next ι (v .dot) X (v .rest) (v .there) in
       let R = but-first g (F .rest) X (v .rest ++ behind g string ι) (rw here at (F .rest-is)) in
       rw (v .is)
-      (record
-        { tail = F .tail
-        ; rest = R .0
-        ; rest-is = rw later (R .1)
-        ; fits = λ G hG. sentence-at (simp append-assoc) (F .fits (cons T G) (rw here (hT, rw later at hG)))
-        ; weight = size T + F .weight
-        ; weighs = λ G hG. omega (arith, F .weighs (cons T G) (rw here (hT, rw later at hG)))
-        })
+      (record {
+        tail = F .tail;
+        rest = R .0;
+        rest-is = rw later (R .1);
+        fits = λ G hG. sentence-at (simp append-assoc) (F .fits (cons T G) (rw here (hT, rw later at hG)));
+        weight = size T + F .weight;
+        weighs = λ G hG. omega (arith, F .weighs (cons T G) (rw here (hT, rw later at hG)));
+      })
 
   -- a group's entry, above what waits for the group
   live-pend : (u : List ℕ) (q : ℕ) (o : Opened q) (δs : List ℕ) (e : ℕ) (εs : List ℕ) (D : Forest) → Fits u (o .parent .source) (o .parent .dot)
@@ -156,19 +156,26 @@ module _ {g : Grammar} {string : ℕ → List ℕ} {Kernel : ℕ → Source → 
       let s₃ = split g (string e) (concat (map string εs)) (s₂ .back) (s₂ .back-is) in
       let H = s₃ .back in
       let whole-is : (G : Forest) → IsForest g G (string e ++ []) → IsForest g (cons (node i (B ⧺ D ⧺ G ⧺ H)) (R .0)) (ahead (p .source) (p .dot))
-            = λ G hG. rw here
-              ((r, o .is, refl, rw (right-at o δs e εs en)
-                (join g (r .before) (concat (map string δs) ++ (string e ++ concat (map string εs))) B (D ⧺ G ⧺ H) (o .trees-are)
-                  (join g (concat (map string δs)) (string e ++ concat (map string εs)) D (G ⧺ H) hD
-                    (join g (string e) (concat (map string εs)) G H (rw (append-nil (string e)) at hG) (s₃ .back-is))))), R .1) in
-      record
-        { tail = yields H ++ (yields (R .0) ++ F .tail)
-        ; rest = s₃ .front
-        ; rest-is = rw (append-nil (string e)) (s₃ .front-is)
-        ; fits = λ G hG. sentence-at (simp (yields-⧺, append-assoc)) (F .fits (cons (node i (B ⧺ D ⧺ G ⧺ H)) (R .0)) (whole-is G hG))
-        ; weight = suc (sizes B + sizes D + sizes H + sizes (R .0) + F .weight)
-        ; weighs = λ G hG. omega (arith, F .weighs (cons (node i (B ⧺ D ⧺ G ⧺ H)) (R .0)) (whole-is G hG), sizes-⧺ B (D ⧺ G ⧺ H), sizes-⧺ D (G ⧺ H), sizes-⧺ G H)
-        }
+      = λ G hG. rw here (
+        (
+          r,
+          o .is,
+          refl,
+          rw (right-at o δs e εs en)
+              (join g (r .before) (concat (map string δs) ++ (string e ++ concat (map string εs))) B (D ⧺ G ⧺ H) (o .trees-are)
+              (join g (concat (map string δs)) (string e ++ concat (map string εs)) D (G ⧺ H) hD
+              (join g (string e) (concat (map string εs)) G H (rw (append-nil (string e)) at hG) (s₃ .back-is)))),
+        ),
+        R .1,
+      ) in
+      record {
+        tail = yields H ++ (yields (R .0) ++ F .tail);
+        rest = s₃ .front;
+        rest-is = rw (append-nil (string e)) (s₃ .front-is);
+        fits = λ G hG. sentence-at (simp (yields-⧺, append-assoc)) (F .fits (cons (node i (B ⧺ D ⧺ G ⧺ H)) (R .0)) (whole-is G hG));
+        weight = suc (sizes B + sizes D + sizes H + sizes (R .0) + F .weight);
+        weighs = λ G hG. omega (arith, F .weighs (cons (node i (B ⧺ D ⧺ G ⧺ H)) (R .0)) (whole-is G hG), sizes-⧺ B (D ⧺ G ⧺ H), sizes-⧺ D (G ⧺ H), sizes-⧺ G H);
+      }
 
   pub live : (q : ℕ) (S u : List ℕ) → Stack (q ∷ S) u → Live u q
   live q S u base = live-closure [] (m .enter 1) live-base
@@ -176,5 +183,5 @@ module _ {g : Grammar} {string : ℕ → List ℕ} {Kernel : ℕ → Source → 
       live-closure (x ++ yield T) (m .goto p X) (λ ι n c h. live-push x p X T hT (live p S′ x s) ι n (E .moved (ex .holds) (ex .there) ι n c h))
   live q S u (pend {q = p} {S = S′} {u = x} s o δs e εs en D hD) =
       live-closure (x ++ (yields (o .trees) ++ yields D)) (m .enter e)
-        (λ κ n c h. let y = E .entered e (used o δs e εs en) κ n c h in
-          rw (y .0, y .1) (live-pend x p o δs e εs D (live p S′ x s (o .parent .source) (o .parent .dot) (o .parent .code) (o .parent .holds)) en hD))
+      (λ κ n c h. let y = E .entered e (used o δs e εs en) κ n c h in
+      rw (y .0, y .1) (live-pend x p o δs e εs D (live p S′ x s (o .parent .source) (o .parent .dot) (o .parent .code) (o .parent .holds)) en hD))

@@ -33,31 +33,35 @@ module _ (g : Grammar) (t : Table) (D : Declared g) (E : EntriesMeet g t) where
     asked h = asked-over G F (λ β a d c. same β a d c .from) h
 
     pub lookaheads-over : (q : ℕ) → LookaheadsMeet g t F q → LookaheadsMeet g t G q
-    lookaheads-over q M = record
-      { of-move = λ p X i k d β σ x a n h. M .of-move p X i k d β σ x a n (carries h)
-      ; of-group = λ k p i d c γ σ r δs εs e re ge h f. M .of-group k p i d c γ σ r δs εs e re ge (carries h)
-          (same (concat εs) (later-declared g D i r δs γ εs re ge) d c .from f)
-      ; of-goal = M .of-goal }
+    lookaheads-over q M = record {
+      of-move = λ p X i k d β σ x a n h. M .of-move p X i k d β σ x a n (carries h);
+      of-group = λ k p i d c γ σ r δs εs e re ge h f. M .of-group k p i d c γ σ r δs εs e re ge (carries h)
+          (same (concat εs) (later-declared g D i r δs γ εs re ge) d c .from f);
+      of-goal = M .of-goal;
+    }
 
     pub agree-over : (q : ℕ) → CellsAgree g t F q → CellsAgree g t G q
     agree-over q M = record { one = λ X x y a b. M .one X x y (asked a) (asked b) }
 
     pub cells-over : (q : ℕ) → CellsMeet g t F q → CellsMeet g t G q
-    cells-over q M = record
-      { filled = λ X x a. M .filled X x (asked a)
-      ; asked = λ X y a. asked-over F G (λ β s d c. same β s d c .to) (M .asked X y a) }
+    cells-over q M = record {
+      filled = λ X x a. M .filled X x (asked a);
+      asked = λ X y a. asked-over F G (λ β s d c. same β s d c .to) (M .asked X y a);
+    }
 
 module _ (g : Grammar) (t : Table) (D : Declared g) where
   meets-over : (F G : List ℕ → ℕ → ℕ → Type 0) → ((β : List ℕ) → AllDeclared g β → (d c : ℕ) → F β d c ↔ G β d c) → MeetsWith g t F → MeetsWith g t G
-  meets-over F G same M = record
-    { form = M .form
-    ; entries = M .entries
-    ; items = M .items
-    ; lookaheads = λ q. lookaheads-over g t D (M .entries) F G same q (M .lookaheads q)
-    ; agree = λ q. agree-over g t D (M .entries) F G same q (M .agree q)
-    ; cells = λ q. cells-over g t D (M .entries) F G same q (M .cells q) }
+  meets-over F G same M = record {
+    form = M .form;
+    entries = M .entries;
+    items = M .items;
+    lookaheads = λ q. lookaheads-over g t D (M .entries) F G same q (M .lookaheads q);
+    agree = λ q. agree-over g t D (M .entries) F G same q (M .agree q);
+    cells = λ q. cells-over g t D (M .entries) F G same q (M .cells q);
+  }
 
   pub swap : (F G : List ℕ → ℕ → ℕ → Type 0) → ((β : List ℕ) → AllDeclared g β → (d c : ℕ) → F β d c ↔ G β d c) → MeetsWith g t F ↔ MeetsWith g t G
-  swap F G same = record
-    { to = meets-over F G same
-    ; from = meets-over G F (λ β a d c. flip (same β a d c)) }
+  swap F G same = record {
+    to = meets-over F G same;
+    from = meets-over G F (λ β a d c. flip (same β a d c));
+  }

@@ -73,9 +73,13 @@ module _ {g : Grammar} {string : ℕ → List ℕ} {Kernel : ℕ → Source → 
     where
       onto : Taken a U (u ++ a ∷ []) ⊎ Refused a U → Taken a S (u ++ a ∷ []) ⊎ Refused a S
       onto (inl x) =
-          inl (record
-            { after = x .after; stack = x .stack; begins = x .begins; events = e ∷ x .events
-            ; runs = λ y. quiet-run g m e a (a ∷ y) q h refl (x .runs y) })
+          inl (record {
+            after = x .after;
+            stack = x .stack;
+            begins = x .begins;
+            events = e ∷ x .events;
+            runs = λ y. quiet-run g m e a (a ∷ y) q h refl (x .runs y);
+          })
       onto (inr x) = inr (record { last = x .last; events = e ∷ x .events; runs = λ y. quiet-run g m e a (a ∷ y) q h refl (x .runs y); is-wrong = x .is-wrong })
 
   -- this token above this stack is taken, or refused, whatever follows

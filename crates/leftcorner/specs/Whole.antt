@@ -26,10 +26,10 @@ module _ {g : Grammar} {string : ℕ → List ℕ} {Kernel : ℕ → Source → 
   pub final-whole : step g m final 0 ≡ whole
   final-whole =
       subst (λ (l : List ℕ). step g m (gotos m (m .enter 1) l []) 0 ≡ whole) (C .goal-string)
-        (close-step g m (m .enter 1) (string 1) [] 0
-          (C .pops (rw (far-zero (string 1)) at (walked C E (string 1) [] (m .enter 1) (entry 1) zero zero (kernel (C .start)) (sym (append-nil (string 1)))))))
+      (close-step g m (m .enter 1) (string 1) [] 0
+      (C .pops (rw (far-zero (string 1)) at (walked C E (string 1) [] (m .enter 1) (entry 1) zero zero (kernel (C .start)) (sym (append-nil (string 1)))))))
 
   pub one-derivation : (T U : Tree) → IsTree g T (g .goal) → IsTree g U (g .goal) → yield T ≡ yield U → T ≡ U
   one-derivation T U h k e =
       trace-injective g T U (g .goal) (g .goal) h k
-        (run-unique g m (sentence-walked T h) (rw (← e) at (sentence-walked U k)) final-whole final-whole)
+      (run-unique g m (sentence-walked T h) (rw (← e) at (sentence-walked U k)) final-whole final-whole)

@@ -1,22 +1,20 @@
 -- What memory says of the items that a state has, and of those that move from it, is so.
-use Prim.Native.Nat.{ℕ, zero, suc, _+_, _-_, _≤_, _<_}
-use mathlib.Core.Path.{_≡_, refl, sym, ap, subst, _∙_}
+use Prim.Native.Nat.{ℕ, _+_, _-_, _≤_, _<_}
+use mathlib.Core.Path.{_≡_, ap, subst, _∙_}
 use mathlib.Core.Logic.{_⊎_, inl, inr}
 use mathlib.Core.List.{List}
-use mathlib.Core.Option.{Option, some}
+use mathlib.Core.Option.{some}
 use native.Mathlib.Omega.{arith}
-use lib.ListN.{length, replicate}
-use Rattle.fixpoint.proofs.PassLaws.{all-off}
-use Rattle.memory.specs.Memory.{stateAt, itemAt, dotAt}
-use Rattle.language.specs.Grammar.{Grammar, Rule, at, ruleAt}
-use Rattle.leftcorner.specs.Table.{Table, Goes}
-use Rattle.leftcorner.specs.Construction.{KernelAt, Has, in-kernel, MovedBy}
+use lib.ListN.{replicate}
+use Rattle.language.specs.Grammar.{Grammar, Rule, ruleAt}
+use Rattle.leftcorner.specs.Table.{Table}
+use Rattle.leftcorner.specs.Construction.{Has, in-kernel, MovedBy}
 use Rattle.leftcorner.specs.Construction as construction
-use Rattle.leftcorner.specs.Sources.{rule-low}
-use Rattle.leftcorner.specs.ReadOff.{clash}
 use Rattle.items.specs.Layout.{leftAt}
-use Rattle.language.specs.GrammarLaws.{at-below}
+use Rattle.fixpoint.proofs.PassLaws.{all-off}
 use Rattle.fixpoint.specs.Flags.{On}
+use Rattle.memory.specs.Memory.{stateAt, itemAt, dotAt}
+use Rattle.memory.proofs.RangeLaws.{rule-at, rule-range}
 use Rattle.memory.specs.Held.{Held}
 use Rattle.closure.specs.Expansion.{Expanded, HasBy, of-kernel, of-rule, has-by, by-has}
 use Rattle.kernel_lines.specs.Lines.{LineAt}
@@ -28,14 +26,6 @@ use Rattle.moves.proofs.RowLaws.{DeclaredItem, row-of, symbol-of-goes, 
 
 module _ (g : Grammar) (t : Table) {items entries kernels lookaheads kinds values gotos : List ℕ} {rules strings lines : ℕ}
     (H : Held g t items entries kernels lookaheads kinds values gotos rules strings lines) where
-  rule-at : (i : ℕ) → 1 ≤ i → i ≤ rules → (r : Rule) × (ruleAt g i ≡ some r)
-  rule-at zero a b = absurd (omega arith)
-  rule-at (suc i) a b = at-below (g .rules) i (omega (arith, H .rule-count))
-
-  pub rule-range : {i : ℕ} {r : Rule} → ruleAt g i ≡ some r → (1 ≤ i) × (i ≤ rules)
-  rule-range {i = zero} e = clash cc
-  rule-range {i = suc i} {r = r} e = (omega arith, omega (arith, rule-low g t (suc i) r e, H .rule-count))
-
   module _ {q : ℕ} {present : List ℕ} (P : HoldsPresent g t q present) where
     pub item-declared : {i k : ℕ} → Has g t q i k → DeclaredItem g t H i
     item-declared h = go (has-by g t h)
@@ -66,11 +56,11 @@ module _ (g : Grammar) (t : Table) {items entries kernels lookaheads kinds value
       where
         go : {i k : ℕ} → HasBy g t q i k → HasAt items kernels present rules lines q i k
         go (of-kernel m) = by-line (line-of g t (H .holds-kernels) (H .line-count) m)
-        go (of-rule e x) = let r = rule-range e in by-rule (r .0) (r .1) (present-at e x)
+        go (of-rule e x) = let r = rule-range g (H .rule-count) _ e in by-rule (r .0) (omega (arith, r .1)) (present-at e x)
 
     pub has-of : {i k : ℕ} → HasAt items kernels present rules lines q i k → Has g t q i k
     has-of (by-line l) = in-kernel (kernel-of g t (H .holds-kernels) (H .line-count) l .1)
-    has-of {i} (by-rule a b p) = let r = rule-at i a b in by-has g t (of-rule (r .1) (expanded-at (r .1) p))
+    has-of {i} (by-rule a b p) = let r = rule-at g (H .rule-count) i a (omega arith) in by-has g t (of-rule (r .1) (expanded-at (r .1) p))
 
     pub moved-at : {X i n : ℕ} → MovedBy g t q X i n → MovedAt items kernels present rules lines q X i n
     moved-at (construction.moved h go) = moved (symbol-of-goes g t H (row-of g t H (item-declared h)) go .0) (has-at h)

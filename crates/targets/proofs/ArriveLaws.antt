@@ -1,6 +1,6 @@
 -- What the tests of an item that arrives come to.
-use Prim.Native.Nat.{ℕ, _+_, _<_, _≤_}
-use mathlib.Core.Path.{_≡_, refl, sym, ap, subst, _∙_}
+use Prim.Native.Nat.{ℕ, _+_}
+use mathlib.Core.Path.{_≡_, sym, ap, subst, _∙_}
 use mathlib.Core.List.{List}
 use Rattle.fixpoint.specs.Flags.{On}
 use Rattle.kernel_lines.specs.Lines.{LineAt}

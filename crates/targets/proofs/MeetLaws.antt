@@ -1,12 +1,11 @@
 -- Items that arrive, and targets with nothing else, are what the construction asks of moves.
-use Prim.Native.Nat.{ℕ, zero, suc, _+_, _≤_, _<_}
+use Prim.Native.Nat.{ℕ, suc, _+_, _≤_, _<_}
 use mathlib.Core.Path.{_≡_, refl, sym, ap, subst, _∙_}
 use mathlib.Core.List.{List}
-use mathlib.Core.Option.{some}
 use native.Mathlib.Omega.{arith}
 use Rattle.language.specs.Grammar.{Grammar}
-use Rattle.leftcorner.specs.Table.{Table, Action, nextState}
-use Rattle.leftcorner.specs.Construction.{KernelAt, ActionAt, MovedBy}
+use Rattle.leftcorner.specs.Table.{Table}
+use Rattle.leftcorner.specs.Construction.{KernelAt, MovedBy}
 use Rattle.memory.specs.Memory.{stateAt, itemAt, dotAt}
 use Rattle.memory.specs.Held.{Held}
 use Rattle.kernel_lines.specs.Lines.{LineAt}

@@ -1,5 +1,5 @@
 -- The part of reply 7 at a state that speaks of moves, in memory and of the construction.
-use Prim.Native.Nat.{ℕ, _+_, _<_}
+use Prim.Native.Nat.{ℕ, _+_}
 use mathlib.Core.Path.{_≡_}
 use mathlib.Core.List.{List}
 use mathlib.Core.Option.{some}

@@ -64,8 +64,8 @@ pub record OfKernel (q i k : ℕ) (l : KernelLine) : Type 0 where
 of-kernel? : (q i k : ℕ) (l : KernelLine) → Dec (OfKernel q i k l)
 of-kernel? q i k (K p j n σ) =
     map-dec (λ h. record { codes = σ; is = ap₂ (λ (a b : ℕ). K a b n σ) (h .0) (h .1 .0) ∙ ap (λ (b : ℕ). K q i b σ) (h .1 .1) })
-      (λ o. let e = o .is in (let a : p ≡ q = cc in a, (let b : j ≡ i = cc in b, let c : n ≡ k = cc in c)))
-      (both? (ℕ-discrete p q) (both? (ℕ-discrete j i) (ℕ-discrete n k)))
+    (λ o. let e = o .is in (let a : p ≡ q = cc in a, (let b : j ≡ i = cc in b, let c : n ≡ k = cc in c)))
+    (both? (ℕ-discrete p q) (both? (ℕ-discrete j i) (ℕ-discrete n k)))
 
 pub in? : (d : ℕ) (l : List ℕ) → Dec (In d l)
 in? d l = map-dec (λ h. subst (λ (x : ℕ). In x l) (h .2) (h .1)) (λ m. (d, m, refl)) (any? (λ (x : ℕ). x ≡ d) (λ x. ℕ-discrete x d) l)
@@ -78,8 +78,8 @@ pub record OfKernelCode (q i k d : ℕ) (l : KernelLine) : Type 0 where
 of-kernel-code? : (q i k d : ℕ) (l : KernelLine) → Dec (OfKernelCode q i k d l)
 of-kernel-code? q i k d (K p j n σ) =
     map-dec (λ h. record { codes = h .0 .codes; is = h .0 .is; code = subst (λ (x : List ℕ). In d x) (let e = h .0 .is in let y : σ ≡ h .0 .codes = cc in y) (h .1) })
-      (λ o. (record { codes = o .codes; is = o .is }, subst (λ (x : List ℕ). In d x) (let e = o .is in let y : o .codes ≡ σ = cc in y) (o .code)))
-      (both? (of-kernel? q i k (K p j n σ)) (in? d σ))
+    (λ o. (record { codes = o .codes; is = o .is }, subst (λ (x : List ℕ). In d x) (let e = o .is in let y : o .codes ≡ σ = cc in y) (o .code)))
+    (both? (of-kernel? q i k (K p j n σ)) (in? d σ))
 
 abbrev pub all-codes : List KernelLine → List ℕ
 all-codes [] = []
@@ -135,7 +135,7 @@ module _ (g : Grammar) (t : Table) where
   pub kernel? : (q i k : ℕ) → Dec ((σ : List ℕ) × KernelAt g t q i k σ)
   kernel? q i k =
       map-dec (λ h. (h .2 .codes, subst (λ (l : KernelLine). In l (t .kernels)) (h .2 .is) (h .1))) (λ h. (K q i k (h .0), h .1, record { codes = h .0; is = refl }))
-        (any? (OfKernel q i k) (of-kernel? q i k) (t .kernels))
+      (any? (OfKernel q i k) (of-kernel? q i k) (t .kernels))
 
   pub record Added (i k j : ℕ) : Type 0 where
     pub symbol : ℕ
@@ -151,6 +151,7 @@ module _ (g : Grammar) (t : Table) where
       fit : (a : Next i k) (r : (r : Rule) × (ruleAt g j ≡ some r)) → Dec (r .0 .left ≡ a .0) → Dec (Added i k j)
       fit a r (yes e) = yes (record { symbol = a .0; rest = a .1; by = r .0; goes = a .2; is = r .1; of = e })
       fit a r (no f) = no (λ h. f (let e = sym (r .1) ∙ h .is in let s : r .0 ≡ h .by = cc in ap (λ (x : Rule). x .left) s ∙ h .of ∙ same-next (h .goes) (a .2) .0))
+
       go : Dec (Next i k) → Dec ((r : Rule) × (ruleAt g j ≡ some r)) → Dec (Added i k j)
       go (no f) d = no (λ h. f (h .symbol, h .rest, h .goes))
       go (yes a) (no f) = no (λ h. f (h .by, h .is))
@@ -179,7 +180,7 @@ module _ (g : Grammar) (t : Table) where
   inside q (spot i k) (seed h) = in-left _ (image-in spot-of (K q i k (h .0)) (t .kernels) (h .1))
   inside q (spot j n) (step {a = spot i k} r s) =
       subst (λ (m : ℕ). In (spot j m) (map spot-of (t .kernels) ++ map (λ (j : ℕ). spot j zero) (upto (suc (length (g .rules)))))) (sym (s .1))
-        (in-right (map spot-of (t .kernels)) (image-in (λ (j : ℕ). spot j zero) j (upto (suc (length (g .rules)))) (in-upto (suc (length (g .rules))) j (rule-less j (s .0 .by) (s .0 .is)))))
+      (in-right (map spot-of (t .kernels)) (image-in (λ (j : ℕ). spot j zero) j (upto (suc (length (g .rules)))) (in-upto (suc (length (g .rules))) j (rule-less j (s .0 .by) (s .0 .is)))))
 
   pub closure-list : (q : ℕ) → List Spot
   closure-list q = members (Seed q) Step (seed? q) step? spots (inside q) .list
@@ -216,6 +217,7 @@ module _ (g : Grammar) (t : Table) where
         fit : (a : Added i k j) → Dec (F (a .rest) d c) → Dec (Given i k d j c)
         fit a (yes f) = yes (record { added = a; first = f })
         fit a (no f) = no (λ h. f (subst (λ (β : List ℕ). F β d c) (same-next (h .added .goes) (a .goes) .1) (h .first)))
+
         go : Dec (Added i k j) → Dec (Given i k d j c)
         go (yes a) = fit a (F? (a .rest) d c)
         go (no f) = no (λ h. f (h .added))
@@ -255,9 +257,9 @@ module _ (g : Grammar) (t : Table) where
         in-left _ (in-all-coded (t .kernels) q i k d (h .2 .codes) (subst (λ (l : KernelLine). In l (t .kernels)) (h .2 .is) (h .1)) (h .2 .code))
     insideC q (coded j n c) (step {a = coded i k d} r s) =
         in-right (all-coded (t .kernels))
-          (subst (λ (m : ℕ). In (coded j m c) (pairs (λ (j c : ℕ). coded j zero c) (upto (suc (length (g .rules)))) codes-all)) (sym (s .1))
-            (in-pairs (λ (j c : ℕ). coded j zero c) j c (upto (suc (length (g .rules)))) codes-all (in-upto (suc (length (g .rules))) j (rule-less j (s .0 .added .by) (s .0 .added .is)))
-              (code-in q (coded j n c) (step {a = coded i k d} {b = coded j n c} r s) j n c refl)))
+        (subst (λ (m : ℕ). In (coded j m c) (pairs (λ (j c : ℕ). coded j zero c) (upto (suc (length (g .rules)))) codes-all)) (sym (s .1))
+        (in-pairs (λ (j c : ℕ). coded j zero c) j c (upto (suc (length (g .rules)))) codes-all (in-upto (suc (length (g .rules))) j (rule-less j (s .0 .added .by) (s .0 .added .is)))
+        (code-in q (coded j n c) (step {a = coded i k d} {b = coded j n c} r s) j n c refl)))
 
     pub context-list : (q : ℕ) → List Coded
     context-list q = members (SeedC q) StepC (seedC? q) stepC? codeds (insideC q) .list
@@ -274,7 +276,7 @@ module _ (g : Grammar) (t : Table) where
         let c : zero ≡ k = sym (s .1) ∙ (let w : n ≡ k = cc in w) in
         let f : b ≡ d = cc in
         subst (λ (v : ℕ). Carries g t F q i k v) f (subst (λ (v : ℕ). Carries g t F q i v b) c (subst (λ (v : ℕ). Carries g t F q v zero b) a
-          (in-closure m (reach-carries q (coded x y z) r x y z refl) (s .0 .added .goes) (s .0 .added .is) (s .0 .added .of) (s .0 .first))))
+        (in-closure m (reach-carries q (coded x y z) r x y z refl) (s .0 .added .goes) (s .0 .added .is) (s .0 .added .of) (s .0 .first))))
 
     carries-reach : (q i k d : ℕ) → Carries g t F q i k d → Reach (SeedC q) StepC (coded i k d)
     carries-reach q i k d (in-kernel {σ = σ} h m) = seed {a = coded i k d} (K q i k σ, h, record { codes = σ; is = refl; code = m })

@@ -41,6 +41,7 @@ splits-all? (x ∷ l) Φ test = go (test x l) (splits-all? l Φ test)
         let b : l ≡ εs = cc in
         subst (λ (z : List ℕ). Φ z εs) a (subst (λ (z : List (List ℕ)). Φ x z) b p)
     on p h (δ ∷ δs) γ εs e = let b : l ≡ δs ++ γ ∷ εs = cc in h δs γ εs b
+
     go : Dec (Φ x l) → Dec ((δs : List (List ℕ)) (γ : List ℕ) (εs : List (List ℕ)) → l ≡ δs ++ γ ∷ εs → Φ γ εs)
         → Dec ((δs : List (List ℕ)) (γ : List ℕ) (εs : List (List ℕ)) → x ∷ l ≡ δs ++ γ ∷ εs → Φ γ εs)
     go (yes p) (yes h) = yes (on p h)
@@ -60,9 +61,11 @@ module _ (g : Grammar) (t : Table) where
     where
       Q : ℕ → Type 0
       Q i = (r : Rule) × (ruleAt g i ≡ some r) × In γ (r .groups)
+
       from : (γ ≡ g .goal ∷ []) ⊎ ((i : ℕ) × In i ruleNumbers × Q i) → Wanted g γ
       from (inl e) = of-goal e
       from (inr h) = of-group (h .0) (h .2 .1) (h .2 .2)
+
       to : Wanted g γ → (γ ≡ g .goal ∷ []) ⊎ ((i : ℕ) × In i ruleNumbers × Q i)
       to (of-goal e) = inl e
       to (of-group i {r = r} e m) = inr (i, in-rules i r e, (r, e, m))
@@ -79,9 +82,11 @@ module _ (g : Grammar) (t : Table) where
     where
       Q : ℕ → Type 0
       Q i = (r : Rule) → ruleAt g i ≡ some r → (γ : List ℕ) → In γ (r .groups) → Listed γ
+
       from : Listed (g .goal ∷ []) × ((i : ℕ) → In i ruleNumbers → Q i) → (γ : List ℕ) → Wanted g γ → Listed γ
       from h γ (of-goal e) = subst Listed (sym e) (h .0)
       from h γ (of-group i {r = r} e m) = h .1 i (in-rules i r e) r e γ m
+
       to : ((γ : List ℕ) → Wanted g γ → Listed γ) → Listed (g .goal ∷ []) × ((i : ℕ) → In i ruleNumbers → Q i)
       to h = (h (g .goal ∷ []) (of-goal refl), λ i _ r e γ m. h γ (of-group i e m))
 
@@ -95,4 +100,3 @@ module _ (g : Grammar) (t : Table) where
   pub entries? : Dec (EntriesMeet g t)
   entries? = map-dec (λ h. record { goal-first = h .0; only-wanted = h .1 .0; all-wanted = h .1 .1 }) (λ r. (r .goal-first, (r .only-wanted, r .all-wanted)))
       (both? goal-first? (both? (entries-all? g t (λ j s γ. Wanted g γ) (λ j s γ. wanted? γ)) all-listed?))
-

@@ -24,6 +24,7 @@ at-all? {A = A} (y ∷ l) Φ test = go (test 0 y) (at-all? l (λ j. Φ (suc j)) 
     on : Φ 0 y → ((j : ℕ) (x : A) → at l j ≡ some x → Φ (suc j) x) → (j : ℕ) (x : A) → at (y ∷ l) j ≡ some x → Φ j x
     on p h zero x e = subst (Φ 0) (let z : y ≡ x = cc in z) p
     on p h (suc j) x e = h j x e
+
     go : Dec (Φ 0 y) → Dec ((j : ℕ) (x : A) → at l j ≡ some x → Φ (suc j) x) → Dec ((j : ℕ) (x : A) → at (y ∷ l) j ≡ some x → Φ j x)
     go (yes p) (yes h) = yes (on p h)
     go (yes p) (no f) = no (λ h. f (λ j. h (suc j)))
@@ -36,6 +37,7 @@ at-any? {A = A} (y ∷ l) Φ test = go (test 0 y) (at-any? l (λ j. Φ (suc j)) 
     off : (Φ 0 y → ⊥) → ((j : ℕ) × (x : A) × (at l j ≡ some x) × Φ (suc j) x → ⊥) → (j : ℕ) (x : A) → at (y ∷ l) j ≡ some x → Φ j x → ⊥
     off f h zero x e p = f (subst (Φ 0) (let z : x ≡ y = cc in z) p)
     off f h (suc j) x e p = h (j, x, e, p)
+
     go : Dec (Φ 0 y) → Dec ((j : ℕ) × (x : A) × (at l j ≡ some x) × Φ (suc j) x) → Dec ((j : ℕ) × (x : A) × (at (y ∷ l) j ≡ some x) × Φ j x)
     go (yes p) d = yes (0, y, refl, p)
     go (no f) (yes h) = yes (suc (h .0), h .1, h .2, h .3)
@@ -55,11 +57,14 @@ module _ (g : Grammar) (t : Table) where
     where
       Q : ℕ → EntryLine → Type 0
       Q j (E s γ) = Φ (suc j) s γ
+
       test′ : (j : ℕ) (x : EntryLine) → Dec (Q j x)
       test′ j (E s γ) = test (suc j) s γ
+
       out : ((j : ℕ) (x : EntryLine) → at (t .entries) j ≡ some x → Q j x) → (k s : ℕ) (γ : List ℕ) → EntryAt g t k s γ → Φ k s γ
       out h zero s γ e = let z : _≡_ {A = ℕ} 0 1 = cc in clash z
       out h (suc j) s γ e = h j (E s γ) e
+
       into : ((k s : ℕ) (γ : List ℕ) → EntryAt g t k s γ → Φ k s γ) → (j : ℕ) (x : EntryLine) → at (t .entries) j ≡ some x → Q j x
       into h j (E s γ) e = h (suc j) s γ e
 
@@ -68,10 +73,13 @@ module _ (g : Grammar) (t : Table) where
     where
       Q : ℕ → EntryLine → Type 0
       Q j (E s γ) = Φ (suc j) s γ
+
       test′ : (j : ℕ) (x : EntryLine) → Dec (Q j x)
       test′ j (E s γ) = test (suc j) s γ
+
       out : (j : ℕ) (x : EntryLine) → at (t .entries) j ≡ some x → Q j x → (k : ℕ) × (s : ℕ) × (γ : List ℕ) × EntryAt g t k s γ × Φ k s γ
       out j (E s γ) e p = (suc j, s, γ, e, p)
+
       into : (k s : ℕ) (γ : List ℕ) → EntryAt g t k s γ → Φ k s γ → (j : ℕ) × (x : EntryLine) × (at (t .entries) j ≡ some x) × Q j x
       into zero s γ e p = let z : _≡_ {A = ℕ} 0 1 = cc in clash z
       into (suc j) s γ e p = (j, E s γ, e, p)
@@ -81,8 +89,10 @@ module _ (g : Grammar) (t : Table) where
     where
       Q : KernelLine → Type 0
       Q (K q i k σ) = Φ q i k σ
+
       test′ : (x : KernelLine) → Dec (Q x)
       test′ (K q i k σ) = test q i k σ
+
       on : ((q i k : ℕ) (σ : List ℕ) → KernelAt g t q i k σ → Φ q i k σ) → (x : KernelLine) → In x (t .kernels) → Q x
       on h (K q i k σ) m = h q i k σ m
 
@@ -91,8 +101,10 @@ module _ (g : Grammar) (t : Table) where
     where
       Q : ActionLine → Type 0
       Q (L q X x) = Φ q X x
+
       test′ : (x : ActionLine) → Dec (Q x)
       test′ (L q X x) = test q X x
+
       on : ((q X : ℕ) (x : Action) → ActionAt g t q X x → Φ q X x) → (x : ActionLine) → In x (t .actions) → Q x
       on h (L q X x) m = h q X x m
 
@@ -101,8 +113,10 @@ module _ (g : Grammar) (t : Table) where
     where
       Q : ActionLine → Type 0
       Q (L q X x) = Φ q X x
+
       test′ : (x : ActionLine) → Dec (Q x)
       test′ (L q X x) = test q X x
+
       on : (x : ActionLine) → In x (t .actions) → Q x → (q : ℕ) × (X : ℕ) × (x : Action) × ActionAt g t q X x × Φ q X x
       on (L q X x) m p = (q, X, x, m, p)
 
@@ -122,10 +136,13 @@ module _ (g : Grammar) (t : Table) where
     where
       Q : Spot → Type 0
       Q (spot i k) = (X : ℕ) (β : List ℕ) → Goes g t i k X β → Φ X i (suc k)
+
       test′ : (x : Spot) → Dec (Q x)
       test′ (spot i k) = goes-all? i k (λ X β. Φ X i (suc k)) (λ X β. test X i (suc k))
+
       from : ((x : Spot) → In x (closure-of q) → Q x) → (X i n : ℕ) → MovedBy g t q X i n → Φ X i n
       from h X i n (moved {k = k} {β = β} a go) = h (spot i k) (closure-every g t q i k a) X β go
+
       to : ((X i n : ℕ) → MovedBy g t q X i n → Φ X i n) → (x : Spot) → In x (closure-of q) → Q x
       to h (spot i k) m = λ X β go. h X i (suc k) (moved (closure-only g t q i k m) go)
 
@@ -143,9 +160,11 @@ module _ (g : Grammar) (t : Table) where
     where
       out : MovedBy g t q X i (suc k) → Has g t q i k × ((β : List ℕ) × Goes g t i k X β)
       out (moved {β = β} h b) = (h, (β, b))
+
       fit : Has g t q i k → (a : (Y : ℕ) × (β : List ℕ) × Goes g t i k Y β) → Dec (a .0 ≡ X) → Dec (MovedBy g t q X i (suc k))
       fit h a (yes e) = yes (moved h (subst (λ (Y : ℕ). Goes g t i k Y (a .1)) e (a .2)))
       fit h a (no f) = no (λ m. f (same-next g t (a .2) (out m .1 .1) .0))
+
       go : Dec (Has g t q i k) → Dec ((Y : ℕ) × (β : List ℕ) × Goes g t i k Y β) → Dec (MovedBy g t q X i (suc k))
       go (no f) d = no (λ m. f (out m .0))
       go (yes h) (no f) = no (λ m. f (X, out m .1 .0, out m .1 .1))
@@ -165,7 +184,7 @@ module _ (g : Grammar) (t : Table) where
   entry-only? : (q : ℕ) → Dec (EntryOnly q)
   entry-only? q = map-dec (λ h j γ e i k σ m. h j q γ e refl q i k σ m refl) (λ h j s γ e a p i k σ m b. h j γ (subst (λ (x : ℕ). EntryAt g t j x γ) a e) i k σ (subst (λ (x : ℕ). KernelAt g t x i k σ) b m))
       (entries-all? (λ j s γ. s ≡ q → (p i k : ℕ) (σ : List ℕ) → KernelAt g t p i k σ → p ≡ q → (i ≡ entryItem g t j) × (k ≡ zero))
-        (λ j s γ. implies? (ℕ-discrete s q) (kernels-all? (λ p i k σ. p ≡ q → (i ≡ entryItem g t j) × (k ≡ zero)) (λ p i k σ. implies? (ℕ-discrete p q) (both? (ℕ-discrete i (entryItem g t j)) (ℕ-discrete k zero))))))
+      (λ j s γ. implies? (ℕ-discrete s q) (kernels-all? (λ p i k σ. p ≡ q → (i ≡ entryItem g t j) × (k ≡ zero)) (λ p i k σ. implies? (ℕ-discrete p q) (both? (ℕ-discrete i (entryItem g t j)) (ℕ-discrete k zero))))))
 
   abbrev MoveHas : ℕ → Type 0
   MoveHas q = (X s i n : ℕ) (x : Action) → ActionAt g t q X x → nextState x ≡ some s → MovedBy g t q X i n → (σ : List ℕ) × KernelAt g t s i n σ
@@ -174,8 +193,8 @@ module _ (g : Grammar) (t : Table) where
   move-has? q = map-dec (λ h X s i n x a e m. h q X x a refl s e X i n m refl)
       (λ h p X x a b s e Y i n m c. h X s i n x (subst (λ (z : ℕ). ActionAt g t z X x) b a) e (subst (λ (z : ℕ). MovedBy g t q z i n) c m))
       (actions-all? (λ p X x. p ≡ q → (s : ℕ) → nextState x ≡ some s → (Y i n : ℕ) → MovedBy g t q Y i n → Y ≡ X → (σ : List ℕ) × KernelAt g t s i n σ)
-        (λ p X x. implies? (ℕ-discrete p q) (some-all? (nextState x) (λ s. (Y i n : ℕ) → MovedBy g t q Y i n → Y ≡ X → (σ : List ℕ) × KernelAt g t s i n σ)
-          (λ s. moved-all? q (λ Y i n. Y ≡ X → (σ : List ℕ) × KernelAt g t s i n σ) (λ Y i n. implies? (ℕ-discrete Y X) (kernel? g t s i n))))))
+      (λ p X x. implies? (ℕ-discrete p q) (some-all? (nextState x) (λ s. (Y i n : ℕ) → MovedBy g t q Y i n → Y ≡ X → (σ : List ℕ) × KernelAt g t s i n σ)
+      (λ s. moved-all? q (λ Y i n. Y ≡ X → (σ : List ℕ) × KernelAt g t s i n σ) (λ Y i n. implies? (ℕ-discrete Y X) (kernel? g t s i n))))))
 
   abbrev MoveOnly : ℕ → Type 0
   MoveOnly q = (X s i n : ℕ) (x : Action) → ActionAt g t q X x → nextState x ≡ some s → MovedBy g t q X i n → (κ m : ℕ) (σ : List ℕ) → KernelAt g t s κ m σ → MovedBy g t q X κ m
@@ -184,11 +203,12 @@ module _ (g : Grammar) (t : Table) where
   move-only? q = map-dec (λ h X s i n x a e m κ o σ y. h q X x a refl s e X i n m refl s κ o σ y refl)
       (λ h p X x a b s e Y i n m c r κ o σ y d. h X s i n x (subst (λ (z : ℕ). ActionAt g t z X x) b a) e (subst (λ (z : ℕ). MovedBy g t q z i n) c m) κ o σ (subst (λ (z : ℕ). KernelAt g t z κ o σ) d y))
       (actions-all? (λ p X x. p ≡ q → (s : ℕ) → nextState x ≡ some s → (Y i n : ℕ) → MovedBy g t q Y i n → Y ≡ X → Comes X s)
-        (λ p X x. implies? (ℕ-discrete p q) (some-all? (nextState x) (λ s. (Y i n : ℕ) → MovedBy g t q Y i n → Y ≡ X → Comes X s)
-          (λ s. moved-all? q (λ Y i n. Y ≡ X → Comes X s) (λ Y i n. implies? (ℕ-discrete Y X) (comes? X s))))))
+      (λ p X x. implies? (ℕ-discrete p q) (some-all? (nextState x) (λ s. (Y i n : ℕ) → MovedBy g t q Y i n → Y ≡ X → Comes X s)
+      (λ s. moved-all? q (λ Y i n. Y ≡ X → Comes X s) (λ Y i n. implies? (ℕ-discrete Y X) (comes? X s))))))
     where
       Comes : ℕ → ℕ → Type 0
       Comes X s = (r κ o : ℕ) (σ : List ℕ) → KernelAt g t r κ o σ → r ≡ s → MovedBy g t q X κ o
+
       comes? : (X s : ℕ) → Dec (Comes X s)
       comes? X s = kernels-all? (λ r κ o σ. r ≡ s → MovedBy g t q X κ o) (λ r κ o σ. implies? (ℕ-discrete r s) (moved? q X κ o))
 

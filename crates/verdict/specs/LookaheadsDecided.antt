@@ -28,8 +28,10 @@ module _ (g : Grammar) (t : Table) (F : List ℕ → ℕ → ℕ → Type 0) (F?
     where
       Q : Coded → Type 0
       Q (coded i k d) = Φ i k d
+
       test′ : (x : Coded) → Dec (Q x)
       test′ (coded i k d) = test i k d
+
       to : ((i k d : ℕ) → Carries g t F q i k d → Φ i k d) → (x : Coded) → In x (contexts-of q) → Q x
       to h (coded i k d) m = h i k d (context-only g t F F? first-codes F-in q i k d m)
 
@@ -39,8 +41,10 @@ module _ (g : Grammar) (t : Table) (F : List ℕ → ℕ → ℕ → Type 0) (F?
     where
       Q : Coded → Type 0
       Q (coded i k d) = Φ i k d
+
       test′ : (x : Coded) → Dec (Q x)
       test′ (coded i k d) = test i k d
+
       from : (x : Coded) → In x (contexts-of q) → Q x → (i : ℕ) × (k : ℕ) × (d : ℕ) × Carries g t F q i k d × Φ i k d
       from (coded i k d) m p = (i, k, d, context-only g t F F? first-codes F-in q i k d m, p)
 
@@ -90,14 +94,18 @@ module _ (g : Grammar) (t : Table) (F : List ℕ → ℕ → ℕ → Type 0) (F?
   lookaheads? q = map-dec from to (both? (of-move? q) (both? (of-group? q) (of-goal? q)))
     where
       from : OfMove q × (OfGroup q × OfGoal q) → LookaheadsMeet g t F q
-      from h = record
-        { of-move = λ p X i k d β σ x a n c go l. h .0 p X x a n i k d c X β go refl q i (suc k) σ l refl refl refl
-        ; of-group = λ j p i d c γ σ r δs εs e re ge car f l. let z = a-line car in h .1 .0 p (z .0) (z .1) (z .2) (z .3) i (length (r .before)) d car r re refl δs γ εs ge c f j q γ e refl refl q (entryItem g t j) zero σ l refl refl refl
-        ; of-goal = λ γ σ e l. h .1 .1 1 q γ e refl refl q (entryItem g t 1) zero σ l refl refl refl }
-      to : LookaheadsMeet g t F q → OfMove q × (OfGroup q × OfGoal q)
-      to C =
-          ((λ p X x a n i k d c Y β go e. narrow q i (suc k) d (λ σ l. C .of-move p X i k d β σ x a n c (subst (λ (Z : ℕ). Goes g t i k Z β) e go) l)),
-           ((λ p a b τ m i k d car r re ke δs γ εs ge c f j s δ e se de. narrow q (entryItem g t j) zero c
-               (λ σ l. C .of-group j p i d c γ σ r δs εs (subst (λ (z : ℕ). EntryAt g t j z γ) se (subst (λ (z : List ℕ). EntryAt g t j s z) de e)) re ge (subst (λ (z : ℕ). Carries g t F p i z d) ke car) f l)),
-            (λ j s γ e je se. narrow q (entryItem g t 1) zero 0 (λ σ l. C .of-goal γ σ (subst (λ (z : ℕ). EntryAt g t 1 z γ) se (subst (λ (z : ℕ). EntryAt g t z s γ) je e)) l))))
+      from h = record {
+        of-move = λ p X i k d β σ x a n c go l. h .0 p X x a n i k d c X β go refl q i (suc k) σ l refl refl refl;
+        of-group = λ j p i d c γ σ r δs εs e re ge car f l. let z = a-line car in h .1 .0 p (z .0) (z .1) (z .2) (z .3) i (length (r .before)) d car r re refl δs γ εs ge c f j q γ e refl refl q (entryItem g t j) zero σ l refl refl refl;
+        of-goal = λ γ σ e l. h .1 .1 1 q γ e refl refl q (entryItem g t 1) zero σ l refl refl refl;
+      }
 
+      to : LookaheadsMeet g t F q → OfMove q × (OfGroup q × OfGoal q)
+      to C = (
+        (λ p X x a n i k d c Y β go e. narrow q i (suc k) d (λ σ l. C .of-move p X i k d β σ x a n c (subst (λ (Z : ℕ). Goes g t i k Z β) e go) l)),
+        (
+          (λ p a b τ m i k d car r re ke δs γ εs ge c f j s δ e se de. narrow q (entryItem g t j) zero c
+              (λ σ l. C .of-group j p i d c γ σ r δs εs (subst (λ (z : ℕ). EntryAt g t j z γ) se (subst (λ (z : List ℕ). EntryAt g t j s z) de e)) re ge (subst (λ (z : ℕ). Carries g t F p i z d) ke car) f l)),
+          (λ j s γ e je se. narrow q (entryItem g t 1) zero 0 (λ σ l. C .of-goal γ σ (subst (λ (z : ℕ). EntryAt g t 1 z γ) se (subst (λ (z : ℕ). EntryAt g t z s γ) je e)) l)),
+        ),
+      )

@@ -76,6 +76,7 @@ module _ {A : Type 0} (Seed : A → Type 0) (Step : A → A → Type 0) where
         late : (a ≡ x) ⊎ In a (without x todo m) → In a (x ∷ done) ⊎ In a (without x todo m)
         late (inl e) = inl (subst (λ (w : A). In a (w ∷ done)) e here)
         late (inr k) = inr k
+
         go : In a done ⊎ In a todo → In a (x ∷ done) ⊎ In a (without x todo m)
         go (inl k) = inl (there k)
         go (inr k) = late (still x a todo m k)
@@ -87,7 +88,7 @@ module _ {A : Type 0} (Seed : A → Type 0) (Step : A → A → Type 0) where
     grow zero done todo l only cover (yes h) = absurd (omega (arith, l, shorter (h .0) todo (h .1)))
     grow (suc n) done todo l only cover (yes h) =
         grow n (h .0 ∷ done) (without (h .0) todo (h .1)) (omega (arith, l, shorter (h .0) todo (h .1))) (more-only done (h .0) only (fired done only (h .0) (h .2)))
-          (more-cover done todo (h .0) (h .1) cover) (any? (Fires (h .0 ∷ done)) (fires? (h .0 ∷ done)) (without (h .0) todo (h .1)))
+        (more-cover done todo (h .0) (h .1) cover) (any? (Fires (h .0 ∷ done)) (fires? (h .0 ∷ done)) (without (h .0) todo (h .1)))
 
     pub members : Members
     members = grow (length all) [] all (omega arith) (λ a m. elim m [ ]) (λ a m. inr m) (any? (Fires []) (fires? []) all)

@@ -68,6 +68,7 @@ module _ {A : Type 0} (Φ : A → Type 0) (test : (x : A) → Dec (Φ x)) where
       on : Φ x → ((y : A) → In y l → Φ y) → (y : A) → In y (x ∷ l) → Φ y
       on p h y here = p
       on p h y (there m) = h y m
+
       go : Dec (Φ x) → Dec ((y : A) → In y l → Φ y) → Dec ((y : A) → In y (x ∷ l) → Φ y)
       go (yes p) (yes h) = yes (on p h)
       go (yes p) (no f) = no (λ h. f (λ y m. h y (there m)))

@@ -52,6 +52,7 @@ module _ (Φ : ℕ → Type 0) (test : (q : ℕ) → Dec (Φ q)) where
       at-last : (d : Dec (Φ n)) → (Φ n → ⊥) → if-fails n none d ≡ some n
       at-last (yes p) x = absurd (x p)
       at-last (no x) y = refl
+
       go : Dec (suc q ≤ n) → (suc q ≤ n → lowest n ≡ some q) → if-fails n (lowest n) (test n) ≡ some q
       go (yes m) rec = ap (λ (o : Option ℕ). if-fails n o (test n)) (rec m)
       go (no m) rec =
@@ -132,26 +133,29 @@ module _ (g : Grammar) (t : Table) (F : List ℕ → ℕ → ℕ → Type 0) (en
     off-line q o l = omega (arith, o, R .kernel-state q (l .0) (l .1) (l .2) (l .3) .1)
 
     off-items : (q : ℕ) → Off q → ItemsMeet g t q
-    off-items q o = record
-      { entry-has = λ j γ e. absurd (omega (arith, o, R .entry-state j q γ e .1))
-      ; entry-only = λ j γ e. absurd (omega (arith, o, R .entry-state j q γ e .1))
-      ; move-has = λ X s i n x a. absurd (omega (arith, o, R .action-state q X x a .1))
-      ; move-only = λ X s i n x a. absurd (omega (arith, o, R .action-state q X x a .1))
-      ; named = λ a b. absurd (omega (arith, o, b)) }
+    off-items q o = record {
+      entry-has = λ j γ e. absurd (omega (arith, o, R .entry-state j q γ e .1));
+      entry-only = λ j γ e. absurd (omega (arith, o, R .entry-state j q γ e .1));
+      move-has = λ X s i n x a. absurd (omega (arith, o, R .action-state q X x a .1));
+      move-only = λ X s i n x a. absurd (omega (arith, o, R .action-state q X x a .1));
+      named = λ a b. absurd (omega (arith, o, b));
+    }
 
     off-lookaheads : (q : ℕ) → Off q → LookaheadsMeet g t F q
-    off-lookaheads q o = record
-      { of-move = λ p X i k d β σ x a n h go l. absurd (off-line q o (i, suc k, σ, l))
-      ; of-group = λ j p i d c γ σ r δs εs e re ge h f l. absurd (off-line q o (_, zero, σ, l))
-      ; of-goal = λ γ σ e l. absurd (off-line q o (_, zero, σ, l)) }
+    off-lookaheads q o = record {
+      of-move = λ p X i k d β σ x a n h go l. absurd (off-line q o (i, suc k, σ, l));
+      of-group = λ j p i d c γ σ r δs εs e re ge h f l. absurd (off-line q o (_, zero, σ, l));
+      of-goal = λ γ σ e l. absurd (off-line q o (_, zero, σ, l));
+    }
 
     off-agree : (q : ℕ) → Off q → CellsAgree g t F q
     off-agree q o = record { one = λ X x y a b. absurd (off-line q o (asked-some a)) }
 
     off-cells : (q : ℕ) → Off q → CellsMeet g t F q
-    off-cells q o = record
-      { filled = λ X x a. absurd (off-line q o (asked-some a))
-      ; asked = λ X y a. absurd (omega (arith, o, R .action-state q X y a .1)) }
+    off-cells q o = record {
+      filled = λ X x a. absurd (off-line q o (asked-some a));
+      asked = λ X y a. absurd (omega (arith, o, R .action-state q X y a .1));
+    }
 
     everywhere : (Φ : ℕ → Type 0) → ((q : ℕ) → Off q → Φ q) → ((q : ℕ) → q < suc (t .states) → Φ q) → (q : ℕ) → Φ q
     everywhere Φ off on q = go (decLe (suc q) (suc (t .states)))
@@ -168,13 +172,14 @@ module _ (g : Grammar) (t : Table) (F : List ℕ → ℕ → ℕ → Type 0) (en
         let c = first-zero MissingLookahead (lowest (LookaheadsMeet g t F) lookaheads? (suc (t .states))) _ (b .1) in
         let d = first-zero Conflict (lowest (CellsAgree g t F) agree? (suc (t .states))) _ (c .1) in
         let f = first-zero CellMismatch (lowest (CellsMeet g t F) cells? (suc (t .states))) _ (d .1) in
-        record
-          { form = R
-          ; entries = a .0
-          ; items = everywhere (ItemsMeet g t) off-items (none-fails (ItemsMeet g t) items? (suc (t .states)) (b .0))
-          ; lookaheads = everywhere (LookaheadsMeet g t F) off-lookaheads (none-fails (LookaheadsMeet g t F) lookaheads? (suc (t .states)) (c .0))
-          ; agree = everywhere (CellsAgree g t F) off-agree (none-fails (CellsAgree g t F) agree? (suc (t .states)) (d .0))
-          ; cells = everywhere (CellsMeet g t F) off-cells (none-fails (CellsMeet g t F) cells? (suc (t .states)) (f .0)) }
+        record {
+          form = R;
+          entries = a .0;
+          items = everywhere (ItemsMeet g t) off-items (none-fails (ItemsMeet g t) items? (suc (t .states)) (b .0));
+          lookaheads = everywhere (LookaheadsMeet g t F) off-lookaheads (none-fails (LookaheadsMeet g t F) lookaheads? (suc (t .states)) (c .0));
+          agree = everywhere (CellsAgree g t F) off-agree (none-fails (CellsAgree g t F) agree? (suc (t .states)) (d .0));
+          cells = everywhere (CellsMeet g t F) off-cells (none-fails (CellsMeet g t F) cells? (suc (t .states)) (f .0));
+        }
 
   pub past-entries : EntriesMeet g t → verdict ≡ after-entries
   unfolding verdict

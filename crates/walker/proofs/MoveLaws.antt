@@ -7,6 +7,7 @@ use native.Mathlib.Omega.{arith}
 use lib.ListN.{length, getD, set, drop, take, length-set, length-drop}
 use lib.Seq.{length-take-le, take-suc-set, drop-drop, getD-set-same}
 use Rattle.language.specs.Grammar.{Grammar, ruleAt}
+use Rattle.leftcorner.specs.Bounded.{fits-yes}
 use Rattle.leftcorner.specs.Machine.{Automaton, Event, Outcome, on, rulesOf, toCome, taken, shiftTo, popTo, tell, Verdict}
 use Rattle.walker.specs.declared.Position.{Position}
 use Rattle.walker.specs.declared.Turn.{Turn}
@@ -14,7 +15,7 @@ use Rattle.walker.specs.Memory.{figureOf, groupEntries, memoryGrammar, m
 use Rattle.walker.specs.Turn.{tops, ruleOver, loweredTo, stepsLeft, Stands, Moves, Turned, proceeds}
 use Rattle.walker.proofs.StackLaws.{tops-push, tops-length, tops-drop}
 use Rattle.walker.proofs.MemoryLaws.{told-on, unit-is}
-use Rattle.walker.proofs.TurnLaws.{shift-on, pop-on, units-snoc, fits-yes}
+use Rattle.walker.proofs.TurnLaws.{shift-on, pop-on, units-snoc}
 
 -- a token or a place of the listing fewer, and the stack within n
 fewer : (a b n h h′ : ℕ) → suc a ≡ b → h′ ≤ n → a * suc n + h′ < b * suc n + h

@@ -7,6 +7,7 @@ use lib.ListN.{length, getD, set, take, drop, length-set}
 use lib.Seq.{getD-set-same}
 use Rattle.language.specs.Grammar.{Grammar}
 use Rattle.language.specs.First.{next}
+use Rattle.leftcorner.specs.Bounded.{fits-yes}
 use Rattle.leftcorner.specs.Machine.{Verdict, step, walkFor}
 use Rattle.walker.specs.declared.Position.{Position}
 use Rattle.walker.specs.declared.Turn.{Turn}
@@ -15,7 +16,6 @@ use Rattle.walker.specs.declared.Walked.{Walked}
 use Rattle.walker.specs.Memory.{memoryGrammar, memoryAutomaton}
 use Rattle.walker.specs.Walked.{memoryWalk, Ended}
 use Rattle.walker.specs.Turn.{tops, stepsLeft, Stands, Moves, Finishes, Turned}
-use Rattle.walker.proofs.TurnLaws.{fits-yes}
 
 enough-first : (a b n : ℕ) → a ≡ b → a * suc n + 1 ≤ suc (suc b * suc n)
 enough-first a b n e = rw e (omega arith)

@@ -1,18 +1,17 @@
 -- From a step's outcome in the theory to what it makes of a position in memory.
 use mathlib.Core.Path.{_≡_, refl, sym, ap, subst, _∙_}
-use mathlib.Core.Logic.{_⊎_, inl, inr}
-use mathlib.Core.Bool.{Bool, true, false, cond, _&&_}
+use mathlib.Core.Logic.{_⊎_}
+use mathlib.Core.Bool.{Bool, true, false}
 use mathlib.Core.List.{List, [], _∷_, _++_}
 use mathlib.Core.Option.{Option, some, none}
 use Prim.Native.Nat.{ℕ, zero, suc, _+_, _-_, _≤_, _<_}
 use native.Mathlib.Omega.{arith}
-use lib.Dec.{leb}
 use lib.ListN.{length, take}
 use lib.Seq.{length-take-le}
-use borrow.Author.Tests.{le-leb, lt-leb}
 use Rattle.language.specs.Grammar.{Grammar, Rule, ruleAt}
 use Rattle.language.specs.Listing.{unitsIn, isUnit, unitOf}
-use Rattle.leftcorner.specs.Machine.{Automaton, Event, Outcome, on, whole, wrong, rulesOf, taken, shiftTo, popTo, Verdict, wrong-at, short-at, whole-at, fits}
+use Rattle.leftcorner.specs.Bounded.{fits-no}
+use Rattle.leftcorner.specs.Machine.{Automaton, Event, Outcome, on, whole, wrong, rulesOf, taken, shiftTo, popTo, wrong-at, short-at, whole-at}
 use Rattle.reply.specs.declared.Kind.the-variants.{BufferTooSmall, SyntaxError}
 use Rattle.leftcorner.specs.Machine as machine
 use Rattle.walker.specs.declared.Position.{Position}
@@ -69,44 +68,32 @@ pub units-few : (g : Grammar) (l : List ℕ) → unitsIn g l ≤ length l
 units-few g [] = omega arith
 units-few g (i ∷ l) = omega (arith, unit-few g i, units-few g l)
 
-module _ (g : Grammar) (m : Automaton) (n k : ℕ) where
-  pub fits-yes : (p : ℕ) (U l : List ℕ) (v : Verdict) → length U ≤ n → length l ≤ k → fits g m n k p U l v ≡ v
-  fits-yes p U l v a b = simp (le-leb (length U) n a, le-leb (length l) k b)
+-- ---- ends
 
-  fits-no : (p : ℕ) (U l : List ℕ) (v : Verdict) → (n < length U) ⊎ (k < length l) → fits g m n k p U l v ≡ short-at p
-  fits-no p U l v (inl a) = simp (lt-leb (length U) n a)
-  fits-no p U l v (inr b) = go (leb (length U) n)
-    where
-      go : (t : Bool) → cond (t && leb (length l) k) v (short-at p) ≡ short-at p
-      go true = simp (lt-leb (length l) k b)
-      go false = refl
+module _ (g : Grammar) (m : Automaton) (n k : ℕ) (tokens stack listing : List ℕ) (p : Position) where
+  pub turns-wrong : (stack′ listing′ : List ℕ) {o : Outcome} {t : Turn} → o ≡ wrong → t ≡ Ends (Refused (record { kind = SyntaxError; place = p .taken }))
+      → Turned g m n k tokens stack listing p o stack′ listing′ t
+  turns-wrong stack′ listing′ {o} {t} e f = subst (Turned g m n k tokens stack listing p o stack′ listing′) (sym f) (record {
+    verdict = wrong-at (p .taken);
+    ends = λ again. ap (λ (x : Outcome). proceeds g m n k tokens stack listing p x again) e;
+    ended = record { answered = refl; front = refl; within = omega arith };
+  })
 
-  module _ (tokens stack listing : List ℕ) (p : Position) where
-    -- ---- ends
+  pub turns-short : (stack′ listing′ : List ℕ) {o : Outcome} {e : Event} {U : List ℕ} {t : Turn} → o ≡ on e U
+      → (n < length U) ⊎ (k < length (take (p .listed) listing ++ rulesOf e))
+      → t ≡ Ends (Refused (record { kind = BufferTooSmall; place = p .taken })) → Turned g m n k tokens stack listing p o stack′ listing′ t
+  turns-short stack′ listing′ {o} {e} {U} {t} h over f = subst (Turned g m n k tokens stack listing p o stack′ listing′) (sym f) (record {
+    verdict = short-at (p .taken);
+    ends = λ again. ap (λ (x : Outcome). proceeds g m n k tokens stack listing p x again) h ∙ fits-no g m n k (p .taken) U (take (p .listed) listing ++ rulesOf e) _ over;
+    ended = record { answered = refl; front = refl; within = omega arith };
+  })
 
-    pub turns-wrong : (stack′ listing′ : List ℕ) {o : Outcome} {t : Turn} → o ≡ wrong → t ≡ Ends (Refused (record { kind = SyntaxError; place = p .taken }))
-        → Turned g m n k tokens stack listing p o stack′ listing′ t
-    turns-wrong stack′ listing′ {o} {t} e f = subst (Turned g m n k tokens stack listing p o stack′ listing′) (sym f) (record {
-      verdict = wrong-at (p .taken);
-      ends = λ again. ap (λ (x : Outcome). proceeds g m n k tokens stack listing p x again) e;
-      ended = record { answered = refl; front = refl; within = omega arith };
-    })
-
-    pub turns-short : (stack′ listing′ : List ℕ) {o : Outcome} {e : Event} {U : List ℕ} {t : Turn} → o ≡ on e U
-        → (n < length U) ⊎ (k < length (take (p .listed) listing ++ rulesOf e))
-        → t ≡ Ends (Refused (record { kind = BufferTooSmall; place = p .taken })) → Turned g m n k tokens stack listing p o stack′ listing′ t
-    turns-short stack′ listing′ {o} {e} {U} {t} h over f = subst (Turned g m n k tokens stack listing p o stack′ listing′) (sym f) (record {
-      verdict = short-at (p .taken);
-      ends = λ again. ap (λ (x : Outcome). proceeds g m n k tokens stack listing p x again) h ∙ fits-no (p .taken) U (take (p .listed) listing ++ rulesOf e) _ over;
-      ended = record { answered = refl; front = refl; within = omega arith };
-    })
-
-    pub turns-whole : (stack′ : List ℕ) {o : Outcome} → o ≡ whole → Stands g n k tokens stack listing p
-        → Turned g m n k tokens stack listing p o stack′ listing (Ends (Accepted (record { tokens = p .taken; rules = p .listed; units = p .units })))
-    turns-whole stack′ {o} e s =
-        let len : length (take (p .listed) listing) ≡ p .listed = length-take-le (p .listed) listing (omega (arith, s .room, s .listing-long)) in
-        record {
-          verdict = whole-at (p .taken) (take (p .listed) listing);
-          ends = λ again. ap (λ (x : Outcome). proceeds g m n k tokens stack listing p x again) e;
-          ended = record { answered = rw (len, ← s .counted); front = rw len; within = omega (arith, len, s .room, s .listing-long) };
-        }
+  pub turns-whole : (stack′ : List ℕ) {o : Outcome} → o ≡ whole → Stands g n k tokens stack listing p
+      → Turned g m n k tokens stack listing p o stack′ listing (Ends (Accepted (record { tokens = p .taken; rules = p .listed; units = p .units })))
+  turns-whole stack′ {o} e s =
+      let len : length (take (p .listed) listing) ≡ p .listed = length-take-le (p .listed) listing (omega (arith, s .room, s .listing-long)) in
+      record {
+        verdict = whole-at (p .taken) (take (p .listed) listing);
+        ends = λ again. ap (λ (x : Outcome). proceeds g m n k tokens stack listing p x again) e;
+        ended = record { answered = rw (len, ← s .counted); front = rw len; within = omega (arith, len, s .room, s .listing-long) };
+      }

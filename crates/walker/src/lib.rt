@@ -186,6 +186,7 @@ fn push_rule(
     push_groups(rules, rule, groups, stack, height + 1)
 }
 
+// Pushes the next state and takes a token.
 fn shift(tokens: &[u8], stack: &mut [u8], next: u8, code: u8, p: Position) -> Turn
     requires { ⌜ p .taken ≤ length (now tokens) ⌝ }
     ensures { λ t. ⌜ Shifts (now (tokens .entry)) (now (stack .entry)) next code p t (now (stack .exit)) ⌝ }
@@ -209,6 +210,7 @@ fn shift(tokens: &[u8], stack: &mut [u8], next: u8, code: u8, p: Position) -> Tu
     })
 }
 
+// Lists the rule, pops a state for each symbol left of its recognition point, and pushes the goto and the groups.
 fn announce(
     gotos: &[u8],
     rules: &[u8],
@@ -266,7 +268,8 @@ fn lowered(stack: &[u8], height: usize, code: u8, p: Position) -> Turn
     })
 }
 
-// An entry of one symbol is told apart: the height after its pop does not wait for the cell to be loaded.
+// Pops an entry; a pop that empties the stack ends the walk. An entry of one symbol is told apart, so that the height after
+// it does not wait for the cell to be loaded.
 fn pop(stack: &[u8], symbols: u8, code: u8, p: Position) -> Turn
     requires { ⌜ p .height ≤ length (now stack) ⌝ }
     ensures { λ t. ⌜ Pops (now (stack .entry)) symbols code p t ⌝ }

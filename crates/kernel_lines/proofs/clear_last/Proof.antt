@@ -1,15 +1,13 @@
-use Rattle.kernel_lines.proofs.LinkLaws.{clear-more}
-use mathlib.Core.Path.{_≡_, refl, sym, ap, subst, _∙_}
-use mathlib.Core.Logic.{⊎-elim}
-use Prim.Native.Nat.{ℕ, zero, suc, _+_, _*_, _≤_, _<_, _-_}
+-- The states passed have no line.
+use Prim.Native.Nat.{ℕ, _+_, _≤_, _<_, _-_}
+use mathlib.Core.Path.{_≡_}
 use native.Mathlib.Omega.{arith}
-use borrow.Author.Count.{below-more, below-none}
-use lib.ListN.{length, getD, set, length-set, replicate}
+use borrow.Author.Count.{below-none}
 use borrow.Author.Needs.{needs}
+use lib.ListN.{length, getD, length-set}
+use Rattle.kernel_lines.proofs.LinkLaws.{clear-more}
 use Rattle.kernel_lines.proofs.clear_last.Statement.{statement}
 use Rattle.kernel_lines.proofs.clear_last.Tie as tie
-use Rattle.kernel_lines.proofs.clear_last.Reads as reads
-use Rattle.kernel_lines.proofs.clear_last.Lts as lts
 
 abbrev Inv-loop : tie.InvT-loop
 Inv-loop links₀ q₀ links q = (q ≤ 256) × (length links ≡ 1280) × ((p : ℕ) → p < q → getD links (1024 + p) 0 ≡ 0)

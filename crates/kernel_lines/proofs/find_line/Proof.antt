@@ -1,20 +1,11 @@
-use Rattle.kernel_lines.specs.Lines.{Lines, IsLine, LineAt, Finds, lastBefore, Linked}
-use Rattle.memory.specs.Memory.{stateAt, itemAt, dotAt}
-use Rattle.kernel_lines.proofs.LinkLaws.{last-low, Passed, passed-start, passed-more, passed-all, Linking, linking-start, linked-line}
-use mathlib.Core.Path.{_≡_, refl, sym, ap, subst, _∙_}
-use mathlib.Core.Logic.{⊎-elim}
-use Prim.Native.Nat.{ℕ, zero, suc, _+_, _*_, _≤_, _<_, _-_}
+-- No line of the state that was passed is the one.
+use mathlib.Core.Path.{_≡_}
 use native.Mathlib.Omega.{arith}
-use borrow.Author.Count.{below-more, below-none}
-use lib.ListN.{length, getD, set, length-set, replicate}
 use borrow.Author.Needs.{needs}
+use Rattle.memory.specs.Memory.{itemAt, dotAt}
+use Rattle.kernel_lines.proofs.LinkLaws.{Passed, passed-start, passed-more, passed-all}
 use Rattle.kernel_lines.proofs.find_line.Statement.{statement}
 use Rattle.kernel_lines.proofs.find_line.Tie as tie
-use Rattle.kernel_lines.proofs.find_line.Reads as reads
-use Rattle.kernel_lines.proofs.find_line.Lts as lts
-use Rattle.kernel_lines.proofs.is_of.Reads as is-of-reads
-use Rattle.kernel_lines.proofs.last_line.Reads as last-line-reads
-use Rattle.kernel_lines.proofs.line_before.Reads as line-before-reads
 
 abbrev Inv-loop : tie.InvT-loop
 Inv-loop kernels links lines items q i k p₀ p = Passed (λ m. (itemAt kernels m ≡ i) × (dotAt kernels m ≡ k) → ⊥) kernels q lines p

@@ -1,17 +1,9 @@
-use Rattle.fixpoint.proofs.PassLaws.{is-yes, is-no}
-use Rattle.kernel_lines.proofs.LinkLaws.{last-low, Passed, passed-start, passed-more, passed-all, Linking, linking-start, linked-line, found-line, found-none}
-use mathlib.Core.Path.{_≡_, refl, sym, ap, subst, _∙_}
-use mathlib.Core.Logic.{⊎-elim}
-use Prim.Native.Nat.{ℕ, zero, suc, _+_, _*_, _≤_, _<_, _-_}
-use native.Mathlib.Omega.{arith}
-use borrow.Author.Count.{below-more, below-none}
-use lib.ListN.{length, getD, set, length-set, replicate}
+-- There is a line where one is found.
 use borrow.Author.Needs.{needs}
+use Rattle.fixpoint.proofs.PassLaws.{is-yes, is-no}
+use Rattle.kernel_lines.proofs.LinkLaws.{found-line, found-none}
 use Rattle.kernel_lines.proofs.has_line.Statement.{statement}
 use Rattle.kernel_lines.proofs.has_line.Tie as tie
-use Rattle.kernel_lines.proofs.has_line.Reads as reads
-use Rattle.kernel_lines.proofs.has_line.Lts as lts
-use Rattle.kernel_lines.proofs.find_line.Reads as find-line-reads
 
 find-line-requires : tie.Need-find-line-requires
 find-line-requires c κs = search needs

@@ -1,18 +1,9 @@
-use Rattle.memory.specs.Memory.{stateAt, itemAt, dotAt}
-use Rattle.fixpoint.proofs.PassLaws.{is-yes, is-no}
-use mathlib.Core.Path.{_≡_, refl, sym, ap, subst, _∙_}
-use mathlib.Core.Logic.{⊎-elim}
-use Prim.Native.Nat.{ℕ, zero, suc, _+_, _*_, _≤_, _<_, _-_}
-use native.Mathlib.Omega.{arith}
-use borrow.Author.Count.{below-more, below-none}
-use lib.ListN.{length, getD, set, length-set, replicate}
+-- Item and dot are compared.
+use mathlib.Core.Path.{sym, _∙_}
 use borrow.Author.Needs.{needs}
+use Rattle.fixpoint.proofs.PassLaws.{is-yes, is-no}
 use Rattle.kernel_lines.proofs.is_of.Statement.{statement}
 use Rattle.kernel_lines.proofs.is_of.Tie as tie
-use Rattle.kernel_lines.proofs.is_of.Reads as reads
-use Rattle.kernel_lines.proofs.is_of.Lts as lts
-use Rattle.kernel_lines.proofs.dot_of.Reads as dot-of-reads
-use Rattle.kernel_lines.proofs.item_of.Reads as item-of-reads
 
 item-of-requires : tie.Need-item-of-requires
 item-of-requires c κs = search needs

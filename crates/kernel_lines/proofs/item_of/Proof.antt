@@ -1,15 +1,8 @@
-use mathlib.Core.Path.{_≡_, refl, sym, ap, subst, _∙_}
-use mathlib.Core.Logic.{⊎-elim}
-use Prim.Native.Nat.{ℕ, zero, suc, _+_, _*_, _≤_, _<_, _-_}
+-- The bound is that of the lines' shape.
 use native.Mathlib.Omega.{arith}
-use borrow.Author.Count.{below-more, below-none}
-use lib.ListN.{length, getD, set, length-set, replicate}
 use borrow.Author.Needs.{needs}
 use Rattle.kernel_lines.proofs.item_of.Statement.{statement}
 use Rattle.kernel_lines.proofs.item_of.Tie as tie
-use Rattle.kernel_lines.proofs.item_of.Reads as reads
-use Rattle.kernel_lines.proofs.item_of.Lts as lts
-use Rattle.kernel_lines.proofs.wide.Reads as wide-reads
 
 mul-wide : tie.Need-mul-wide
 mul-wide c = search needs

@@ -1,15 +1,8 @@
-use Rattle.kernel_lines.proofs.LinkLaws.{last-low, Passed, passed-start, passed-more, passed-all, Linking, linking-start, linked-line}
-use mathlib.Core.Path.{_≡_, refl, sym, ap, subst, _∙_}
-use mathlib.Core.Logic.{⊎-elim}
-use Prim.Native.Nat.{ℕ, zero, suc, _+_, _*_, _≤_, _<_, _-_}
-use native.Mathlib.Omega.{arith}
-use borrow.Author.Count.{below-more, below-none}
-use lib.ListN.{length, getD, set, length-set, replicate}
+-- The link of a state is its last line.
 use borrow.Author.Needs.{needs}
+use Rattle.kernel_lines.proofs.LinkLaws.{last-low}
 use Rattle.kernel_lines.proofs.last_line.Statement.{statement}
 use Rattle.kernel_lines.proofs.last_line.Tie as tie
-use Rattle.kernel_lines.proofs.last_line.Reads as reads
-use Rattle.kernel_lines.proofs.last_line.Lts as lts
 
 add-result : tie.Need-add-result
 add-result c = search needs

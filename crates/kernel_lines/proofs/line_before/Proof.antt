@@ -1,15 +1,8 @@
-use Rattle.kernel_lines.proofs.LinkLaws.{last-low, Passed, passed-start, passed-more, passed-all, Linking, linking-start, linked-line}
-use mathlib.Core.Path.{_≡_, refl, sym, ap, subst, _∙_}
-use mathlib.Core.Logic.{⊎-elim}
-use Prim.Native.Nat.{ℕ, zero, suc, _+_, _*_, _≤_, _<_, _-_}
-use native.Mathlib.Omega.{arith}
-use borrow.Author.Count.{below-more, below-none}
-use lib.ListN.{length, getD, set, length-set, replicate}
+-- The link of a line is the one before it.
 use borrow.Author.Needs.{needs}
+use Rattle.kernel_lines.proofs.LinkLaws.{last-low}
 use Rattle.kernel_lines.proofs.line_before.Statement.{statement}
 use Rattle.kernel_lines.proofs.line_before.Tie as tie
-use Rattle.kernel_lines.proofs.line_before.Reads as reads
-use Rattle.kernel_lines.proofs.line_before.Lts as lts
 
 mul-result : tie.Need-mul-result
 mul-result c = search needs

@@ -1,18 +1,13 @@
-use Rattle.kernel_lines.specs.Lines.{Linked}
-use Rattle.kernel_lines.proofs.LinkLaws.{last-low, Passed, passed-start, passed-more, passed-all, Linking, linking-start, linked-line, found-line, found-none}
-use mathlib.Core.Path.{_≡_, refl, sym, ap, subst, _∙_}
-use mathlib.Core.Logic.{⊎-elim}
-use Prim.Native.Nat.{ℕ, zero, suc, _+_, _*_, _≤_, _<_, _-_}
+-- The lines passed are linked.
+use Prim.Native.Nat.{_≤_, _-_}
+use mathlib.Core.Path.{_≡_, refl, subst}
 use native.Mathlib.Omega.{arith}
-use borrow.Author.Count.{below-more, below-none}
-use lib.ListN.{length, getD, set, length-set, replicate}
 use borrow.Author.Needs.{needs}
+use lib.ListN.{length-set}
+use Rattle.kernel_lines.specs.Lines.{Linked}
+use Rattle.kernel_lines.proofs.LinkLaws.{Linking, linking-start, linked-line}
 use Rattle.kernel_lines.proofs.link_lines.Statement.{statement}
 use Rattle.kernel_lines.proofs.link_lines.Tie as tie
-use Rattle.kernel_lines.proofs.link_lines.Reads as reads
-use Rattle.kernel_lines.proofs.link_lines.Lts as lts
-use Rattle.kernel_lines.proofs.clear_last.Reads as clear-last-reads
-use Rattle.kernel_lines.proofs.state_of.Reads as state-of-reads
 
 abbrev Inv-loop : tie.InvT-loop
 Inv-loop kernels lines items links₀ l₀ links l = (l ≤ lines) × Linking kernels links l

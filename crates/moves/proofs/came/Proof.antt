@@ -1,20 +1,11 @@
+-- The symbol before the dot is the one, and the item with the dot before it is there.
+use mathlib.Core.Path.{sym, _∙_}
 use borrow.Author.Tests.{not-true, not-false}
-use Rattle.moves.specs.Moves.{symbolAfter, nextAt, Present, HasAt, by-line, by-rule, MovedAt, moved, OnlyMoved}
-use Rattle.moves.proofs.MoveLaws.{after-end, after-mark, after-symbol, next-goto, next-none, next-shift, not-has, rule-has, came-yes, came-more, came-symbol, came-has, moved-to, absent-low, absent-off, present-on}
-use Rattle.fixpoint.proofs.PassLaws.{is-yes, is-no}
-use mathlib.Core.Path.{_≡_, refl, sym, ap, subst, _∙_}
-use mathlib.Core.Logic.{⊎-elim}
-use Prim.Native.Nat.{ℕ, zero, suc, _+_, _*_, _≤_, _<_, _-_}
-use native.Mathlib.Omega.{arith}
-use borrow.Author.Count.{below-more, below-none}
-use lib.ListN.{length, getD, set, length-set, replicate}
 use borrow.Author.Needs.{needs}
+use Rattle.fixpoint.proofs.PassLaws.{is-yes, is-no}
+use Rattle.moves.proofs.MoveLaws.{came-yes, came-more, came-symbol, came-has}
 use Rattle.moves.proofs.came.Statement.{statement}
 use Rattle.moves.proofs.came.Tie as tie
-use Rattle.moves.proofs.came.Reads as reads
-use Rattle.moves.proofs.came.Lts as lts
-use Rattle.moves.proofs.has.Reads as has-reads
-use Rattle.moves.proofs.symbol_after.Reads as symbol-after-reads
 
 returns : tie.Need-returns
 returns c = is-no _ (λ m. came-more _ _ _ _ _ m (c .if1 .taken))

@@ -1,25 +1,16 @@
-use Rattle.kernel_lines.proofs.LinkLaws.{Passed, passed-start, passed-more, passed-map, passed-all}
-use Rattle.memory.specs.Memory.{stateAt, itemAt, dotAt}
+-- The lines passed are flagged, and only what moves.
+use Prim.Native.Nat.{_-_}
+use mathlib.Core.Path.{_≡_, refl}
+use native.Mathlib.Omega.{arith}
+use borrow.Author.Needs.{needs}
 use Rattle.fixpoint.proofs.CountLaws.{keep-set}
 use Rattle.fixpoint.specs.Flags.{On}
-use Rattle.moves.specs.Moves.{symbolAfter, Present, Flagged}
-use Rattle.moves.proofs.MoveLaws.{flagged-start, flagged-more, flagged-join, line-moves, rule-moves, on-line, on-rule}
-use mathlib.Core.Path.{_≡_, refl, sym, ap, subst, _∙_}
-use mathlib.Core.Logic.{⊎-elim}
-use Prim.Native.Nat.{ℕ, zero, suc, _+_, _*_, _≤_, _<_, _-_}
-use native.Mathlib.Omega.{arith}
-use borrow.Author.Count.{below-more, below-none}
-use lib.ListN.{length, getD, set, length-set, replicate}
-use borrow.Author.Needs.{needs}
+use Rattle.memory.specs.Memory.{itemAt, dotAt}
+use Rattle.kernel_lines.proofs.LinkLaws.{Passed, passed-start, passed-more, passed-map, passed-all}
+use Rattle.moves.specs.Moves.{symbolAfter, Flagged}
+use Rattle.moves.proofs.MoveLaws.{flagged-start, flagged-more, line-moves, on-line}
 use Rattle.moves.proofs.flag_lines.Statement.{statement}
 use Rattle.moves.proofs.flag_lines.Tie as tie
-use Rattle.moves.proofs.flag_lines.Reads as reads
-use Rattle.moves.proofs.flag_lines.Lts as lts
-use Rattle.kernel_lines.proofs.dot_of.Reads as dot-of-reads
-use Rattle.kernel_lines.proofs.item_of.Reads as item-of-reads
-use Rattle.kernel_lines.proofs.last_line.Reads as last-line-reads
-use Rattle.kernel_lines.proofs.line_before.Reads as line-before-reads
-use Rattle.moves.proofs.symbol_after.Reads as symbol-after-reads
 
 abbrev Inv-loop : tie.InvT-loop
 Inv-loop items kernels links present count rules lines q moves₀ p₀ moves p = Flagged items kernels present rules lines q moves₀ moves × Passed (λ m. On moves (symbolAfter items (itemAt kernels m) (dotAt kernels m))) kernels q lines p

@@ -1,17 +1,11 @@
+-- From no flag on, those of the lines, then those of the rules.
+use Prim.Native.Nat.{ℕ}
+use mathlib.Core.Path.{ap, _∙_}
+use borrow.Author.Needs.{needs}
 use lib.ListN.{length, length-replicate}
 use Rattle.moves.proofs.HeldLaws.{flags-hold}
-use mathlib.Core.Path.{_≡_, refl, sym, ap, subst, _∙_}
-use mathlib.Core.Logic.{⊎-elim}
-use Prim.Native.Nat.{ℕ, zero, suc, _+_, _*_, _≤_, _<_, _-_}
-use native.Mathlib.Omega.{arith}
-use borrow.Author.Count.{below-more, below-none}
-use borrow.Author.Needs.{needs}
 use Rattle.moves.proofs.flag_moves.Statement.{statement}
 use Rattle.moves.proofs.flag_moves.Tie as tie
-use Rattle.moves.proofs.flag_moves.Reads as reads
-use Rattle.moves.proofs.flag_moves.Lts as lts
-use Rattle.moves.proofs.flag_lines.Reads as flag-lines-reads
-use Rattle.moves.proofs.flag_rules.Reads as flag-rules-reads
 
 flag-lines-requires : tie.Need-flag-lines-requires
 flag-lines-requires c κs = let s = c .before .before .before .before .before .before in (s .pre .0, (s .pre .1 .0, ap length (s .pre .1 .1) ∙ length-replicate {A = ℕ} 128 0))

@@ -1,22 +1,16 @@
+-- The rules passed are flagged, and only what moves.
+use Prim.Native.Nat.{ℕ, _+_, _≤_, _<_, _-_}
+use mathlib.Core.Path.{refl}
+use native.Mathlib.Omega.{arith}
 use borrow.Author.Tests.{not-true, not-false}
+use borrow.Author.Needs.{needs}
 use Rattle.fixpoint.proofs.PassLaws.{no-gap, from-more}
 use Rattle.fixpoint.proofs.CountLaws.{keep-set}
 use Rattle.fixpoint.specs.Flags.{On}
 use Rattle.moves.specs.Moves.{symbolAfter, Present, Flagged}
-use Rattle.moves.proofs.MoveLaws.{flagged-start, flagged-more, flagged-join, line-moves, rule-moves, on-line, on-rule}
-use mathlib.Core.Path.{_≡_, refl, sym, ap, subst, _∙_}
-use mathlib.Core.Logic.{⊎-elim}
-use Prim.Native.Nat.{ℕ, zero, suc, _+_, _*_, _≤_, _<_, _-_}
-use native.Mathlib.Omega.{arith}
-use borrow.Author.Count.{below-more, below-none}
-use lib.ListN.{length, getD, set, length-set, replicate}
-use borrow.Author.Needs.{needs}
+use Rattle.moves.proofs.MoveLaws.{flagged-start, flagged-more, rule-moves, on-rule}
 use Rattle.moves.proofs.flag_rules.Statement.{statement}
 use Rattle.moves.proofs.flag_rules.Tie as tie
-use Rattle.moves.proofs.flag_rules.Reads as reads
-use Rattle.moves.proofs.flag_rules.Lts as lts
-use Rattle.moves.proofs.is_present.Reads as is-present-reads
-use Rattle.moves.proofs.symbol_after.Reads as symbol-after-reads
 
 abbrev Inv-loop : tie.InvT-loop
 Inv-loop items kernels links present count rules lines q moves₀ i₀ moves i = (1 ≤ i) × (i ≤ rules + 1) × Flagged items kernels present rules lines q moves₀ moves × ((j : ℕ) → 1 ≤ j → j < i → Present items present j → On moves (symbolAfter items j 0))

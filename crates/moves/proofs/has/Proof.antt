@@ -1,20 +1,12 @@
-use borrow.Author.Tests.{not-true, not-false}
-use Rattle.moves.specs.Moves.{symbolAfter, nextAt, Present, HasAt, by-line, by-rule, MovedAt, moved, OnlyMoved}
-use Rattle.moves.proofs.MoveLaws.{after-end, after-mark, after-symbol, next-goto, next-none, next-shift, not-has, rule-has, came-yes, came-more, came-symbol, came-has, moved-to, absent-low, absent-off, present-on}
-use Rattle.fixpoint.proofs.PassLaws.{is-yes, is-no}
-use mathlib.Core.Path.{_≡_, refl, sym, ap, subst, _∙_}
-use mathlib.Core.Logic.{⊎-elim}
-use Prim.Native.Nat.{ℕ, zero, suc, _+_, _*_, _≤_, _<_, _-_}
+-- A kernel line, or a rule that is added, with dot 0.
 use native.Mathlib.Omega.{arith}
-use borrow.Author.Count.{below-more, below-none}
-use lib.ListN.{length, getD, set, length-set, replicate}
+use borrow.Author.Tests.{not-true, not-false}
 use borrow.Author.Needs.{needs}
+use Rattle.fixpoint.proofs.PassLaws.{is-yes, is-no}
+use Rattle.moves.specs.Moves.{by-line}
+use Rattle.moves.proofs.MoveLaws.{not-has, rule-has}
 use Rattle.moves.proofs.has.Statement.{statement}
 use Rattle.moves.proofs.has.Tie as tie
-use Rattle.moves.proofs.has.Reads as reads
-use Rattle.moves.proofs.has.Lts as lts
-use Rattle.kernel_lines.proofs.has_line.Reads as has-line-reads
-use Rattle.moves.proofs.is_present.Reads as is-present-reads
 
 has-line-requires : tie.Need-has-line-requires
 has-line-requires c κs = search needs

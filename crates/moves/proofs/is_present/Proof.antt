@@ -1,17 +1,9 @@
-use Rattle.moves.proofs.MoveLaws.{after-end, after-mark, after-symbol, next-goto, next-none, next-shift, not-has, rule-has, came-yes, came-more, came-symbol, came-has, moved-to, absent-low, absent-off, present-on}
-use Rattle.fixpoint.proofs.PassLaws.{is-yes, is-no}
-use mathlib.Core.Path.{_≡_, refl, sym, ap, subst, _∙_}
-use mathlib.Core.Logic.{⊎-elim}
-use Prim.Native.Nat.{ℕ, zero, suc, _+_, _*_, _≤_, _<_, _-_}
-use native.Mathlib.Omega.{arith}
-use borrow.Author.Count.{below-more, below-none}
-use lib.ListN.{length, getD, set, length-set, replicate}
+-- The flag is that of the left side.
 use borrow.Author.Needs.{needs}
+use Rattle.fixpoint.proofs.PassLaws.{is-yes, is-no}
+use Rattle.moves.proofs.MoveLaws.{absent-low, absent-off, present-on}
 use Rattle.moves.proofs.is_present.Statement.{statement}
 use Rattle.moves.proofs.is_present.Tie as tie
-use Rattle.moves.proofs.is_present.Reads as reads
-use Rattle.moves.proofs.is_present.Lts as lts
-use Rattle.items.proofs.left_of.Reads as left-of-reads
 
 left-of-requires : tie.Need-left-of-requires
 left-of-requires c κs = search needs

@@ -1,21 +1,11 @@
+-- The line's item and dot.
+use mathlib.Core.Path.{sym}
 use borrow.Author.Tests.{not-true, not-false}
-use Rattle.moves.specs.Moves.{symbolAfter, nextAt, Present, HasAt, by-line, by-rule, MovedAt, moved, OnlyMoved}
-use Rattle.moves.proofs.MoveLaws.{after-end, after-mark, after-symbol, next-goto, next-none, next-shift, not-has, rule-has, came-yes, came-more, came-symbol, came-has, moved-to, absent-low, absent-off, present-on}
-use Rattle.fixpoint.proofs.PassLaws.{is-yes, is-no}
-use mathlib.Core.Path.{_≡_, refl, sym, ap, subst, _∙_}
-use mathlib.Core.Logic.{⊎-elim}
-use Prim.Native.Nat.{ℕ, zero, suc, _+_, _*_, _≤_, _<_, _-_}
-use native.Mathlib.Omega.{arith}
-use borrow.Author.Count.{below-more, below-none}
-use lib.ListN.{length, getD, set, length-set, replicate}
 use borrow.Author.Needs.{needs}
+use Rattle.fixpoint.proofs.PassLaws.{is-yes, is-no}
+use Rattle.moves.proofs.MoveLaws.{moved-to}
 use Rattle.moves.proofs.line_came.Statement.{statement}
 use Rattle.moves.proofs.line_came.Tie as tie
-use Rattle.moves.proofs.line_came.Reads as reads
-use Rattle.moves.proofs.line_came.Lts as lts
-use Rattle.kernel_lines.proofs.dot_of.Reads as dot-of-reads
-use Rattle.kernel_lines.proofs.item_of.Reads as item-of-reads
-use Rattle.moves.proofs.came.Reads as came-reads
 
 item-of-requires : tie.Need-item-of-requires
 item-of-requires c κs = search needs

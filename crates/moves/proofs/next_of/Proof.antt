@@ -1,16 +1,10 @@
-use Rattle.moves.proofs.MoveLaws.{after-end, after-mark, after-symbol, next-goto, next-none, next-shift, not-has, rule-has, came-yes, came-more, came-symbol, came-has, moved-to, absent-low, absent-off, present-on}
-use mathlib.Core.Path.{_≡_, refl, sym, ap, subst, _∙_}
-use mathlib.Core.Logic.{⊎-elim}
-use Prim.Native.Nat.{ℕ, zero, suc, _+_, _*_, _≤_, _<_, _-_}
+-- A goto, no shift, or a shift.
+use mathlib.Core.Path.{_∙_}
 use native.Mathlib.Omega.{arith}
-use borrow.Author.Count.{below-more, below-none}
-use lib.ListN.{length, getD, set, length-set, replicate}
 use borrow.Author.Needs.{needs}
+use Rattle.moves.proofs.MoveLaws.{next-goto, next-none, next-shift}
 use Rattle.moves.proofs.next_of.Statement.{statement}
 use Rattle.moves.proofs.next_of.Tie as tie
-use Rattle.moves.proofs.next_of.Reads as reads
-use Rattle.moves.proofs.next_of.Lts as lts
-use Rattle.moves.proofs.wide.Reads as wide-reads
 
 mul-wide : tie.Need-mul-wide
 mul-wide c = search needs

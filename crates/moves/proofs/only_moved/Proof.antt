@@ -1,22 +1,13 @@
-use Rattle.kernel_lines.proofs.LinkLaws.{Passed, passed-start, passed-more, passed-all}
-use Rattle.memory.specs.Memory.{stateAt, itemAt, dotAt}
-use borrow.Author.Tests.{not-true, not-false}
-use Rattle.moves.specs.Moves.{symbolAfter, nextAt, Present, HasAt, by-line, by-rule, MovedAt, moved, OnlyMoved}
-use Rattle.fixpoint.proofs.PassLaws.{is-yes, is-no}
-use mathlib.Core.Path.{_≡_, refl, sym, ap, subst, _∙_}
-use mathlib.Core.Logic.{⊎-elim}
-use Prim.Native.Nat.{ℕ, zero, suc, _+_, _*_, _≤_, _<_, _-_}
+-- The lines passed came by a move.
 use native.Mathlib.Omega.{arith}
-use borrow.Author.Count.{below-more, below-none}
-use lib.ListN.{length, getD, set, length-set, replicate}
+use borrow.Author.Tests.{not-true, not-false}
 use borrow.Author.Needs.{needs}
+use Rattle.fixpoint.proofs.PassLaws.{is-yes, is-no}
+use Rattle.memory.specs.Memory.{itemAt, dotAt}
+use Rattle.kernel_lines.proofs.LinkLaws.{Passed, passed-start, passed-more, passed-all}
+use Rattle.moves.specs.Moves.{MovedAt}
 use Rattle.moves.proofs.only_moved.Statement.{statement}
 use Rattle.moves.proofs.only_moved.Tie as tie
-use Rattle.moves.proofs.only_moved.Reads as reads
-use Rattle.moves.proofs.only_moved.Lts as lts
-use Rattle.kernel_lines.proofs.last_line.Reads as last-line-reads
-use Rattle.kernel_lines.proofs.line_before.Reads as line-before-reads
-use Rattle.moves.proofs.line_came.Reads as line-came-reads
 
 abbrev Inv-loop : tie.InvT-loop
 Inv-loop items kernels links present count rules lines q x s p₀ p = Passed (λ m. MovedAt items kernels present rules lines q x (itemAt kernels m) (dotAt kernels m)) kernels s lines p

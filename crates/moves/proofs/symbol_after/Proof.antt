@@ -1,18 +1,10 @@
-use Rattle.moves.proofs.MoveLaws.{after-end, after-mark, after-symbol, next-goto, next-none, next-shift, not-has, rule-has, came-yes, came-more, came-symbol, came-has, moved-to, absent-low, absent-off, present-on}
-use mathlib.Core.Path.{_≡_, refl, sym, ap, subst, _∙_}
-use mathlib.Core.Logic.{⊎-elim}
-use Prim.Native.Nat.{ℕ, zero, suc, _+_, _*_, _≤_, _<_, _-_}
+-- The dot is behind the last symbol, at the recognition point, or before a symbol.
+use mathlib.Core.Path.{_∙_}
 use native.Mathlib.Omega.{arith}
-use borrow.Author.Count.{below-more, below-none}
-use lib.ListN.{length, getD, set, length-set, replicate}
 use borrow.Author.Needs.{needs}
+use Rattle.moves.proofs.MoveLaws.{after-end, after-mark, after-symbol}
 use Rattle.moves.proofs.symbol_after.Statement.{statement}
 use Rattle.moves.proofs.symbol_after.Tie as tie
-use Rattle.moves.proofs.symbol_after.Reads as reads
-use Rattle.moves.proofs.symbol_after.Lts as lts
-use Rattle.items.proofs.length_of.Reads as length-of-reads
-use Rattle.items.proofs.mark_of.Reads as mark-of-reads
-use Rattle.items.proofs.symbol_of.Reads as symbol-of-reads
 
 length-of-requires : tie.Need-length-of-requires
 length-of-requires c κs = search needs

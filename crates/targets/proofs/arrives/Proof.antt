@@ -1,20 +1,10 @@
-use Rattle.targets.proofs.ArriveLaws.{arrives-to, arrives-still, arrives-nowhere, arrives-line, arrives-not, target-still, target-nowhere, target-moved, target-not}
+-- No symbol, no next state, or a line there.
 use borrow.Author.Tests.{not-true, not-false}
-use Rattle.fixpoint.proofs.PassLaws.{is-yes, is-no}
-use mathlib.Core.Path.{_≡_, refl, sym, ap, subst, _∙_}
-use mathlib.Core.Logic.{⊎-elim}
-use Prim.Native.Nat.{ℕ, zero, suc, _+_, _*_, _≤_, _<_, _-_}
-use native.Mathlib.Omega.{arith}
-use borrow.Author.Count.{below-more, below-none}
-use lib.ListN.{length, getD, set, length-set, replicate}
 use borrow.Author.Needs.{needs}
+use Rattle.fixpoint.proofs.PassLaws.{is-yes, is-no}
+use Rattle.targets.proofs.ArriveLaws.{arrives-still, arrives-nowhere, arrives-line, arrives-not}
 use Rattle.targets.proofs.arrives.Statement.{statement}
 use Rattle.targets.proofs.arrives.Tie as tie
-use Rattle.targets.proofs.arrives.Reads as reads
-use Rattle.targets.proofs.arrives.Lts as lts
-use Rattle.kernel_lines.proofs.has_line.Reads as has-line-reads
-use Rattle.moves.proofs.next_of.Reads as next-of-reads
-use Rattle.moves.proofs.symbol_after.Reads as symbol-after-reads
 
 symbol-after-requires : tie.Need-symbol-after-requires
 symbol-after-requires c κs = search needs

@@ -1,20 +1,11 @@
-use Rattle.targets.proofs.ArriveLaws.{arrives-to, arrives-still, arrives-nowhere, arrives-line, arrives-not, target-still, target-nowhere, target-moved, target-not}
+-- The line's item and dot.
+use mathlib.Core.Path.{sym}
 use borrow.Author.Tests.{not-true, not-false}
-use Rattle.fixpoint.proofs.PassLaws.{is-yes, is-no}
-use mathlib.Core.Path.{_≡_, refl, sym, ap, subst, _∙_}
-use mathlib.Core.Logic.{⊎-elim}
-use Prim.Native.Nat.{ℕ, zero, suc, _+_, _*_, _≤_, _<_, _-_}
-use native.Mathlib.Omega.{arith}
-use borrow.Author.Count.{below-more, below-none}
-use lib.ListN.{length, getD, set, length-set, replicate}
 use borrow.Author.Needs.{needs}
+use Rattle.fixpoint.proofs.PassLaws.{is-yes, is-no}
+use Rattle.targets.proofs.ArriveLaws.{arrives-to}
 use Rattle.targets.proofs.line_arrives.Statement.{statement}
 use Rattle.targets.proofs.line_arrives.Tie as tie
-use Rattle.targets.proofs.line_arrives.Reads as reads
-use Rattle.targets.proofs.line_arrives.Lts as lts
-use Rattle.kernel_lines.proofs.dot_of.Reads as dot-of-reads
-use Rattle.kernel_lines.proofs.item_of.Reads as item-of-reads
-use Rattle.targets.proofs.arrives.Reads as arrives-reads
 
 item-of-requires : tie.Need-item-of-requires
 item-of-requires c κs = search needs

@@ -1,22 +1,13 @@
-use Rattle.kernel_lines.proofs.LinkLaws.{Passed, passed-start, passed-more, passed-all}
-use Rattle.memory.specs.Memory.{stateAt, itemAt, dotAt}
-use borrow.Author.Tests.{not-true, not-false}
-use Rattle.targets.specs.Targets.{Arrives, TargetOnly}
-use Rattle.fixpoint.proofs.PassLaws.{is-yes, is-no}
-use mathlib.Core.Path.{_≡_, refl, sym, ap, subst, _∙_}
-use mathlib.Core.Logic.{⊎-elim}
-use Prim.Native.Nat.{ℕ, zero, suc, _+_, _*_, _≤_, _<_, _-_}
+-- The lines passed arrive.
 use native.Mathlib.Omega.{arith}
-use borrow.Author.Count.{below-more, below-none}
-use lib.ListN.{length, getD, set, length-set, replicate}
+use borrow.Author.Tests.{not-true, not-false}
 use borrow.Author.Needs.{needs}
+use Rattle.fixpoint.proofs.PassLaws.{is-yes, is-no}
+use Rattle.memory.specs.Memory.{itemAt, dotAt}
+use Rattle.kernel_lines.proofs.LinkLaws.{Passed, passed-start, passed-more, passed-all}
+use Rattle.targets.specs.Targets.{Arrives}
 use Rattle.targets.proofs.lines_arrive.Statement.{statement}
 use Rattle.targets.proofs.lines_arrive.Tie as tie
-use Rattle.targets.proofs.lines_arrive.Reads as reads
-use Rattle.targets.proofs.lines_arrive.Lts as lts
-use Rattle.kernel_lines.proofs.last_line.Reads as last-line-reads
-use Rattle.kernel_lines.proofs.line_before.Reads as line-before-reads
-use Rattle.targets.proofs.line_arrives.Reads as line-arrives-reads
 
 abbrev Inv-loop : tie.InvT-loop
 Inv-loop items kernels links kinds values gotos count lines q p₀ p = Passed (λ m. Arrives items kernels kinds values gotos lines q (itemAt kernels m) (dotAt kernels m)) kernels q lines p

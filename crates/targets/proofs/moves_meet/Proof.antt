@@ -1,20 +1,10 @@
-use Rattle.targets.proofs.MeetLaws.{meets, meets-lines, meets-rules, meets-only}
+-- What was decided in memory is so of the construction.
 use borrow.Author.Tests.{not-true, not-false}
-use Rattle.fixpoint.proofs.PassLaws.{is-yes, is-no}
-use mathlib.Core.Path.{_≡_, refl, sym, ap, subst, _∙_}
-use mathlib.Core.Logic.{⊎-elim}
-use Prim.Native.Nat.{ℕ, zero, suc, _+_, _*_, _≤_, _<_, _-_}
-use native.Mathlib.Omega.{arith}
-use borrow.Author.Count.{below-more, below-none}
-use lib.ListN.{length, getD, set, length-set, replicate}
 use borrow.Author.Needs.{needs}
+use Rattle.fixpoint.proofs.PassLaws.{is-yes, is-no}
+use Rattle.targets.proofs.MeetLaws.{meets, meets-lines, meets-rules, meets-only}
 use Rattle.targets.proofs.moves_meet.Statement.{statement}
 use Rattle.targets.proofs.moves_meet.Tie as tie
-use Rattle.targets.proofs.moves_meet.Reads as reads
-use Rattle.targets.proofs.moves_meet.Lts as lts
-use Rattle.targets.proofs.lines_arrive.Reads as lines-arrive-reads
-use Rattle.targets.proofs.rules_arrive.Reads as rules-arrive-reads
-use Rattle.targets.proofs.targets_only.Reads as targets-only-reads
 
 lines-arrive-requires : tie.Need-lines-arrive-requires
 lines-arrive-requires c κs = search needs

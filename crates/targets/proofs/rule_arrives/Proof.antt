@@ -1,18 +1,10 @@
-use borrow.Author.Tests.{not-true, not-false}
-use Rattle.fixpoint.proofs.PassLaws.{is-yes, is-no}
-use mathlib.Core.Path.{_≡_, refl, sym, ap, subst, _∙_}
-use mathlib.Core.Logic.{⊎-elim}
-use Prim.Native.Nat.{ℕ, zero, suc, _+_, _*_, _≤_, _<_, _-_}
+-- A rule that is not added need not arrive.
 use native.Mathlib.Omega.{arith}
-use borrow.Author.Count.{below-more, below-none}
-use lib.ListN.{length, getD, set, length-set, replicate}
+use borrow.Author.Tests.{not-true, not-false}
 use borrow.Author.Needs.{needs}
+use Rattle.fixpoint.proofs.PassLaws.{is-yes, is-no}
 use Rattle.targets.proofs.rule_arrives.Statement.{statement}
 use Rattle.targets.proofs.rule_arrives.Tie as tie
-use Rattle.targets.proofs.rule_arrives.Reads as reads
-use Rattle.targets.proofs.rule_arrives.Lts as lts
-use Rattle.moves.proofs.is_present.Reads as is-present-reads
-use Rattle.targets.proofs.arrives.Reads as arrives-reads
 
 is-present-requires : tie.Need-is-present-requires
 is-present-requires c κs = search needs

@@ -1,19 +1,13 @@
+-- The rules passed arrive.
+use Prim.Native.Nat.{ℕ, _+_, _≤_, _<_, _-_}
+use native.Mathlib.Omega.{arith}
+use borrow.Author.Tests.{not-true, not-false}
+use borrow.Author.Needs.{needs}
 use Rattle.fixpoint.proofs.PassLaws.{no-gap, from-more, is-yes, is-no}
 use Rattle.moves.specs.Moves.{Present}
-use borrow.Author.Tests.{not-true, not-false}
-use Rattle.targets.specs.Targets.{Arrives, TargetOnly}
-use mathlib.Core.Path.{_≡_, refl, sym, ap, subst, _∙_}
-use mathlib.Core.Logic.{⊎-elim}
-use Prim.Native.Nat.{ℕ, zero, suc, _+_, _*_, _≤_, _<_, _-_}
-use native.Mathlib.Omega.{arith}
-use borrow.Author.Count.{below-more, below-none}
-use lib.ListN.{length, getD, set, length-set, replicate}
-use borrow.Author.Needs.{needs}
+use Rattle.targets.specs.Targets.{Arrives}
 use Rattle.targets.proofs.rules_arrive.Statement.{statement}
 use Rattle.targets.proofs.rules_arrive.Tie as tie
-use Rattle.targets.proofs.rules_arrive.Reads as reads
-use Rattle.targets.proofs.rules_arrive.Lts as lts
-use Rattle.targets.proofs.rule_arrives.Reads as rule-arrives-reads
 
 abbrev Inv-loop : tie.InvT-loop
 Inv-loop items kernels links present kinds values gotos count rules lines q i₀ i = (1 ≤ i) × (i ≤ rules + 1) × ((j : ℕ) → 1 ≤ j → j < i → Present items present j → Arrives items kernels kinds values gotos lines q j 0)

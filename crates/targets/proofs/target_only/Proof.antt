@@ -1,19 +1,10 @@
-use Rattle.targets.proofs.ArriveLaws.{arrives-to, arrives-still, arrives-nowhere, arrives-line, arrives-not, target-still, target-nowhere, target-moved, target-not}
+-- Nothing moves, no next state, or its lines came by the move.
 use borrow.Author.Tests.{not-true, not-false}
-use Rattle.fixpoint.proofs.PassLaws.{is-yes, is-no}
-use mathlib.Core.Path.{_≡_, refl, sym, ap, subst, _∙_}
-use mathlib.Core.Logic.{⊎-elim}
-use Prim.Native.Nat.{ℕ, zero, suc, _+_, _*_, _≤_, _<_, _-_}
-use native.Mathlib.Omega.{arith}
-use borrow.Author.Count.{below-more, below-none}
-use lib.ListN.{length, getD, set, length-set, replicate}
 use borrow.Author.Needs.{needs}
+use Rattle.fixpoint.proofs.PassLaws.{is-yes, is-no}
+use Rattle.targets.proofs.ArriveLaws.{target-still, target-nowhere, target-moved, target-not}
 use Rattle.targets.proofs.target_only.Statement.{statement}
 use Rattle.targets.proofs.target_only.Tie as tie
-use Rattle.targets.proofs.target_only.Reads as reads
-use Rattle.targets.proofs.target_only.Lts as lts
-use Rattle.moves.proofs.next_of.Reads as next-of-reads
-use Rattle.moves.proofs.only_moved.Reads as only-moved-reads
 
 shared-slice-read-if1 : tie.Need-shared-slice-read-if1
 shared-slice-read-if1 c = search needs

@@ -1,18 +1,12 @@
-use Rattle.fixpoint.proofs.PassLaws.{no-gap, from-more, is-yes, is-no}
-use borrow.Author.Tests.{not-true, not-false}
-use Rattle.targets.specs.Targets.{Arrives, TargetOnly}
-use mathlib.Core.Path.{_≡_, refl, sym, ap, subst, _∙_}
-use mathlib.Core.Logic.{⊎-elim}
-use Prim.Native.Nat.{ℕ, zero, suc, _+_, _*_, _≤_, _<_, _-_}
+-- The symbols passed have their targets.
+use Prim.Native.Nat.{ℕ, _≤_, _<_, _-_}
 use native.Mathlib.Omega.{arith}
-use borrow.Author.Count.{below-more, below-none}
-use lib.ListN.{length, getD, set, length-set, replicate}
+use borrow.Author.Tests.{not-true, not-false}
 use borrow.Author.Needs.{needs}
+use Rattle.fixpoint.proofs.PassLaws.{no-gap, from-more, is-yes, is-no}
+use Rattle.targets.specs.Targets.{TargetOnly}
 use Rattle.targets.proofs.targets_only.Statement.{statement}
 use Rattle.targets.proofs.targets_only.Tie as tie
-use Rattle.targets.proofs.targets_only.Reads as reads
-use Rattle.targets.proofs.targets_only.Lts as lts
-use Rattle.targets.proofs.target_only.Reads as target-only-reads
 
 abbrev Inv-loop : tie.InvT-loop
 Inv-loop items kernels links present symbols kinds values gotos count rules lines q x₀ x = (1 ≤ x) × (x ≤ 128) × ((j : ℕ) → 1 ≤ j → j < x → TargetOnly items kernels present symbols kinds values gotos rules lines q j)

@@ -1,0 +1,30 @@
+-- The numbers of rules and of entries.
+use Prim.Native.Nat.{ℕ, zero, suc, _+_, _≤_, _<_}
+use mathlib.Core.Path.{_≡_}
+use mathlib.Core.List.{List}
+use mathlib.Core.Option.{some}
+use native.Mathlib.Omega.{arith}
+use lib.ListN.{length}
+use Rattle.language.specs.Grammar.{Grammar, Rule, ruleAt}
+use Rattle.leftcorner.specs.Table.{EntryLine, E, Table, entryAt}
+use Rattle.leftcorner.specs.ReadOff.{clash}
+use Rattle.leftcorner.specs.Sources.{at-low}
+use Rattle.language.specs.GrammarLaws.{at-below}
+
+module _ (g : Grammar) {rules : ℕ} (count : length (g .rules) ≡ rules) where
+  pub rule-at : (i : ℕ) → 1 ≤ i → i < rules + 1 → (r : Rule) × (ruleAt g i ≡ some r)
+  rule-at zero a b = absurd (omega arith)
+  rule-at (suc i) a b = at-below (g .rules) i (omega arith)
+
+  pub rule-range : (i : ℕ) {r : Rule} → ruleAt g i ≡ some r → (1 ≤ i) × (i < rules + 1)
+  rule-range zero e = clash cc
+  rule-range (suc i) {r = r} e = (omega arith, omega (arith, at-low (g .rules) i r e))
+
+module _ (t : Table) {strings : ℕ} (count : length (t .entries) ≡ strings) where
+  pub entry-at : (k : ℕ) → 1 ≤ k → k < strings + 1 → (x : EntryLine) × (entryAt t k ≡ some x)
+  entry-at zero a b = absurd (omega arith)
+  entry-at (suc k) a b = at-below (t .entries) k (omega arith)
+
+  pub entry-range : (k : ℕ) {s : ℕ} {γ : List ℕ} → entryAt t k ≡ some (E s γ) → (1 ≤ k) × (k < strings + 1)
+  entry-range zero e = clash cc
+  entry-range (suc k) {s = s} {γ = γ} e = (omega arith, omega (arith, at-low (t .entries) k (E s γ) e))
