@@ -53,7 +53,7 @@ fn entry_of(items: &[u8], rules: usize, strings: usize, i: usize, from: usize, n
 }
 
 // The end of the group of item i, whose string has that length, that begins at `from`.
-fn group_end(items: &[u8], count: usize, i: usize, from: usize, length: usize) -> usize
+pub fn group_end(items: &[u8], count: usize, i: usize, from: usize, length: usize) -> usize
     requires { ⌜ Shaped (now items) count ⌝ }
     requires { ⌜ (i ≤ count) × (from < length) × (length ≡ lengthAt (now items) i) × (length ≤ 15) ⌝ }
     ensures { λ r. ⌜ GroupEnd (now (items .entry)) i from r ⌝ }
