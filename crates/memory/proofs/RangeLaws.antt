@@ -7,21 +7,6 @@ use native.Mathlib.Omega.{arith}
 use lib.ListN.{length}
 use Rattle.language.specs.GrammarLaws.{not-there, at-below, at-range}
 use Rattle.leftcorner.specs.Table.{EntryLine, E, Table, entryAt}
-<<<<<<< HEAD
-=======
-use Rattle.leftcorner.specs.ReadOff.{clash}
-use Rattle.leftcorner.specs.Sources.{at-low}
-use Rattle.language.specs.GrammarLaws.{at-below}
-
-module _ (g : Grammar) {rules : ℕ} (count : length (g .rules) ≡ rules) where
-  pub rule-at : (i : ℕ) → 1 ≤ i → i < rules + 1 → (r : Rule) × (ruleAt g i ≡ some r)
-  rule-at zero a b = absurd (omega arith)
-  rule-at (suc i) a b = at-below (g .rules) i (omega arith)
-
-  pub rule-range : (i : ℕ) {r : Rule} → ruleAt g i ≡ some r → (1 ≤ i) × (i < rules + 1)
-  rule-range zero e = clash cc
-  rule-range (suc i) {r = r} e = (omega arith, omega (arith, at-low (g .rules) i r e))
->>>>>>> cells
 
 module _ (t : Table) {strings : ℕ} (count : length (t .entries) ≡ strings) where
   pub entry-at : (k : ℕ) → 1 ≤ k → k < strings + 1 → (x : EntryLine) × (entryAt t k ≡ some x)

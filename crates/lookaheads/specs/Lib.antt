@@ -1,4 +1,0 @@
-pub mod Narrow
-pub mod Groups
-pub mod Memory
-pub mod Sources
