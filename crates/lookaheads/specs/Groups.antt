@@ -1,13 +1,8 @@
--- Where the groups of a rule begin, in memory, and the entries that they use.
-use Prim.Native.Nat.{ℕ, zero, suc, _+_, _*_, _-_}
-use mathlib.Core.Path.{_≡_}
+-- Where the groups of a rule begin, in memory.
+use Prim.Native.Nat.{ℕ, zero, suc, _+_, _-_}
 use mathlib.Core.Bool.{cond}
 use mathlib.Core.List.{List}
-use mathlib.Core.Option.{some}
 use lib.Dec.{eqb}
-use lib.ListN.{getD}
-use Rattle.language.specs.Grammar.{Grammar, Rule, ruleAt, at}
-use Rattle.leftcorner.specs.Table.{Table, entryFrom}
 use Rattle.items.specs.Layout.{lengthAt, markAt, startAt}
 
 -- the first of n symbols from k on that begins a group, or the end
@@ -19,11 +14,11 @@ beginFrom items i k (suc n) = cond (eqb (startAt items i k) 0) (beginFrom items 
 unfoldable pub groupEnd : List ℕ → ℕ → ℕ → ℕ
 groupEnd items i k = beginFrom items i (suc k) (lengthAt items i - suc k)
 
--- where group j begins, counted from 0
-unfoldable pub groupBegin : List ℕ → ℕ → ℕ → ℕ
-groupBegin items i zero = markAt items i
-groupBegin items i (suc j) = groupEnd items i (groupBegin items i j)
+-- where the j-th group after the one begins that begins at k
+unfoldable pub groupFrom : List ℕ → ℕ → ℕ → ℕ → ℕ
+groupFrom items i k zero = k
+groupFrom items i k (suc j) = groupFrom items i (groupEnd items i k) j
 
--- the entry of each group, at rule * 16 + group; 0 where there is none
-pub record HoldsUses (uses : List ℕ) (g : Grammar) (t : Table) : Type 0 where
-  pub use-is : (i j : ℕ) {r : Rule} {γ : List ℕ} → ruleAt g i ≡ some r → at (r .groups) j ≡ some γ → getD uses (i * 16 + j) 0 ≡ entryFrom 1 (t .entries) γ
+-- where group j begins, counted from 0
+abbrev pub groupBegin : List ℕ → ℕ → ℕ → ℕ
+groupBegin items i j = groupFrom items i (markAt items i) j

@@ -14,9 +14,17 @@ use Rattle.lookaheads.specs.Groups.{groupBegin}
 pub record Covers (from : List ℕ) (start : ℕ) (to : List ℕ) (at codes : ℕ) : Type 0 where
   pub covered : (c : ℕ) → c < codes → On from (start + c) → On to (at + c)
 
+-- line l, if it is that of item i, dot k, has the lookaheads that are flagged in a row
+abbrev pub LineCovers : List ℕ → List ℕ → List ℕ → ℕ → ℕ → ℕ → ℕ → ℕ → Type 0
+LineCovers kernels lookaheads from codes i k start l = itemAt kernels l ≡ i → dotAt kernels l ≡ k → Covers from start lookaheads (l * 64) codes
+
 -- each line for item i, dot k in state s has the lookaheads that are flagged in a row
 pub record LinesCover (kernels lookaheads from : List ℕ) (lines codes s i k start : ℕ) : Type 0 where
-  pub lines-cover : (l : ℕ) → l < lines → stateAt kernels l ≡ s → itemAt kernels l ≡ i → dotAt kernels l ≡ k → Covers from start lookaheads (l * 64) codes
+  pub lines-cover : (l : ℕ) → l < lines → stateAt kernels l ≡ s → LineCovers kernels lookaheads from codes i k start l
+
+-- q is not s, or has them
+abbrev pub LinesOf : List ℕ → List ℕ → List ℕ → ℕ → ℕ → ℕ → ℕ → ℕ → ℕ → ℕ → Type 0
+LinesOf kernels lookaheads from lines codes s i k start q = q ≡ s → LinesCover kernels lookaheads from lines codes s i k start
 
 -- q is not the next state of p for the symbol after item i's dot k, or has that item's lookaheads
 pub record MoveMeets (items kernels lookaheads kinds values gotos from : List ℕ) (lines codes p i k start q : ℕ) : Type 0 where
