@@ -1,6 +1,6 @@
 use Rattle.lookaheads.proofs.ItemLaws.{GroupsTo, groups-start, groups-more, groups-all}
 use Rattle.items.specs.Layout.{lengthAt}
-use mathlib.Core.Path.{_≡_, refl}
+use mathlib.Core.Path.{_≡_, refl, _∙_}
 use Prim.Native.Nat.{_≤_, _-_}
 use native.Mathlib.Omega.{arith}
 use borrow.Author.Needs.{needs}
@@ -38,7 +38,7 @@ wide-requires : tie.Need-wide-requires Inv-loop μ-loop
 wide-requires c κs = search needs
 
 mark-group-requires : tie.Need-mark-group-requires Inv-loop μ-loop
-mark-group-requires c κs = search needs
+mark-group-requires c κs = (c .before .before .before .before .before .before .before .before .before .before .before .before .before .before .before .before .before .before .pre .0, (omega (arith, c .before .before .before .before .before .before .before .before .before .before .before .before .before .before .before .before .before .before .pre .1 .0, c .before .before .before .before .before .before .before .before .before .before .before .before .before .before .before .before .before .before .pre .0 .rules-within), c .before .wide .ensures .1, c .before .before .before .before .before .before .before .before .before .before .before .before .before .before .before .before .before .before .pre .1 .1, c .before .before .before .before .before .loop .inv .2 .narrowing .long ∙ c .before .before .before .before .before .before .before .before .before .before .before .before .before .before .before .before .before .before .pre .1 .2))
 
 add-j : tie.Need-add-j Inv-loop μ-loop
 add-j c = search needs
