@@ -30,10 +30,10 @@ module _ (g : Grammar) where
   abbrev pub codes : List ℕ
   codes = upto (suc (g .terminals))
 
-  begins-terminal : {X c : ℕ} → BeginsByRules g X c → IsTerminal g c
+  pub begins-terminal : {X c : ℕ} → BeginsByRules g X c → IsTerminal g c
   begins-terminal {c = c} h = least-every (starting g (Nullable g)) (λ x. IsTerminal g c) (λ y s. s .1) (λ o ok ns. ns _ refl) h
 
-  starts-terminal : (β : List ℕ) (c : ℕ) → Starts (Nullable g) (λ X. BeginsByRules g X c) β → IsTerminal g c
+  pub starts-terminal : (β : List ℕ) (c : ℕ) → Starts (Nullable g) (λ X. BeginsByRules g X c) β → IsTerminal g c
   starts-terminal [] c h = absurd h
   starts-terminal (X ∷ β) c (inl h) = begins-terminal h
   starts-terminal (X ∷ β) c (inr h) = starts-terminal β c (h .1)

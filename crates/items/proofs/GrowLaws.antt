@@ -39,11 +39,11 @@ pub last-starts : (γs : List (List ℕ)) (Y : ℕ) (γ : List ℕ) (X : ℕ)
 last-starts γs Y γ X = simp (starts-snoc, zeros-snoc, append-assoc)
 
 -- a mark for each symbol
-start-length : (γ : List ℕ) → length (groupStart γ) ≡ length γ
+pub start-length : (γ : List ℕ) → length (groupStart γ) ≡ length γ
 start-length [] = refl
 start-length (X ∷ γ) = ap suc (length-replicate {A = ℕ} (length γ) 0)
 
-starts-length : (γs : List (List ℕ)) → length (groupStarts γs) ≡ length (concat γs)
+pub starts-length : (γs : List (List ℕ)) → length (groupStarts γs) ≡ length (concat γs)
 starts-length [] = refl
 starts-length (γ ∷ γs) =
     length-append (groupStart γ) (groupStarts γs) ∙ (ap₂ _+_ (start-length γ) (starts-length γs) ∙ sym (length-append γ (concat γs)))

@@ -1,2 +1,3 @@
 pub mod Memory
 pub mod Fits
+pub mod Held

@@ -11,7 +11,7 @@ use mathlib.Core.Option.{Option, some, none}
 use borrow.Author.Count.{below-more}
 use Rattle.language.specs.Grammar.{Grammar}
 use Rattle.leftcorner.specs.Table.{Table, Action}
-use Rattle.leftcorner.specs.Construction.{KernelAt, Has, in-kernel, in-closure, Carries, MovedBy, moved, Asked, to-move, to-announce, to-pop, WellFormed, EntriesMeet, ItemsMeet, LookaheadsMeet, CellsAgree, CellsMeet, MeetsWith}
+use Rattle.leftcorner.specs.Construction.{EntryAt, KernelAt, ActionAt, Has, in-kernel, in-closure, Carries, MovedBy, moved, Asked, to-move, to-announce, to-pop, WellFormed, EntriesMeet, ItemsMeet, LookaheadsMeet, CellsAgree, CellsMeet, MeetsWith}
 use Rattle.reply.specs.declared.Kind.{Kind}
 use Rattle.reply.specs.declared.Kind.the-variants.{ItemMismatch, MissingLookahead, Conflict, CellMismatch}
 use Rattle.reply.specs.declared.Reply.{Reply}
@@ -126,43 +126,50 @@ module _ (g : Grammar) (t : Table) (F : List ℕ → ℕ → ℕ → Type 0) (en
     asked-some (to-announce i e h f) = carries-some h
     asked-some (to-pop j e h) = carries-some h
 
-    abbrev Off : ℕ → Type 0
-    Off q = t .states < q
+    -- q is not one of 1 .. states
+    abbrev pub Outside : ℕ → Type 0
+    Outside q = 1 ≤ q → q ≤ t .states → ⊥
 
-    off-line : (q : ℕ) → Off q → Line q → ⊥
-    off-line q o l = omega (arith, o, R .kernel-state q (l .0) (l .1) (l .2) (l .3) .1)
+    off-line : (q : ℕ) → Outside q → Line q → ⊥
+    off-line q o l = let s = R .kernel-state q (l .0) (l .1) (l .2) (l .3) in o (s .0) (s .1)
 
-    off-items : (q : ℕ) → Off q → ItemsMeet g t q
+    off-entry : (q : ℕ) → Outside q → (j : ℕ) (γ : List ℕ) → EntryAt g t j q γ → ⊥
+    off-entry q o j γ e = let s = R .entry-state j q γ e in o (s .0) (s .1)
+
+    off-action : (q : ℕ) → Outside q → {X : ℕ} {x : Action} → ActionAt g t q X x → ⊥
+    off-action q o {X} {x} a = let s = R .action-state q X x a in o (s .0) (s .1)
+
+    pub off-items : (q : ℕ) → Outside q → ItemsMeet g t q
     off-items q o = record {
-      entry-has = λ j γ e. absurd (omega (arith, o, R .entry-state j q γ e .1));
-      entry-only = λ j γ e. absurd (omega (arith, o, R .entry-state j q γ e .1));
-      move-has = λ X s i n x a. absurd (omega (arith, o, R .action-state q X x a .1));
-      move-only = λ X s i n x a. absurd (omega (arith, o, R .action-state q X x a .1));
-      named = λ a b. absurd (omega (arith, o, b));
+      entry-has = λ j γ e. absurd (off-entry q o j γ e);
+      entry-only = λ j γ e. absurd (off-entry q o j γ e);
+      move-has = λ X s i n x a. absurd (off-action q o a);
+      move-only = λ X s i n x a. absurd (off-action q o a);
+      named = λ a b. absurd (o a b);
     }
 
-    off-lookaheads : (q : ℕ) → Off q → LookaheadsMeet g t F q
+    pub off-lookaheads : (q : ℕ) → Outside q → LookaheadsMeet g t F q
     off-lookaheads q o = record {
       of-move = λ p X i k d β σ x a n h go l. absurd (off-line q o (i, suc k, σ, l));
       of-group = λ j p i d c γ σ r δs εs e re ge h f l. absurd (off-line q o (_, zero, σ, l));
       of-goal = λ γ σ e l. absurd (off-line q o (_, zero, σ, l));
     }
 
-    off-agree : (q : ℕ) → Off q → CellsAgree g t F q
+    pub off-agree : (q : ℕ) → Outside q → CellsAgree g t F q
     off-agree q o = record { one = λ X x y a b. absurd (off-line q o (asked-some a)) }
 
-    off-cells : (q : ℕ) → Off q → CellsMeet g t F q
+    pub off-cells : (q : ℕ) → Outside q → CellsMeet g t F q
     off-cells q o = record {
       filled = λ X x a. absurd (off-line q o (asked-some a));
-      asked = λ X y a. absurd (omega (arith, o, R .action-state q X y a .1));
+      asked = λ X y a. absurd (off-action q o a);
     }
 
-    everywhere : (Φ : ℕ → Type 0) → ((q : ℕ) → Off q → Φ q) → ((q : ℕ) → q < suc (t .states) → Φ q) → (q : ℕ) → Φ q
+    everywhere : (Φ : ℕ → Type 0) → ((q : ℕ) → Outside q → Φ q) → ((q : ℕ) → q < suc (t .states) → Φ q) → (q : ℕ) → Φ q
     everywhere Φ off on q = go (decLe (suc q) (suc (t .states)))
       where
         go : Dec (suc q ≤ suc (t .states)) → Φ q
         go (yes l) = on q l
-        go (no f) = off q (omega (arith, f))
+        go (no f) = off q (λ a b. f (omega (arith, b)))
 
     pub meets : verdict ≡ Accepted 0 → MeetsWith g t F
     unfolding verdict
@@ -185,7 +192,7 @@ module _ (g : Grammar) (t : Table) (F : List ℕ → ℕ → ℕ → Type 0) (en
   unfolding verdict
   past-entries E = else-yes entries? (refused ItemMismatch 0) after-entries E
 
-  abbrev All : (ℕ → Type 0) → Type 0
+  abbrev pub All : (ℕ → Type 0) → Type 0
   All Φ = (q : ℕ) → q < suc (t .states) → Φ q
 
   pub record Fails (Φ : ℕ → Type 0) (q : ℕ) : Type 0 where

@@ -1,0 +1,3 @@
+pub mod AskLaws
+pub mod AskedLaws
+pub mod ContentLaws

@@ -1,0 +1,88 @@
+use Rattle.cells.proofs.AskLaws.{asks-is, announce-asks, rule-asks, unfinished-asks, pop-asks}
+use mathlib.Core.Path.{refl, sym, _∙_}
+use native.Mathlib.Omega.{arith}
+use borrow.Author.Tests.{not-true, not-false}
+use borrow.Author.Needs.{needs}
+use Rattle.cells.proofs.ask_item.Statement.{statement}
+use Rattle.cells.proofs.ask_item.Tie as tie
+
+mark-of-requires : tie.Need-mark-of-requires
+mark-of-requires c κs = search needs
+
+slice-aggregate-item-first : tie.Need-slice-aggregate-item-first
+slice-aggregate-item-first c = search needs
+
+item-first-requires : tie.Need-item-first-requires
+item-first-requires c κs = search needs
+
+slice-aggregate-ask-codes : tie.Need-slice-aggregate-ask-codes
+slice-aggregate-ask-codes c = search needs
+
+add-ask-codes : tie.Need-add-ask-codes
+add-ask-codes c = search needs
+
+ask-codes-requires : tie.Need-ask-codes-requires
+ask-codes-requires c κs = search needs
+
+same-length : tie.Need-same-length
+same-length c = c .before .before .before .ask-codes .ensures .asking .long
+
+returns : tie.Need-returns
+returns c = asks-is (not-true _ (c .if2 .taken)) (announce-asks (sym (c .before .before .before .before .before .before .before .before .before .before .mark-of .ensures .0) ∙ c .before .before .before .before .before .before .before .before .before .if1 .taken) refl (c .before .before .before .before .before .before .before .item-first .ensures) (c .before .before .before .ask-codes .ensures))
+
+same-length-2 : tie.Need-same-length-2
+same-length-2 c = c .before .before .before .ask-codes .ensures .asking .long
+
+returns-2 : tie.Need-returns-2
+returns-2 c = asks-is (not-false _ (c .if2 .left)) (announce-asks (sym (c .before .before .before .before .before .before .before .before .before .before .mark-of .ensures .0) ∙ c .before .before .before .before .before .before .before .before .before .if1 .taken) refl (c .before .before .before .before .before .before .before .item-first .ensures) (c .before .before .before .ask-codes .ensures))
+
+returns-3 : tie.Need-returns-3
+returns-3 c = rule-asks (λ e. c .before .if1 .left (c .before .before .mark-of .ensures .0 ∙ e)) _ (omega arith)
+
+length-of-requires : tie.Need-length-of-requires
+length-of-requires c κs = search needs
+
+returns-4 : tie.Need-returns-4
+returns-4 c = unfinished-asks (λ e. c .before .before .before .if1 .left (c .before .before .before .before .mark-of .ensures .0 ∙ e)) _ (λ e. c .if4 .taken (c .before .length-of .ensures .0 ∙ e))
+
+add-ask-codes-2 : tie.Need-add-ask-codes-2
+add-ask-codes-2 c = search needs
+
+ask-codes-requires-2 : tie.Need-ask-codes-requires-2
+ask-codes-requires-2 c κs = search needs
+
+same-length-3 : tie.Need-same-length-3
+same-length-3 c = c .before .before .before .ask-codes2 .ensures .asking .long
+
+returns-5 : tie.Need-returns-5
+returns-5 c = asks-is (not-true _ (c .if5 .taken)) (pop-asks (λ e. c .before .before .before .before .before .before .before .before .if1 .left (c .before .before .before .before .before .before .before .before .before .mark-of .ensures .0 ∙ e)) (omega arith) (sym (c .before .before .before .before .before .before .length-of .ensures .0) ∙ c .before .before .before .before .before .if4 .left) (c .before .before .before .ask-codes2 .ensures))
+
+same-length-4 : tie.Need-same-length-4
+same-length-4 c = c .before .before .before .ask-codes2 .ensures .asking .long
+
+returns-6 : tie.Need-returns-6
+returns-6 c = asks-is (not-false _ (c .if5 .left)) (pop-asks (λ e. c .before .before .before .before .before .before .before .before .if1 .left (c .before .before .before .before .before .before .before .before .before .mark-of .ensures .0 ∙ e)) (omega arith) (sym (c .before .before .before .before .before .before .length-of .ensures .0) ∙ c .before .before .before .before .before .if4 .left) (c .before .before .before .ask-codes2 .ensures))
+
+pub ask-item-spec : {M : Type 1} → statement M
+ask-item-spec =
+    tie.close
+    (tie.spec
+    mark-of-requires
+    slice-aggregate-item-first
+    item-first-requires
+    slice-aggregate-ask-codes
+    add-ask-codes
+    ask-codes-requires
+    same-length
+    returns
+    same-length-2
+    returns-2
+    returns-3
+    length-of-requires
+    returns-4
+    add-ask-codes-2
+    ask-codes-requires-2
+    same-length-3
+    returns-5
+    same-length-4
+    returns-6)

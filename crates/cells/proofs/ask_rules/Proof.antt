@@ -1,0 +1,78 @@
+use Rattle.cells.specs.Demands.{Demand, Asking, RulesAsk, RuleAsks}
+use Rattle.cells.proofs.AskLaws.{asking-none, asks-fail, asking-then, asks-done}
+use mathlib.Core.Path.{_∙_}
+use Prim.Native.Nat.{ℕ, _+_, _≤_, _<_, _-_}
+use native.Mathlib.Omega.{arith}
+use borrow.Author.Tests.{not-true, not-false}
+use borrow.Author.Needs.{needs}
+use Rattle.fixpoint.proofs.PassLaws.{no-gap, from-more}
+use Rattle.moves.specs.Moves.{Present}
+use Rattle.cells.proofs.ask_rules.Statement.{statement}
+use Rattle.cells.proofs.ask_rules.Tie as tie
+
+abbrev Inv-loop : tie.InvT-loop
+Inv-loop items present follow nul fst count rules codes asked₀ i₀ asked i = (1 ≤ i) × Asking (RulesAsk items nul fst present follow rules codes) asked₀ asked × ((j : ℕ) → 1 ≤ j → j < i → Present items present j → (c v : ℕ) → RuleAsks items nul fst follow rules codes j c v → Demand asked c v)
+
+abbrev μ-loop : tie.MeasureT-loop
+μ-loop items present follow nul fst count rules codes asked₀ i₀ asked i = rules + 1 - i
+
+loop-holds : tie.Need-loop-holds Inv-loop μ-loop
+loop-holds c = (omega arith, asking-none _, λ j a b. absurd (no-gap a b))
+
+is-present-requires : tie.Need-is-present-requires Inv-loop μ-loop
+is-present-requires c κs = search needs
+
+add-i : tie.Need-add-i Inv-loop μ-loop
+add-i c = search needs
+
+loop-less : tie.Need-loop-less Inv-loop μ-loop
+loop-less c = search needs
+
+loop-again : tie.Need-loop-again Inv-loop μ-loop
+loop-again c = (omega arith, c .before .before .before .loop .inv .1, from-more _ 1 (c .before .before .before .loop .i) (c .before .before .before .loop .inv .2) (λ p. absurd (c .before .is-present .ensures .no (not-true _ (c .if1 .taken)) p)))
+
+ask-rule-requires : tie.Need-ask-rule-requires Inv-loop μ-loop
+ask-rule-requires c κs = (c .before .before .before .before .before .before .before .before .before .before .before .pre .0, ((omega (arith, c .before .before .before .before .before .before .before .before .before .before .before .pre .1 .0 .0), omega (arith, c .before .before .before .before .before .before .before .before .before .before .before .pre .1 .0 .0, c .before .before .before .before .before .before .before .before .before .before .before .pre .1 .0 .1), c .before .before .is-present .ensures .yes (not-false _ (c .before .if1 .left)) .nonterminal), (c .before .before .before .before .before .before .before .before .before .before .before .pre .1 .1 .1, c .before .before .before .before .loop .inv .1 .long ∙ c .before .before .before .before .before .before .before .before .before .before .before .pre .1 .1 .2)))
+
+same-length : tie.Need-same-length Inv-loop μ-loop
+same-length c = c .before .before .before .ask-rule .ensures .asking .long ∙ c .before .before .before .before .before .before .before .before .loop .inv .1 .long
+
+returns : tie.Need-returns Inv-loop μ-loop
+returns c = asks-fail (c .before .before .before .before .before .before .before .before .loop .inv .1) (λ d v w. record { rule = c .before .before .before .before .before .before .before .before .loop .i; above = c .before .before .before .before .before .before .before .before .loop .inv .0; below = omega arith; present-rule = c .before .before .before .before .before .before .is-present .ensures .yes (not-false _ (c .before .before .before .before .before .if1 .left)); asks = w }) (c .before .before .before .ask-rule .ensures) (not-true _ (c .if2 .taken))
+
+add-i-2 : tie.Need-add-i-2 Inv-loop μ-loop
+add-i-2 c = search needs
+
+loop-less-2 : tie.Need-loop-less-2 Inv-loop μ-loop
+loop-less-2 c = search needs
+
+loop-again-2 : tie.Need-loop-again-2 Inv-loop μ-loop
+loop-again-2 c = let a = c .before .before .before .ask-rule .ensures in
+    (omega arith, asking-then (c .before .before .before .before .before .before .before .before .loop .inv .1) (λ d v w. record { rule = c .before .before .before .before .before .before .before .before .loop .i; above = c .before .before .before .before .before .before .before .before .loop .inv .0; below = omega arith; present-rule = c .before .before .before .before .before .before .is-present .ensures .yes (not-false _ (c .before .before .before .before .before .if1 .left)); asks = w }) (a .asking),
+      from-more _ 1 (c .before .before .before .before .before .before .before .before .loop .i) (λ j u l p d v w. a .asking .kept d v (c .before .before .before .before .before .before .before .before .loop .inv .2 j u l p d v w)) (λ p. a .met (not-false _ (c .if2 .left))))
+
+same-length-2 : tie.Need-same-length-2 Inv-loop μ-loop
+same-length-2 c = c .before .loop .inv .1 .long
+
+returns-2 : tie.Need-returns-2 Inv-loop μ-loop
+returns-2 c = asks-done (c .before .loop .inv .1) (λ d v w. c .before .loop .inv .2 (w .rule) (w .above) (omega (arith, w .below)) (w .present-rule) d v (w .asks))
+
+pub ask-rules-spec : {M : Type 1} → statement M
+ask-rules-spec =
+    tie.close
+    (tie.spec
+    Inv-loop
+    μ-loop
+    loop-holds
+    is-present-requires
+    add-i
+    loop-less
+    loop-again
+    ask-rule-requires
+    same-length
+    returns
+    add-i-2
+    loop-less-2
+    loop-again-2
+    same-length-2
+    returns-2)

@@ -1,0 +1,242 @@
+// What the items of a state ask of its cells, and whether the cells are so.
+ghost use mathlib.Core.Path.{_≡_};
+ghost use mathlib.Core.Bool.{true};
+ghost use mathlib.Core.List.{List};
+ghost use Prim.Native.Nat.{ℕ, suc, _+_, _*_, _-_, _<_, _≤_};
+ghost use lib.ListN.{length, getD, replicate};
+ghost use Rattle.language.specs.Grammar.{Grammar};
+ghost use Rattle.leftcorner.specs.Table.{Table};
+ghost use Rattle.leftcorner.specs.Construction.{CellsAgree, CellsMeet};
+ghost use Rattle.items.specs.Layout.{leftAt};
+ghost use Rattle.fixpoint.specs.Flags.{On, Decides};
+ghost use Rattle.memory.specs.Held.{Held};
+ghost use Rattle.closure.specs.FirstBy.{FirstBy};
+ghost use Rattle.closure.specs.Expansion.{HoldsClosure};
+ghost use Rattle.moves.specs.Moves.{Lined, Readable, Cells};
+ghost use Rattle.moves.specs.Flags.{HoldsMoves};
+ghost use Rattle.carried.specs.Rows.{Ready};
+ghost use Rattle.cells.specs.Demands.{Asks, Wants, CodeAsks, ItemAsks, RuleAsks, LinesAsk, RulesAsk, HoldsAsked};
+ghost use Rattle.cells.specs.Contents.{demandAt, GotoMeets};
+
+// Asks for `demand` in the cell for code c. The answer is no where something else was asked.
+fn ask(asked: &mut [usize], c: usize, demand: usize) -> bool
+    requires { ⌜ (length (now asked) ≡ 64) × (c < 64) × (1 ≤ demand) ⌝ }
+    ensures { λ b. ⌜ Asks (Wants c demand) (now (asked .entry)) (now (asked .exit)) b ⌝ }
+{
+    let before = asked[c];
+    if before == 0 {
+        asked[c] = demand;
+        return true;
+    }
+    if before != demand {
+        return false;
+    }
+    true
+}
+
+// Asks for it in the cell of each code that is flagged, from code `low` on.
+fn ask_codes(from: &[u8], start: usize, low: usize, codes: usize, demand: usize, asked: &mut [usize]) -> bool
+    requires { ⌜ (start + 64 ≤ length (now from)) × (codes ≤ 64) × (1 ≤ demand) ⌝ }
+    requires { ⌜ length (now asked) ≡ 64 ⌝ }
+    ensures { λ b. ⌜ Asks (CodeAsks (now (from .entry)) start low codes demand) (now (asked .entry)) (now (asked .exit)) b ⌝ }
+{
+    let mut c = low;
+    while c < codes {
+        if from[start + c] == 0 {
+            c += 1;
+            continue;
+        }
+        if !ask(asked, c, demand) {
+            return false;
+        }
+        c += 1;
+    }
+    true
+}
+
+// Asks what item i with dot k asks, where the flags of its lookaheads stand from `start` on.
+fn ask_item(items: &[u8], nul: &[u8], fst: &[u8], from: &[u8], count: usize, rules: usize, codes: usize, i: usize, k: usize, start: usize, asked: &mut [usize]) -> bool
+    requires { ⌜ Ready (now items) (now nul) (now fst) count codes ⌝ }
+    requires { ⌜ (i ≤ count) × (i < 256) × (k ≤ 15) × (start + 64 ≤ length (now from)) ⌝ }
+    requires { ⌜ length (now asked) ≡ 64 ⌝ }
+    ensures { λ b. ⌜ Asks (ItemAsks (now (items .entry)) (now (nul .entry)) (now (fst .entry)) (now (from .entry)) rules codes i k start) (now (asked .entry)) (now (asked .exit)) b ⌝ }
+{
+    if items::mark_of(items, count, i) == k {
+        let mut row = [0u8; 64];
+        carried::item_first(items, count, i, k, codes, nul, fst, from, start, &mut row);
+        if !ask_codes(&row, 0, 0, codes, 512 + i, asked) {
+            return false;
+        }
+        return true;
+    }
+    if i <= rules {
+        return true;
+    }
+    if items::length_of(items, count, i) != k {
+        return true;
+    }
+    if !ask_codes(from, start, 0, codes, 768 + k, asked) {
+        return false;
+    }
+    true
+}
+
+// Asks what the kernel items of q ask.
+fn ask_lines(items: &[u8], kernels: &[u8], links: &[usize], lookaheads: &[u8], nul: &[u8], fst: &[u8], count: usize, rules: usize, lines: usize, codes: usize, q: usize, asked: &mut [usize]) -> bool
+    requires { ⌜ Lined (now items) (now kernels) (now links) count lines ⌝ }
+    requires { ⌜ Ready (now items) (now nul) (now fst) count codes ⌝ }
+    requires { ⌜ (count < 256) × (q < 256) × (lines * 64 ≤ length (now lookaheads)) × (length (now asked) ≡ 64) ⌝ }
+    ensures { λ b. ⌜ Asks (LinesAsk (now (items .entry)) (now (nul .entry)) (now (fst .entry)) (now (kernels .entry)) (now (lookaheads .entry)) rules lines codes q) (now (asked .entry)) (now (asked .exit)) b ⌝ }
+{
+    let mut p = kernel_lines::last_line(kernels, links, lines, q);
+    while 0 < p {
+        let l = p - 1;
+        let i = kernel_lines::item_of(kernels, lines, count, l);
+        let k = kernel_lines::dot_of(kernels, lines, count, l);
+        if !ask_item(items, nul, fst, lookaheads, count, rules, codes, i, k, l * 64, asked) {
+            return false;
+        }
+        p = kernel_lines::line_before(kernels, links, lines, l);
+    }
+    true
+}
+
+// Asks what rule i asks, which the closure adds.
+fn ask_rule(items: &[u8], follow: &[u8], nul: &[u8], fst: &[u8], count: usize, rules: usize, codes: usize, i: usize, asked: &mut [usize]) -> bool
+    requires { ⌜ Ready (now items) (now nul) (now fst) count codes ⌝ }
+    requires { ⌜ (i ≤ count) × (i < 256) × (64 ≤ leftAt (now items) i) ⌝ }
+    requires { ⌜ (length (now follow) ≡ 4096) × (length (now asked) ≡ 64) ⌝ }
+    ensures { λ b. ⌜ Asks (RuleAsks (now (items .entry)) (now (nul .entry)) (now (fst .entry)) (now (follow .entry)) rules codes i) (now (asked .entry)) (now (asked .exit)) b ⌝ }
+{
+    let left = items::left_of(items, count, i);
+    if !ask_item(items, nul, fst, follow, count, rules, codes, i, 0, (left - 64) * 64, asked) {
+        return false;
+    }
+    true
+}
+
+// Asks what the rules ask that the closure adds.
+fn ask_rules(items: &[u8], present: &[u8], follow: &[u8], nul: &[u8], fst: &[u8], count: usize, rules: usize, codes: usize, asked: &mut [usize]) -> bool
+    requires { ⌜ Ready (now items) (now nul) (now fst) count codes ⌝ }
+    requires { ⌜ (rules ≤ count) × (count < 256) ⌝ }
+    requires { ⌜ (length (now present) ≡ 64) × (length (now follow) ≡ 4096) × (length (now asked) ≡ 64) ⌝ }
+    ensures { λ b. ⌜ Asks (RulesAsk (now (items .entry)) (now (nul .entry)) (now (fst .entry)) (now (present .entry)) (now (follow .entry)) rules codes) (now (asked .entry)) (now (asked .exit)) b ⌝ }
+{
+    let mut i = 1;
+    while i <= rules {
+        if !moves::is_present(items, present, count, i) {
+            i += 1;
+            continue;
+        }
+        if !ask_rule(items, follow, nul, fst, count, rules, codes, i, asked) {
+            return false;
+        }
+        i += 1;
+    }
+    true
+}
+
+// Fills in what the items of q ask of each code's cell. The answer is no where they ask two different things of one.
+pub fn ask_cells(items: &[u8], kernels: &[u8], links: &[usize], lookaheads: &[u8], present: &[u8], follow: &[u8], moves: &[u8], nul: &[u8], fst: &[u8], count: usize, rules: usize, lines: usize, codes: usize, q: usize, asked: &mut [usize]) -> bool
+    requires { ⌜ Readable (now items) (now kernels) (now links) (now present) count rules lines ⌝ }
+    requires { ⌜ Ready (now items) (now nul) (now fst) count codes ⌝ }
+    requires { ⌜ (count < 256) × (q < 256) × (lines * 64 ≤ length (now lookaheads)) ⌝ }
+    requires { ⌜ (length (now follow) ≡ 4096) × (length (now moves) ≡ 128) × (now asked ≡ replicate 64 0) ⌝ }
+    ensures { λ b. ⌜ length (now (asked .exit)) ≡ 64 ⌝ }
+    ensures { λ b. ⌜ ((g : Grammar) (t : Table) (entries kinds values gotos : List ℕ) (strings : ℕ) → Held g t (now (items .entry)) entries (now (kernels .entry)) (now (lookaheads .entry)) kinds values gotos rules strings lines → codes ≡ suc (g .terminals) → HoldsClosure g t (FirstBy codes (now (nul .entry)) (now (fst .entry))) q (now (present .entry)) (now (follow .entry)) → HoldsMoves g t q (now (moves .entry)) → Decides (CellsAgree g t (FirstBy codes (now (nul .entry)) (now (fst .entry))) q) b × (b ≡ true → HoldsAsked g t (FirstBy codes (now (nul .entry)) (now (fst .entry))) q (now (asked .exit)))) ⌝ }
+{
+    if !ask_codes(moves, 0, 1, codes, 256, asked) {
+        return false;
+    }
+    if !ask_lines(items, kernels, links, lookaheads, nul, fst, count, rules, lines, codes, q, asked) {
+        return false;
+    }
+    if !ask_rules(items, present, follow, nul, fst, count, rules, codes, asked) {
+        return false;
+    }
+    true
+}
+
+fn wide(x: u8) -> usize
+    ensures { λ r. ⌜ (r ≡ x) × (r < 256) ⌝ }
+{
+    x as usize
+}
+
+// What the cell of q for code c holds, as the number of what would be asked.
+fn demand_of(kinds: &[u8], values: &[u8], q: usize, c: usize) -> usize
+    requires { ⌜ (16384 ≤ length (now kinds)) × (16384 ≤ length (now values)) × (q < 256) × (c < 64) ⌝ }
+    ensures { λ r. ⌜ r ≡ demandAt (now (kinds .entry)) (now (values .entry)) q c ⌝ }
+{
+    let kind = wide(kinds[q * 64 + c]);
+    if kind == 0 {
+        return 0;
+    }
+    if kind == 1 {
+        return 256;
+    }
+    kind * 256 + wide(values[q * 64 + c])
+}
+
+// Whether the cells of q are what is asked.
+fn codes_meet(asked: &[usize], kinds: &[u8], values: &[u8], codes: usize, q: usize) -> bool
+    requires { ⌜ (length (now asked) ≡ 64) × (codes ≤ 64) ⌝ }
+    requires { ⌜ (16384 ≤ length (now kinds)) × (16384 ≤ length (now values)) × (q < 256) ⌝ }
+    ensures { λ b. ⌜ Decides ((c : ℕ) → c < codes → getD (now (asked .entry)) c 0 ≡ demandAt (now (kinds .entry)) (now (values .entry)) q c) b ⌝ }
+{
+    let mut c = 0;
+    while c < codes {
+        if asked[c] != demand_of(kinds, values, q, c) {
+            return false;
+        }
+        c += 1;
+    }
+    true
+}
+
+// Whether q has a next state for nonterminal 64 + b exactly where something moves.
+fn goto_meets(moves: &[u8], gotos: &[u8], q: usize, b: usize) -> bool
+    requires { ⌜ (length (now moves) ≡ 128) × (16384 ≤ length (now gotos)) × (q < 256) × (b < 64) ⌝ }
+    ensures { λ r. ⌜ Decides (GotoMeets (now (moves .entry)) (now (gotos .entry)) q b) r ⌝ }
+{
+    if moves[64 + b] == 0 {
+        if gotos[q * 64 + b] != 0 {
+            return false;
+        }
+        return true;
+    }
+    if gotos[q * 64 + b] == 0 {
+        return false;
+    }
+    true
+}
+
+// Whether that is so for all nonterminals.
+fn gotos_meet(moves: &[u8], gotos: &[u8], q: usize) -> bool
+    requires { ⌜ (length (now moves) ≡ 128) × (16384 ≤ length (now gotos)) × (q < 256) ⌝ }
+    ensures { λ r. ⌜ Decides ((b : ℕ) → b < 64 → GotoMeets (now (moves .entry)) (now (gotos .entry)) q b) r ⌝ }
+{
+    let mut b = 0;
+    while b < 64 {
+        if !goto_meets(moves, gotos, q, b) {
+            return false;
+        }
+        b += 1;
+    }
+    true
+}
+
+// Whether the cells and next states of q are those that its items ask for.
+pub fn cells_meet(asked: &[usize], moves: &[u8], kinds: &[u8], values: &[u8], gotos: &[u8], codes: usize, q: usize) -> bool
+    requires { ⌜ Cells (now kinds) (now values) (now gotos) ⌝ }
+    requires { ⌜ (length (now asked) ≡ 64) × (length (now moves) ≡ 128) × (codes ≤ 64) × (q < 256) ⌝ }
+    ensures { λ b. ⌜ ((g : Grammar) (t : Table) (items entries kernels lookaheads nul fst : List ℕ) (rules strings lines : ℕ) → Held g t items entries kernels lookaheads (now (kinds .entry)) (now (values .entry)) (now (gotos .entry)) rules strings lines → codes ≡ suc (g .terminals) → HoldsMoves g t q (now (moves .entry)) → HoldsAsked g t (FirstBy codes nul fst) q (now (asked .entry)) → Decides (CellsMeet g t (FirstBy codes nul fst) q) b) ⌝ }
+{
+    if !codes_meet(asked, kinds, values, codes, q) {
+        return false;
+    }
+    if !gotos_meet(moves, gotos, q) {
+        return false;
+    }
+    true
+}

@@ -1,0 +1,3 @@
+pub mod FirstLaws
+pub mod FaultLaws
+pub mod VerdictLaws

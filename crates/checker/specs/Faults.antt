@@ -1,0 +1,52 @@
+-- The lowest state at which something fails, state by state, and the reply to what was found.
+use Prim.Native.Nat.{ℕ, zero, suc, _≤_, _<_}
+use mathlib.Core.Path.{_≡_}
+use mathlib.Core.Bool.{Bool, true, false}
+use mathlib.Core.List.{List}
+use Rattle.language.specs.Grammar.{Grammar}
+use Rattle.leftcorner.specs.Table.{Table}
+use Rattle.leftcorner.specs.Construction.{ItemsMeet, CellsAgree, CellsMeet, LookaheadsMeet}
+use Rattle.reply.specs.declared.Kind.the-variants.{ItemMismatch, MissingLookahead, Conflict, CellMismatch}
+use Rattle.reply.specs.declared.Reply.{Reply}
+use Rattle.reply.specs.declared.Reply.the-variants.{Accepted}
+use Rattle.verdict.specs.Verdict.{refused}
+use Rattle.fixpoint.specs.Flags.{On, Off, Decides}
+use Rattle.lookaheads.specs.Narrow.{Narrows}
+use Rattle.lookaheads.specs.Sources.{LookaheadsFrom}
+
+-- `at` is the lowest of 1 .. n - 1 at which Φ fails, 0 where it fails at none
+pub record Fault (Φ : ℕ → Type 0) (n at : ℕ) : Type 0 where
+  pub low : at < n
+  pub none : at ≡ 0 → (k : ℕ) → 1 ≤ k → k < n → Φ k
+  pub before : (k : ℕ) → 1 ≤ k → k < at → Φ k
+  pub fails : 1 ≤ at → Φ at → ⊥
+
+-- the lowest so far, where state q is fine or not
+abbrev pub noted : ℕ → Bool → ℕ → ℕ
+noted zero true q = 0
+noted zero false q = q
+noted (suc a) b q = suc a
+
+-- "then 7 to 10", each at its lowest state
+abbrev pub answerOf : ℕ → ℕ → ℕ → ℕ → Reply
+answerOf (suc a) b c d = refused ItemMismatch (suc a)
+answerOf zero (suc b) c d = refused MissingLookahead (suc b)
+answerOf zero zero (suc c) d = refused Conflict (suc c)
+answerOf zero zero zero (suc d) = refused CellMismatch (suc d)
+answerOf zero zero zero zero = Accepted 0
+
+module _ (g : Grammar) (t : Table) (F : List ℕ → ℕ → ℕ → Type 0) where
+  -- what is told of state q alone; cells are told of where its items agree
+  pub record StateJudged (q : ℕ) (items agree cells : Bool) (narrow₀ narrow : List ℕ) : Type 0 where
+    pub items-meet : Decides (ItemsMeet g t q) items
+    pub cells-agree : Decides (CellsAgree g t F q) agree
+    pub cells-meet : agree ≡ true → Decides (CellsMeet g t F q) cells
+    pub narrows : Narrows (LookaheadsFrom g t F q) narrow₀ narrow
+
+  -- what is told of the states 1 .. n - 1
+  pub record Found (n items agree cells : ℕ) (narrow : List ℕ) : Type 0 where
+    pub items-fault : Fault (ItemsMeet g t) n items
+    pub agree-fault : Fault (CellsAgree g t F) n agree
+    pub cells-fault : agree ≡ 0 → Fault (CellsMeet g t F) n cells
+    pub flagged : (q : ℕ) → On narrow q → LookaheadsMeet g t F q → ⊥
+    pub rest : (q : ℕ) → Off narrow q → (p : ℕ) → 1 ≤ p → p < n → LookaheadsFrom g t F p q

@@ -1,0 +1,207 @@
+-- How a rule's row of entries is filled, group by group.
+use Prim.Native.Nat.{ℕ, zero, suc, _+_, _-_, _*_, _≤_, _<_}
+use mathlib.Core.Path.{_≡_, refl, sym, ap, subst, _∙_}
+use mathlib.Core.Bool.{true, false, false≢true}
+use mathlib.Core.Logic.{_⊎_, inl, inr}
+use mathlib.Core.List.{List, [], _∷_, _++_, map, map-append, append-assoc, append-nil}
+use mathlib.Core.Option.{some}
+use native.Mathlib.Decide.{ℕ-discrete}
+use native.Mathlib.Omega.{arith}
+use lib.ListN.{length, getD, set, length-append, length-map}
+use lib.Seq.{getD-set-same, getD-set-other}
+use Rattle.language.specs.Grammar.{Grammar, Rule, ruleAt, concat}
+use Rattle.language.specs.Sentence.{In, here, there}
+use Rattle.language.specs.Member.{in-right}
+use Rattle.language.specs.Lists.{concat-++}
+use Rattle.leftcorner.specs.Table.{Table, entryFrom}
+use Rattle.leftcorner.specs.Construction.{EntryAt, of-group}
+use Rattle.items.specs.Layout.{lengthAt, markAt, RuleIn}
+use Rattle.fixpoint.specs.Flags.{On}
+use Rattle.fixpoint.proofs.CountLaws.{on-set, only-set, keep-set}
+use Rattle.fixpoint.proofs.PassLaws.{is-yes, is-no}
+use Rattle.entry_list.specs.Parts.{FindsEntry, GroupEnd}
+use Rattle.entry_list.specs.Uses.{HoldsStrings, AllEntered, WantedEntry, FilledRule}
+use Rattle.entry_list.proofs.GroupLaws.{baseOf, right-length, end-is}
+use Rattle.entry_list.proofs.PartLaws.{found-entry, found-number, found-none}
+
+-- ---- one more at the end of a list
+snoc-same : (l : List ℕ) (v : ℕ) → getD (l ++ v ∷ []) (length l) 0 ≡ v
+snoc-same [] v = refl
+snoc-same (x ∷ l) v = snoc-same l v
+
+snoc-other : (l : List ℕ) (v n : ℕ) → (n ≡ length l → ⊥) → getD (l ++ v ∷ []) n 0 ≡ getD l n 0
+snoc-other [] v zero f = absurd (f refl)
+snoc-other [] v (suc n) f = refl
+snoc-other (x ∷ l) v zero f = refl
+snoc-other (x ∷ l) v (suc n) f = snoc-other l v n (λ e. f (ap suc e))
+
+in-more : {A : Type 0} {x y z : A} {l : List A} → In x l ⊎ (x ≡ y) → In x (z ∷ l) ⊎ (x ≡ y)
+in-more (inl m) = inl (there m)
+in-more (inr e) = inr e
+
+in-snoc : {A : Type 0} {x : A} (l : List A) {y : A} → In x (l ++ y ∷ []) → In x l ⊎ (x ≡ y)
+in-snoc [] here = inr refl
+in-snoc [] (there m) = elim m [ ]
+in-snoc (z ∷ l) here = inl here
+in-snoc (z ∷ l) (there m) = in-more (in-snoc l m)
+
+positive : (γ : List ℕ) → (γ ≡ [] → ⊥) → 1 ≤ length γ
+positive [] f = absurd (f refl)
+positive (X ∷ γ) f = omega arith
+
+-- the group of r that begins behind the groups `done`
+record Current (r : Rule) (done : List (List ℕ)) (to : ℕ) : Type 0 where
+  group : List ℕ
+  others : List (List ℕ)
+  split : r .groups ≡ done ++ group ∷ others
+  is-group : In group (r .groups)
+  end : to ≡ baseOf r done + length group
+
+module _ (g : Grammar) (t : Table) where
+  abbrev pub number : List ℕ → ℕ
+  number γ = entryFrom 1 (t .entries) γ
+
+  -- the groups `done` of rule i are noted and flagged; the next one begins at `from`
+  pub record Filling (i : ℕ) (r : Rule) (uses₀ uses wanted₀ wanted : List ℕ) (from j : ℕ) : Type 0 where
+    pub done : List (List ℕ)
+    pub todo : List (List ℕ)
+    pub split : r .groups ≡ done ++ todo
+    pub counted : length done ≡ j
+    pub place : from ≡ baseOf r done
+    pub row : (n : ℕ) → n < 16 → getD uses (i * 16 + n) 0 ≡ getD (map number done) n 0
+    pub outside : (x : ℕ) → (i * 16 ≤ x → x < i * 16 + 16 → ⊥) → getD uses x 0 ≡ getD uses₀ x 0
+    pub entered : (γ : List ℕ) → In γ done → (k : ℕ) × (s : ℕ) × EntryAt g t k s γ
+    pub flagged : (γ : List ℕ) → In γ done → On wanted (number γ)
+    pub kept : (k : ℕ) → On wanted₀ k → On wanted k
+    pub only : (k : ℕ) → On wanted k → On wanted₀ k ⊎ WantedEntry g t k
+
+  module _ {items : List ℕ} {rules strings : ℕ} (S : HoldsStrings g t items rules strings) (i : ℕ) (r : Rule) (is-rule : ruleAt g i ≡ some r) where
+    pub filling-start : {uses wanted : List ℕ} {from : ℕ} → from ≡ markAt items i → ((n : ℕ) → n < 16 → getD uses (i * 16 + n) 0 ≡ 0)
+        → Filling i r uses uses wanted wanted from 0
+    filling-start {uses} {wanted} {from} e zeros = record {
+      done = [];
+      todo = r .groups;
+      split = refl;
+      counted = refl;
+      place = let w = S .holds-items .rule-row i is-rule .mark-is in omega (arith, e, w);
+      row = zeros;
+      outside = λ x f. refl;
+      entered = λ γ m. elim m [ ];
+      flagged = λ γ m. elim m [ ];
+      kept = λ k o. o;
+      only = λ k o. inl o;
+    }
+
+    current : {uses₀ uses wanted₀ wanted : List ℕ} {from to j : ℕ} (F : Filling i r uses₀ uses wanted₀ wanted from j) → from < lengthAt items i
+        → GroupEnd items i from to → Current r (F .done) to
+    current {from = from} {to = to} F l h = go (F .todo) (F .split)
+      where
+        w : RuleIn items i r
+        w = S .holds-items .rule-row i is-rule
+
+        go : (ts : List (List ℕ)) → r .groups ≡ F .done ++ ts → Current r (F .done) to
+        go [] e = absurd (omega (arith, l, w .length-is, right-length r (F .done) [] e, F .place))
+        go (γ ∷ εs) e =
+            let filled = S .formed .formed i is-rule .filled in
+            let inside : In γ (r .groups) = subst (In γ) (sym e) (in-right (F .done) here) in
+            record {
+              group = γ;
+              others = εs;
+              split = e;
+              is-group = inside;
+              end = end-is r (F .done) γ εs e w (S .formed .formed i is-rule .short)
+                  (λ ε m. filled ε (subst (In ε) (sym e) (in-right (F .done) (there m)))) (positive γ (filled γ inside)) (F .place) h;
+            }
+
+    module _ {uses₀ uses wanted₀ wanted : List ℕ} {from to j x : ℕ} (F : Filling i r uses₀ uses wanted₀ wanted from j) (l : from < lengthAt items i)
+        (G : GroupEnd items i from to) (E : FindsEntry items rules strings i from (to - from) x) where
+      c : Current r (F .done) to
+      c = current F l G
+
+      width : to - from ≡ length (c .group)
+      width = omega (arith, c .end, F .place)
+
+      finds : FindsEntry items rules strings i (baseOf r (F .done)) (to - from) x
+      finds = subst (λ (f : ℕ). FindsEntry items rules strings i f (to - from) x) (F .place) E
+
+      missing : x ≡ 0 → AllEntered g t r → ⊥
+      missing z all = let e = all (c .group) (c .is-group) in
+          found-none g t S i r is-rule (F .done) (c .group) (c .others) (c .split) width finds z (e .0) (e .2)
+
+      pub filling-fails : x ≡ 0 → FilledRule g t i r uses₀ uses wanted₀ wanted false
+      filling-fails z = record
+          { decides = is-no _ (missing z); row = λ e. absurd (false≢true e); outside = F .outside; flagged = λ e. absurd (false≢true e); kept = F .kept; only = F .only }
+
+      module _ (some-entry : x ≡ 0 → ⊥) (few : j < 16) (low : i ≤ 127) (room : length uses ≡ 2048) (flags : length wanted ≡ 128) (low-entry : x < 128) where
+        entry : (s : ℕ) × EntryAt g t x s (c .group)
+        entry = found-entry g t S i r is-rule (F .done) (c .group) (c .others) (c .split) width finds some-entry
+
+        number-is : number (c .group) ≡ x
+        number-is = found-number g t S i r is-rule (F .done) (c .group) (c .others) (c .split) width finds some-entry
+
+        new-row : (n : ℕ) → n < 16 → Dec (n ≡ j) → getD (set uses (i * 16 + j) x) (i * 16 + n) 0 ≡ getD (map number (F .done) ++ number (c .group) ∷ []) n 0
+        new-row n b (yes e) =
+            ap (λ (m : ℕ). getD (set uses (i * 16 + j) x) (i * 16 + m) 0) e
+            ∙ (getD-set-same uses (i * 16 + j) x 0 (omega arith)
+            ∙ (sym number-is ∙ (sym (snoc-same (map number (F .done)) (number (c .group)))
+            ∙ ap (λ (m : ℕ). getD (map number (F .done) ++ number (c .group) ∷ []) m 0)
+            (let z : length (map number (F .done)) ≡ n = length-map (F .done) number ∙ (F .counted ∙ sym e) in z))))
+        new-row n b (no f) =
+            getD-set-other uses (i * 16 + j) (i * 16 + n) x 0 (λ e. f (omega (arith, e)))
+            ∙ (F .row n b ∙ sym (snoc-other (map number (F .done)) (number (c .group)) n (λ e. f (e ∙ (length-map (F .done) number ∙ F .counted)))))
+
+        new-entered : (γ : List ℕ) → In γ (F .done) ⊎ (γ ≡ c .group) → (k : ℕ) × (s : ℕ) × EntryAt g t k s γ
+        new-entered γ (inl m) = F .entered γ m
+        new-entered γ (inr e) = (x, entry .0, subst (EntryAt g t x (entry .0)) (sym e) (entry .1))
+
+        new-flagged : (γ : List ℕ) → In γ (F .done) ⊎ (γ ≡ c .group) → On (set wanted x 1) (number γ)
+        new-flagged γ (inl m) = keep-set wanted x (omega arith) (number γ) (F .flagged γ m)
+        new-flagged γ (inr e) = subst (On (set wanted x 1)) (sym (ap number e ∙ number-is)) (on-set wanted x (omega arith))
+
+        concat-length : length (concat (F .done ++ c .group ∷ [])) ≡ length (concat (F .done)) + length (c .group)
+        concat-length = ap length (concat-++ (F .done) (c .group ∷ [])) ∙ (length-append (concat (F .done)) (c .group ++ [])
+            ∙ ap (λ (m : List ℕ). length (concat (F .done)) + length m) (append-nil (c .group)))
+
+        more : Filling i r uses₀ (set uses (i * 16 + j) x) wanted₀ (set wanted x 1) to (j + 1)
+        more = record {
+          done = F .done ++ c .group ∷ [];
+          todo = c .others;
+          split = c .split ∙ sym (append-assoc (F .done) (c .group ∷ []) (c .others));
+          counted = length-append (F .done) (c .group ∷ []) ∙ ap (λ (m : ℕ). m + 1) (F .counted);
+          place = omega (arith, c .end, concat-length);
+          row = λ n b. new-row n b (ℕ-discrete n j) ∙ ap (λ (m : List ℕ). getD m n 0) (sym (map-append number (F .done) (c .group ∷ [])));
+          outside = λ y f. getD-set-other uses (i * 16 + j) y x 0 (λ e. f (omega (arith, e)) (omega (arith, e))) ∙ F .outside y f;
+          entered = λ γ m. new-entered γ (in-snoc (F .done) m);
+          flagged = λ γ m. new-flagged γ (in-snoc (F .done) m);
+          kept = λ k o. keep-set wanted x (omega arith) k (F .kept k o);
+          only = only-set (λ (k : ℕ). On wanted₀ k ⊎ WantedEntry g t k) wanted x (F .only)
+              (inr (record { state = entry .0; string = c .group; is-entry = entry .1; wanted = of-group i is-rule (c .is-group) }));
+        }
+
+        pub filling-more : {uses′ wanted′ : List ℕ} → uses′ ≡ set uses (i * 16 + j) x → wanted′ ≡ set wanted x 1 → Filling i r uses₀ uses′ wanted₀ wanted′ to (j + 1)
+        filling-more {uses′} {wanted′} eu ew =
+            subst (λ (m : List ℕ). Filling i r uses₀ uses′ wanted₀ m to (j + 1)) (sym ew)
+            (subst (λ (m : List ℕ). Filling i r uses₀ m wanted₀ (set wanted x 1) to (j + 1)) (sym eu) more)
+
+    -- nothing is left
+    pub filling-ends : {uses₀ uses wanted₀ wanted : List ℕ} {from j : ℕ} → Filling i r uses₀ uses wanted₀ wanted from j → lengthAt items i ≤ from
+        → FilledRule g t i r uses₀ uses wanted₀ wanted true
+    filling-ends {uses₀} {uses} {wanted₀} {wanted} {from} F l = go (F .todo) (F .split)
+      where
+        w : RuleIn items i r
+        w = S .holds-items .rule-row i is-rule
+
+        go : (ts : List (List ℕ)) → r .groups ≡ F .done ++ ts → FilledRule g t i r uses₀ uses wanted₀ wanted true
+        go [] e =
+            let all : r .groups ≡ F .done = e ∙ append-nil (F .done) in
+            record {
+              decides = is-yes _ (λ γ m. F .entered γ (subst (In γ) all m));
+              row = λ b n h. F .row n h ∙ ap (λ (d : List (List ℕ)). getD (map number d) n 0) (sym all);
+              outside = F .outside;
+              flagged = λ b γ m. F .flagged γ (subst (In γ) all m);
+              kept = F .kept;
+              only = F .only;
+            }
+        go (γ ∷ εs) e =
+            let some-symbol = positive γ (S .formed .formed i is-rule .filled γ (subst (In γ) (sym e) (in-right (F .done) here))) in
+            absurd (omega (arith, l, w .length-is, right-length r (F .done) (γ ∷ εs) e, length-append γ (concat εs), F .place, some-symbol))

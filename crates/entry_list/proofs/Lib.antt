@@ -1,0 +1,4 @@
+pub mod GroupLaws
+pub mod PartLaws
+pub mod FillLaws
+pub mod ListLaws

@@ -1,0 +1,4 @@
+pub mod Narrow
+pub mod Groups
+pub mod Memory
+pub mod Sources

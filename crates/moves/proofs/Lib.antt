@@ -1,0 +1,4 @@
+pub mod MoveLaws
+pub mod RowLaws
+pub mod HeldLaws
+pub mod NextLaws

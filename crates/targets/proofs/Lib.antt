@@ -1,0 +1,2 @@
+pub mod ArriveLaws
+pub mod MeetLaws
