@@ -1,3 +1,4 @@
 pub mod FirstLaws
 pub mod FaultLaws
 pub mod VerdictLaws
+pub mod StateLaws
