@@ -2,3 +2,4 @@ pub mod FirstLaws
 pub mod FaultLaws
 pub mod VerdictLaws
 pub mod StateLaws
+pub mod PassLaws
