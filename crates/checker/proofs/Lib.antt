@@ -1,3 +1,5 @@
 pub mod FirstLaws
 pub mod FaultLaws
 pub mod VerdictLaws
+pub mod StateLaws
+pub mod PassLaws

@@ -1,0 +1,43 @@
+use mathlib.Core.Path.{refl, _∙_}
+use borrow.Author.Tests.{not-true, not-false}
+use borrow.Author.Needs.{needs}
+use Rattle.entry_list.specs.Uses.{strings-of}
+use Rattle.checker.proofs.VerdictLaws.{list-verdict}
+use Rattle.checker.proofs.judge.Statement.{statement}
+use Rattle.checker.proofs.judge.Tie as tie
+
+slice-aggregate-entries-meet : tie.Need-slice-aggregate-entries-meet
+slice-aggregate-entries-meet c = search needs
+
+entries-meet-requires : tie.Need-entries-meet-requires
+entries-meet-requires c κs = let s = c .before .before .before .before .before .before .before .before .before in let S = s .pre .0 in let p = s .pre .1 in
+    (S .shaped, ((S .few-rules, S .some-strings, S .few-strings), refl))
+
+refuse-requires : tie.Need-refuse-requires
+refuse-requires c κs = search needs
+
+returns : tie.Need-returns
+returns c = λ g t G e. c .refuse .ensures ∙ list-verdict g t (c .before .before .before .entries-meet .ensures .1 g t (strings-of (G .held)) e .0 .no (not-true _ (c .before .if1 .taken)))
+
+slice-aggregate-judge-entered : tie.Need-slice-aggregate-judge-entered
+slice-aggregate-judge-entered c = search needs
+
+judge-entered-requires : tie.Need-judge-entered-requires
+judge-entered-requires c κs = let s = c .before .before .before .before .before .before .before .before .before .before .before .before .before in let S = s .pre .0 in let p = s .pre .1 in
+    (S, (p .0, p .1, c .before .before .before .entries-meet .ensures .0))
+
+returns-2 : tie.Need-returns-2
+returns-2 c = λ g t G e. let d = c .before .before .before .before .entries-meet .ensures .1 g t (strings-of (G .held)) e in let b = not-false _ (c .before .before .if1 .left) in
+    c .judge-entered .ensures g t G (d .1 b) (d .0 .yes b)
+
+pub judge-spec : {M : Type 1} → statement M
+judge-spec =
+    tie.close
+    (tie.spec
+    slice-aggregate-entries-meet
+    entries-meet-requires
+    refuse-requires
+    returns
+    slice-aggregate-judge-entered
+    judge-entered-requires
+    returns-2)

@@ -1,0 +1,124 @@
+use native.Mathlib.Omega.{arith}
+use mathlib.Core.Path.{refl, _∙_}
+use borrow.Author.Needs.{needs}
+use Rattle.checker.proofs.StateLaws.{within}
+use Rattle.checker.proofs.PassLaws.{few-codes-of, two-of, shaped-less, holds-of, terminals-are, pass-verdict}
+use Rattle.checker.proofs.judge_entered.Statement.{statement}
+use Rattle.checker.proofs.judge_entered.Tie as tie
+
+add-count : tie.Need-add-count
+add-count c = search needs
+
+add-codes : tie.Need-add-codes
+add-codes c = search needs
+
+slice-aggregate-find-sets : tie.Need-slice-aggregate-find-sets
+slice-aggregate-find-sets c = search needs
+
+slice-aggregate-find-sets-2 : tie.Need-slice-aggregate-find-sets-2
+slice-aggregate-find-sets-2 c = search needs
+
+find-sets-requires : tie.Need-find-sets-requires
+find-sets-requires c κs = let s = c .before .before .before .before .before .before .before .before .before .before .before in let S = s .pre .0 in let p = s .pre .1 in
+    (shaped-less _ (S .shaped), (p .0, (refl, refl)))
+
+slice-aggregate-prepare-rules : tie.Need-slice-aggregate-prepare-rules
+slice-aggregate-prepare-rules c = search needs
+
+slice-aggregate-prepare-rules-2 : tie.Need-slice-aggregate-prepare-rules-2
+slice-aggregate-prepare-rules-2 c = search needs
+
+slice-aggregate-prepare-rules-3 : tie.Need-slice-aggregate-prepare-rules-3
+slice-aggregate-prepare-rules-3 c = search needs
+
+slice-aggregate-prepare-rules-4 : tie.Need-slice-aggregate-prepare-rules-4
+slice-aggregate-prepare-rules-4 c = search needs
+
+prepare-rules-requires : tie.Need-prepare-rules-requires
+prepare-rules-requires c κs = let s = c .before .before .before .before .before .before .before .before .before .before .before .before .before .before .before .before .before .before in let S = s .pre .0 in let p = s .pre .1 in
+    let k = c .before .before .before .before .before .before .find-sets .kept in (S .shaped, ((within _ _, S .few-rules, few-codes-of (p .0)), ((k .1 .1 .1 .0, k .1 .1 .1 .1 .0), (refl, refl))))
+
+slice-aggregate-link-lines : tie.Need-slice-aggregate-link-lines
+slice-aggregate-link-lines c = search needs
+
+link-lines-requires : tie.Need-link-lines-requires
+link-lines-requires c κs = let s = c .before .before .before .before .before .before .before .before .before .before .before .before .before .before .before .before .before .before .before .before .before .before in let S = s .pre .0 in let p = s .pre .1 in
+    (S .some-lines, refl)
+
+slice-aggregate-judge-states : tie.Need-slice-aggregate-judge-states
+slice-aggregate-judge-states c = search needs
+
+slice-aggregate-judge-states-2 : tie.Need-slice-aggregate-judge-states-2
+slice-aggregate-judge-states-2 c = search needs
+
+slice-aggregate-judge-states-3 : tie.Need-slice-aggregate-judge-states-3
+slice-aggregate-judge-states-3 c = search needs
+
+slice-aggregate-judge-states-4 : tie.Need-slice-aggregate-judge-states-4
+slice-aggregate-judge-states-4 c = search needs
+
+slice-aggregate-judge-states-5 : tie.Need-slice-aggregate-judge-states-5
+slice-aggregate-judge-states-5 c = search needs
+
+slice-aggregate-judge-states-6 : tie.Need-slice-aggregate-judge-states-6
+slice-aggregate-judge-states-6 c = search needs
+
+judge-states-requires : tie.Need-judge-states-requires
+judge-states-requires c κs = let s = c .before .before .before .before .before .before .before .before .before .before .before .before .before .before .before .before .before .before .before .before .before .before .before .before .before .before .before .before .before .before in let S = s .pre .0 in let p = s .pre .1 in
+    let k = c .before .before .before .before .before .before .before .before .before .before .before .before .before .before .before .before .before .before .find-sets .kept in let m = c .before .before .before .before .before .before .before .before .before .before .before .prepare-rules in
+    (S, (record { linked = c .before .before .before .before .before .before .before .link-lines .ensures; uses-room = p .2; nul-room = k .1 .1 .1 .0; fst-room = k .1 .1 .1 .1 .0; starts-room = m .kept .1 .1 .1 .1 .1 .1 .0; through-room = m .kept .1 .1 .1 .1 .1 .1 .1 .0; prepared = m .ensures; few-codes = few-codes-of (p .0) }, (p .1, refl)))
+
+slice-aggregate-mark-goal : tie.Need-slice-aggregate-mark-goal
+slice-aggregate-mark-goal c = search needs
+
+slice-aggregate-mark-goal-2 : tie.Need-slice-aggregate-mark-goal-2
+slice-aggregate-mark-goal-2 c = search needs
+
+mark-goal-requires : tie.Need-mark-goal-requires
+mark-goal-requires c κs = let s = c .before .before .before .before .before .before .before .before .before .before .before .before .before .before .before .before .before .before .before .before .before .before .before .before .before .before .before .before .before .before .before .before .before .before in let S = s .pre .0 in let p = s .pre .1 in
+    (S .some-lines, (c .before .before .before .before .before .before .before .before .before .before .before .link-lines .ensures, (S .few-rules, S .codes-room, two-of (S .entries-room), c .before .before .before .judge-states .ensures .0)))
+
+slice-aggregate-lowest-set : tie.Need-slice-aggregate-lowest-set
+slice-aggregate-lowest-set c = search needs
+
+lowest-set-requires : tie.Need-lowest-set-requires
+lowest-set-requires c κs = let s = c .before .before .before .before .before .before .before .before .before .before .before .before .before .before .before .before .before .before .before .before .before .before .before .before .before .before .before .before .before .before .before .before .before .before .before .before .before in let S = s .pre .0 in let p = s .pre .1 in
+    (p .1, c .before .before .mark-goal .ensures .0)
+
+answer-requires : tie.Need-answer-requires
+answer-requires c κs = search needs
+
+returns : tie.Need-returns
+returns c = λ g t G U E. c .answer .ensures ∙ pass-verdict g t G E (c .before .before .before .before .before .before .before .before .before .before .before .before .before .before .before .before .before .before .before .before .before .before .before .before .before .before .before .find-sets .ensures g (holds-of (G .held)) (terminals-are (G .code-count))) _ _ _ _
+    (c .before .before .before .before .before .before .before .before .judge-states .ensures .1 g t G U) (c .before .before .before .before .mark-goal .ensures .1 g t _ _ _ _ (c .before .before .before .before .before .before .before .before .before .before .before .before .before .before .before .before .before .before .before .before .before .before .before .before .before .before .before .before .before .before .before .before .before .before .before .before .before .before .before .pre .0 .some-strings) (G .held)) (c .before .lowest-set .ensures)
+
+pub judge-entered-spec : {M : Type 1} → statement M
+judge-entered-spec =
+    tie.close
+    (tie.spec
+    add-count
+    add-codes
+    slice-aggregate-find-sets
+    slice-aggregate-find-sets-2
+    find-sets-requires
+    slice-aggregate-prepare-rules
+    slice-aggregate-prepare-rules-2
+    slice-aggregate-prepare-rules-3
+    slice-aggregate-prepare-rules-4
+    prepare-rules-requires
+    slice-aggregate-link-lines
+    link-lines-requires
+    slice-aggregate-judge-states
+    slice-aggregate-judge-states-2
+    slice-aggregate-judge-states-3
+    slice-aggregate-judge-states-4
+    slice-aggregate-judge-states-5
+    slice-aggregate-judge-states-6
+    judge-states-requires
+    slice-aggregate-mark-goal
+    slice-aggregate-mark-goal-2
+    mark-goal-requires
+    slice-aggregate-lowest-set
+    lowest-set-requires
+    answer-requires
+    returns)

@@ -1,0 +1,123 @@
+use mathlib.Core.Path.{refl}
+use native.Mathlib.Omega.{arith}
+use borrow.Author.Needs.{needs}
+use Rattle.moves.specs.Flags.{present-of}
+use Rattle.checker.proofs.StateLaws.{within, in-room, few-items, readable-of, ready-of, marked-of, memory-of, held-at}
+use Rattle.checker.proofs.judge_state.Statement.{statement}
+use Rattle.checker.proofs.judge_state.Tie as tie
+
+add-count : tie.Need-add-count
+add-count c = search needs
+
+slice-aggregate-close-state : tie.Need-slice-aggregate-close-state
+slice-aggregate-close-state c = search needs
+
+slice-aggregate-close-state-2 : tie.Need-slice-aggregate-close-state-2
+slice-aggregate-close-state-2 c = search needs
+
+close-state-requires : tie.Need-close-state-requires
+close-state-requires c κs = let s = c .before .before .before .before .before .before .before .before .before .before .before .before .before .before .before .before .before in let S = s .pre .0 in let C = s .pre .1 .0 in let low = s .pre .1 .1 .1 in
+    (S .shaped, ((within _ _, S .few-rules, C .few-codes), ((S .some-lines .room, S .codes-room), (S .some-lines .item-low, ((C .nul-room, C .fst-room, C .starts-room, C .through-room), (C .prepared, (refl, refl)))))))
+
+slice-aggregate-flag-moves : tie.Need-slice-aggregate-flag-moves
+slice-aggregate-flag-moves c = search needs
+
+slice-aggregate-flag-moves-2 : tie.Need-slice-aggregate-flag-moves-2
+slice-aggregate-flag-moves-2 c = search needs
+
+flag-moves-requires : tie.Need-flag-moves-requires
+flag-moves-requires c κs = let s = c .before .before .before .before .before .before .before .before .before .before .before .before .before .before .before .before .before .before .before .before .before .before in let S = s .pre .0 in let C = s .pre .1 .0 in let low = s .pre .1 .1 .1 in
+    (readable-of S C (search needs), (low, refl))
+
+slice-aggregate-items-meet : tie.Need-slice-aggregate-items-meet
+slice-aggregate-items-meet c = search needs
+
+slice-aggregate-items-meet-2 : tie.Need-slice-aggregate-items-meet-2
+slice-aggregate-items-meet-2 c = search needs
+
+items-meet-requires : tie.Need-items-meet-requires
+items-meet-requires c κs = let s = c .before .before .before .before .before .before .before .before .before .before .before .before .before .before .before .before .before .before .before .before .before .before .before .before .before .before in let S = s .pre .0 in let C = s .pre .1 .0 in let low = s .pre .1 .1 .1 in
+    (readable-of S C (search needs), (S .cells-room, ((in-room low (S .named-room), c .before .before .before .flag-moves .ensures .0), (low, S .few-rules, S .few-strings, in-room (omega (arith, S .few-strings)) (S .entries-room)))))
+
+slice-aggregate-mark-narrow : tie.Need-slice-aggregate-mark-narrow
+slice-aggregate-mark-narrow c = search needs
+
+slice-aggregate-mark-narrow-2 : tie.Need-slice-aggregate-mark-narrow-2
+slice-aggregate-mark-narrow-2 c = search needs
+
+mark-narrow-requires : tie.Need-mark-narrow-requires
+mark-narrow-requires c κs = let s = c .before .before .before .before .before .before .before .before .before .before .before .before .before .before .before .before .before .before .before .before .before .before .before .before .before .before .before .before .before .before in let S = s .pre .0 in let C = s .pre .1 .0 in let low = s .pre .1 .1 .1 in
+    (marked-of S C, (S .cells-room, (low, c .before .before .before .before .before .before .before .before .before .before .before .before .close-state .kept .1 .1 .1 .1 .1 .1 .1 .1 .1 .1 .1 .1 .0, c .before .before .before .before .before .before .before .before .before .before .before .before .close-state .kept .1 .1 .1 .1 .1 .1 .1 .1 .1 .1 .1 .1 .1 .0, s .pre .1 .1 .2)))
+
+slice-aggregate-ask-cells : tie.Need-slice-aggregate-ask-cells
+slice-aggregate-ask-cells c = search needs
+
+slice-aggregate-ask-cells-2 : tie.Need-slice-aggregate-ask-cells-2
+slice-aggregate-ask-cells-2 c = search needs
+
+slice-aggregate-ask-cells-3 : tie.Need-slice-aggregate-ask-cells-3
+slice-aggregate-ask-cells-3 c = search needs
+
+slice-aggregate-ask-cells-4 : tie.Need-slice-aggregate-ask-cells-4
+slice-aggregate-ask-cells-4 c = search needs
+
+ask-cells-requires : tie.Need-ask-cells-requires
+ask-cells-requires c κs = let s = c .before .before .before .before .before .before .before .before .before .before .before .before .before .before .before .before .before .before .before .before .before .before .before .before .before .before .before .before .before .before .before .before .before .before .before .before .before in let S = s .pre .0 in let C = s .pre .1 .0 in let low = s .pre .1 .1 .1 in
+    (readable-of S C (c .before .before .before .before .before .before .before .before .before .before .before .before .before .before .before .before .before .before .before .close-state .kept .1 .1 .1 .1 .1 .1 .1 .1 .1 .1 .1 .1 .0), (ready-of S C, ((few-items (S .few-rules) (S .few-strings), low, S .codes-room), ((c .before .before .before .before .before .before .before .before .before .before .before .before .before .before .before .before .before .before .before .close-state .kept .1 .1 .1 .1 .1 .1 .1 .1 .1 .1 .1 .1 .1 .0), c .before .before .before .before .before .before .before .before .before .before .before .before .before .before .flag-moves .ensures .0, refl))))
+
+slice-aggregate-cells-meet : tie.Need-slice-aggregate-cells-meet
+slice-aggregate-cells-meet c = search needs
+
+slice-aggregate-cells-meet-2 : tie.Need-slice-aggregate-cells-meet-2
+slice-aggregate-cells-meet-2 c = search needs
+
+cells-meet-requires : tie.Need-cells-meet-requires
+cells-meet-requires c κs = let s = c .before .before .before .before .before .before .before .before .before .before .before .before .before .before .before .before .before .before .before .before .before .before .before .before .before .before .before .before .before .before .before .before .before .before .before .before .before .before .before .before .before in let S = s .pre .0 in let C = s .pre .1 .0 in let low = s .pre .1 .1 .1 in
+    (S .cells-room, (c .before .before .before .ask-cells .ensures .0, c .before .before .before .before .before .before .before .before .before .before .before .before .before .before .before .before .before .before .flag-moves .ensures .0, C .few-codes, low))
+
+same-length : tie.Need-same-length
+same-length c = search needs
+
+returns : tie.Need-returns
+returns c = (
+      c .before .before .before .before .before .before .before .before .before .before .before .mark-narrow .ensures .0,
+      λ g t states G U l.
+        let H = G .held in
+        let K = c .before .before .before .before .before .before .before .before .before .before .before .before .before .before .before .before .before .before .before .before .before .before .before .before .close-state .ensures g t (memory-of G) in
+        let M = c .before .before .before .before .before .before .before .before .before .before .before .before .before .before .before .before .before .before .before .flag-moves .ensures .1 g t _ _ _ _ _ _ H (present-of K) in
+        let A = c .before .before .before .before .ask-cells .ensures .1 g t _ _ _ _ _ H (G .code-count) K M in
+        record {
+          items-meet = c .before .before .before .before .before .before .before .before .before .before .before .before .before .before .before .items-meet .ensures g t (held-at G (present-of K) M (c .before .before .before .before .before .before .before .before .before .before .before .before .before .before .before .before .before .before .before .before .before .before .before .before .before .before .before .before .before .before .before .before .before .before .before .before .before .before .before .before .before .before .pre .1 .1 .0) l);
+          cells-agree = A .0;
+          cells-meet = λ e. c .cells-meet .ensures g t _ _ _ _ _ _ _ _ _ H (G .code-count) M (A .1 e);
+          narrows = c .before .before .before .before .before .before .before .before .before .before .before .mark-narrow .ensures .1 g t _ H (G .code-count) K U;
+        },
+    )
+
+pub judge-state-spec : {M : Type 1} → statement M
+judge-state-spec =
+    tie.close
+    (tie.spec
+    add-count
+    slice-aggregate-close-state
+    slice-aggregate-close-state-2
+    close-state-requires
+    slice-aggregate-flag-moves
+    slice-aggregate-flag-moves-2
+    flag-moves-requires
+    slice-aggregate-items-meet
+    slice-aggregate-items-meet-2
+    items-meet-requires
+    slice-aggregate-mark-narrow
+    slice-aggregate-mark-narrow-2
+    mark-narrow-requires
+    slice-aggregate-ask-cells
+    slice-aggregate-ask-cells-2
+    slice-aggregate-ask-cells-3
+    slice-aggregate-ask-cells-4
+    ask-cells-requires
+    slice-aggregate-cells-meet
+    slice-aggregate-cells-meet-2
+    cells-meet-requires
+    same-length
+    returns)

@@ -1,0 +1,77 @@
+use Prim.Native.Nat.{ℕ, _+_, _-_, _≤_, _<_}
+use native.Mathlib.Omega.{arith}
+use mathlib.Core.Path.{_≡_, ap, _∙_}
+use borrow.Author.Needs.{needs}
+use lib.ListN.{length, length-replicate}
+use Rattle.language.specs.Grammar.{Grammar}
+use Rattle.leftcorner.specs.Table.{Table}
+use Rattle.closure.specs.FirstBy.{FirstBy}
+use Rattle.entry_list.specs.Uses.{HoldsUses}
+use Rattle.entry_list.proofs.ListLaws.{zeros-of}
+use Rattle.checker.specs.Faults.{Found}
+use Rattle.checker.specs.Given.{Given}
+use Rattle.checker.proofs.FaultLaws.{found-start}
+use Rattle.checker.proofs.PassLaws.{low-state, found-noted, found-end}
+use Rattle.checker.proofs.judge_states.Statement.{statement}
+use Rattle.checker.proofs.judge_states.Tie as tie
+
+abbrev Inv-loop : tie.InvT-loop
+Inv-loop items entries kernels links lookaheads kinds values gotos named uses nul fst starts through rules strings lines codes states narrow₀ wrong₀ clash₀ other₀ q₀ narrow wrong clash other q =
+    (1 ≤ q) × (q ≤ states + 1) × (length narrow ≡ 256) × ((g : Grammar) (t : Table) → Given g t items entries kernels lookaheads kinds values gotos named rules strings lines states codes
+    → HoldsUses uses g t → Found g t (FirstBy codes nul fst) q wrong clash other narrow)
+
+abbrev μ-loop : tie.MeasureT-loop
+μ-loop items entries kernels links lookaheads kinds values gotos named uses nul fst starts through rules strings lines codes states narrow₀ wrong₀ clash₀ other₀ q₀ narrow wrong clash other q =
+    states + 1 - q
+
+loop-holds : tie.Need-loop-holds Inv-loop μ-loop
+loop-holds c = let z = c .before .before .before .before .before .before .before .before .before .before .before .before .before .before .before .pre .1 .1 .1 in (omega arith, omega arith, ap length z ∙ length-replicate {A = ℕ} 256 0, λ g t G U. found-start g t _ (zeros-of 256 z))
+
+judge-state-requires : tie.Need-judge-state-requires Inv-loop μ-loop
+judge-state-requires c κs = let s = c .before .before .before .before .before .before .before .before .before .before .before .before .before .before .before .before .before .before in let i = c .before .before .loop .inv in (s .pre .0, (s .pre .1 .0, (i .0, low-state (c .before .loop-test .taken) (s .pre .1 .1 .0), i .2)))
+
+note-requires : tie.Need-note-requires Inv-loop μ-loop
+note-requires c κs = search needs
+
+note-requires-2 : tie.Need-note-requires-2 Inv-loop μ-loop
+note-requires-2 c κs = search needs
+
+note-requires-3 : tie.Need-note-requires-3 Inv-loop μ-loop
+note-requires-3 c κs = search needs
+
+add-q : tie.Need-add-q Inv-loop μ-loop
+add-q c = search (needs, low-state (c .before .before .before .before .before .before .before .loop-test .taken) (c .before .before .before .before .before .before .before .before .before .before .before .before .before .before .before .before .before .before .before .before .before .before .before .before .pre .1 .1 .0))
+
+loop-less : tie.Need-loop-less Inv-loop μ-loop
+loop-less c = search needs
+
+loop-again : tie.Need-loop-again Inv-loop μ-loop
+loop-again c = let i = c .before .before .before .before .before .before .before .before .loop .inv in let j = c .before .before .before .before .before .judge-state .ensures in (
+      omega arith,
+      omega arith,
+      j .0,
+      λ g t G U. found-noted g t _ (i .0) (c .before .before .note .ensures) (c .before .note2 .ensures) (c .note3 .ensures) (i .3 g t G U) (j .1 g t _ G U (c .before .before .before .before .before .before .before .loop-test .taken)),
+    )
+
+same-length : tie.Need-same-length Inv-loop μ-loop
+same-length c = search needs
+
+returns : tie.Need-returns Inv-loop μ-loop
+returns c = let i = c .before .loop .inv in (i .2, λ g t G U. found-end g t _ (i .1) (c .loop-test .left) (i .3 g t G U))
+
+pub judge-states-spec : {M : Type 1} → statement M
+judge-states-spec =
+    tie.close
+    (tie.spec
+    Inv-loop
+    μ-loop
+    loop-holds
+    judge-state-requires
+    note-requires
+    note-requires-2
+    note-requires-3
+    add-q
+    loop-less
+    loop-again
+    same-length
+    returns)
