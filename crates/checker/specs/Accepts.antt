@@ -46,7 +46,7 @@ module _ (g : Grammar) where
   unfoldable pub tableVerdict : Table → Reply
   tableVerdict t =
       verdict g t (FirstByRules g) (entries? g t) (items? g t) (lookaheads? g t (FirstByRules g) (first? g) codes code-in)
-        (agree? g t (FirstByRules g) (first? g) codes code-in) (cells? g t (FirstByRules g) (first? g) codes code-in)
+      (agree? g t (FirstByRules g) (first? g) codes code-in) (cells? g t (FirstByRules g) (first? g) codes code-in)
 
   -- first by rules is first, for strings of declared symbols
   module _ (P : AllProductive g) (R : RightProductive g) where
@@ -57,9 +57,9 @@ module _ (g : Grammar) where
     unfolding tableVerdict
     accepted-exactly D t W =
         let s = swap g t D (FirstByRules g) (First g) first-same in
-        record
-          { to = λ e. s .to (meets g t (FirstByRules g) (entries? g t) (items? g t) (lookaheads? g t (FirstByRules g) (first? g) codes code-in)
-              (agree? g t (FirstByRules g) (first? g) codes code-in) (cells? g t (FirstByRules g) (first? g) codes code-in) W e)
-          ; from = λ M. accepts g t (FirstByRules g) (entries? g t) (items? g t) (lookaheads? g t (FirstByRules g) (first? g) codes code-in)
-              (agree? g t (FirstByRules g) (first? g) codes code-in) (cells? g t (FirstByRules g) (first? g) codes code-in) (s .from M)
-          }
+        record {
+          to = λ e. s .to (meets g t (FirstByRules g) (entries? g t) (items? g t) (lookaheads? g t (FirstByRules g) (first? g) codes code-in)
+              (agree? g t (FirstByRules g) (first? g) codes code-in) (cells? g t (FirstByRules g) (first? g) codes code-in) W e);
+          from = λ M. accepts g t (FirstByRules g) (entries? g t) (items? g t) (lookaheads? g t (FirstByRules g) (first? g) codes code-in)
+              (agree? g t (FirstByRules g) (first? g) codes code-in) (cells? g t (FirstByRules g) (first? g) codes code-in) (s .from M);
+        }
