@@ -82,11 +82,15 @@ found-verdict g t w W E {n} {nul} {fst} count S a b c d f fb =
   where
     By : List ℕ → ℕ → ℕ → Type 0
     By = FirstBy n nul fst
+
     Rules : List ℕ → ℕ → ℕ → Type 0
     Rules = FirstByRules g
+
     D : Declared g
     D = declared-of w
+
     to : (β : List ℕ) → AllDeclared g β → (x y : ℕ) → FirstBy n nul fst β x y ↔ FirstByRules g β x y
     to β al x y = first-flags g (w .few-terminals) count S β x y
+
     from : (β : List ℕ) → AllDeclared g β → (x y : ℕ) → FirstByRules g β x y ↔ FirstBy n nul fst β x y
     from β al x y = flip (to β al x y)

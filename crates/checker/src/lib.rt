@@ -57,13 +57,93 @@ fn judge_state(
     let mut follow = [0u8; 4096];
     let mut symbols = [0u8; 128];
     let mut asked = [0usize; 64];
-    closure::close_state(items, count, rules, kernels, lookaheads, lines, q, codes, nul, fst, starts, through, &mut present, &mut follow);
-    moves::flag_moves(items, kernels, links, &present, count, rules, lines, q, &mut symbols);
-    let met = conformance::items_meet(items, entries, kernels, links, kinds, values, gotos, named, &present, &symbols, rules, strings, lines, q);
-    lookaheads::mark_narrow(items, kernels, links, lookaheads, kinds, values, gotos, entries, uses, nul, fst, &present, &follow, count, rules, lines, codes, q, narrow);
-    let agree = cells::ask_cells(items, kernels, links, lookaheads, &present, &follow, &symbols, nul, fst, count, rules, lines, codes, q, &mut asked);
+    closure::close_state(
+        items,
+        count,
+        rules,
+        kernels,
+        lookaheads,
+        lines,
+        q,
+        codes,
+        nul,
+        fst,
+        starts,
+        through,
+        &mut present,
+        &mut follow,
+    );
+    moves::flag_moves(
+        items,
+        kernels,
+        links,
+        &present,
+        count,
+        rules,
+        lines,
+        q,
+        &mut symbols,
+    );
+    let met = conformance::items_meet(
+        items,
+        entries,
+        kernels,
+        links,
+        kinds,
+        values,
+        gotos,
+        named,
+        &present,
+        &symbols,
+        rules,
+        strings,
+        lines,
+        q,
+    );
+    lookaheads::mark_narrow(
+        items,
+        kernels,
+        links,
+        lookaheads,
+        kinds,
+        values,
+        gotos,
+        entries,
+        uses,
+        nul,
+        fst,
+        &present,
+        &follow,
+        count,
+        rules,
+        lines,
+        codes,
+        q,
+        narrow,
+    );
+    let agree = cells::ask_cells(
+        items,
+        kernels,
+        links,
+        lookaheads,
+        &present,
+        &follow,
+        &symbols,
+        nul,
+        fst,
+        count,
+        rules,
+        lines,
+        codes,
+        q,
+        &mut asked,
+    );
     let filled = cells::cells_meet(&asked, &symbols, kinds, values, gotos, codes, q);
-    State { items: met, agree, cells: filled }
+    State {
+        items: met,
+        agree,
+        cells: filled,
+    }
 }
 
 // The lowest fault so far, where state q is fine or not.
@@ -155,13 +235,38 @@ fn judge_states(
     let mut other = 0;
     let mut q = 1;
     while q <= states {
-        let s = judge_state(items, entries, kernels, links, lookaheads, kinds, values, gotos, named, uses, nul, fst, starts, through, rules, strings, lines, codes, q, narrow);
+        let s = judge_state(
+            items,
+            entries,
+            kernels,
+            links,
+            lookaheads,
+            kinds,
+            values,
+            gotos,
+            named,
+            uses,
+            nul,
+            fst,
+            starts,
+            through,
+            rules,
+            strings,
+            lines,
+            codes,
+            q,
+            narrow,
+        );
         wrong = note(wrong, s.items, q);
         clash = note(clash, s.agree, q);
         other = note(other, s.cells, q);
         q += 1;
     }
-    Faults { items: wrong, agree: clash, cells: other }
+    Faults {
+        items: wrong,
+        agree: clash,
+        cells: other,
+    }
 }
 
 // The reply to a table whose entries are those of the construction; `uses` has the entries that groups use.
@@ -195,10 +300,50 @@ fn judge_entered(
     let mut links = [0usize; 1280];
     let mut narrow = [0u8; 256];
     analysis::find_sets(items, terminals, rules, &mut nul, &mut fst);
-    closure::prepare_rules(items, count, rules, codes, &nul, &fst, &mut starts, &mut through);
+    closure::prepare_rules(
+        items,
+        count,
+        rules,
+        codes,
+        &nul,
+        &fst,
+        &mut starts,
+        &mut through,
+    );
     kernel_lines::link_lines(kernels, lines, count, &mut links);
-    let found = judge_states(items, entries, kernels, &links, lookaheads, kinds, values, gotos, named, uses, &nul, &fst, &starts, &through, rules, strings, lines, codes, states, &mut narrow);
-    lookaheads::mark_goal(kernels, &links, lookaheads, entries, lines, count, rules, strings, &mut narrow);
+    let found = judge_states(
+        items,
+        entries,
+        kernels,
+        &links,
+        lookaheads,
+        kinds,
+        values,
+        gotos,
+        named,
+        uses,
+        &nul,
+        &fst,
+        &starts,
+        &through,
+        rules,
+        strings,
+        lines,
+        codes,
+        states,
+        &mut narrow,
+    );
+    lookaheads::mark_goal(
+        kernels,
+        &links,
+        lookaheads,
+        entries,
+        lines,
+        count,
+        rules,
+        strings,
+        &mut narrow,
+    );
     let low = lowest_set(&narrow, states);
     answer(found.items, low, found.agree, found.cells)
 }
@@ -229,5 +374,20 @@ pub fn judge(
     if !entry_list::entries_meet(items, rules, strings, goal, &mut uses) {
         return reply::refuse(Kind::ItemMismatch, 0);
     }
-    judge_entered(items, entries, kernels, lookaheads, kinds, values, gotos, named, &uses, terminals, rules, strings, lines, states)
+    judge_entered(
+        items,
+        entries,
+        kernels,
+        lookaheads,
+        kinds,
+        values,
+        gotos,
+        named,
+        &uses,
+        terminals,
+        rules,
+        strings,
+        lines,
+        states,
+    )
 }

@@ -80,19 +80,19 @@ same-length c = search needs
 
 returns : tie.Need-returns
 returns c = (
-      c .before .before .before .before .before .before .before .before .before .before .before .mark-narrow .ensures .0,
-      λ g t states G U l.
-        let H = G .held in
-        let K = c .before .before .before .before .before .before .before .before .before .before .before .before .before .before .before .before .before .before .before .before .before .before .before .before .close-state .ensures g t (memory-of G) in
-        let M = c .before .before .before .before .before .before .before .before .before .before .before .before .before .before .before .before .before .before .before .flag-moves .ensures .1 g t _ _ _ _ _ _ H (present-of K) in
-        let A = c .before .before .before .before .ask-cells .ensures .1 g t _ _ _ _ _ H (G .code-count) K M in
-        record {
-          items-meet = c .before .before .before .before .before .before .before .before .before .before .before .before .before .before .before .items-meet .ensures g t (held-at G (present-of K) M (c .before .before .before .before .before .before .before .before .before .before .before .before .before .before .before .before .before .before .before .before .before .before .before .before .before .before .before .before .before .before .before .before .before .before .before .before .before .before .before .before .before .before .pre .1 .1 .0) l);
-          cells-agree = A .0;
-          cells-meet = λ e. c .cells-meet .ensures g t _ _ _ _ _ _ _ _ _ H (G .code-count) M (A .1 e);
-          narrows = c .before .before .before .before .before .before .before .before .before .before .before .mark-narrow .ensures .1 g t _ H (G .code-count) K U;
-        },
-    )
+  c .before .before .before .before .before .before .before .before .before .before .before .mark-narrow .ensures .0,
+  λ g t states G U l.
+      let H = G .held in
+      let K = c .before .before .before .before .before .before .before .before .before .before .before .before .before .before .before .before .before .before .before .before .before .before .before .before .close-state .ensures g t (memory-of G) in
+      let M = c .before .before .before .before .before .before .before .before .before .before .before .before .before .before .before .before .before .before .before .flag-moves .ensures .1 g t _ _ _ _ _ _ H (present-of K) in
+      let A = c .before .before .before .before .ask-cells .ensures .1 g t _ _ _ _ _ H (G .code-count) K M in
+      record {
+        items-meet = c .before .before .before .before .before .before .before .before .before .before .before .before .before .before .before .items-meet .ensures g t (held-at G (present-of K) M (c .before .before .before .before .before .before .before .before .before .before .before .before .before .before .before .before .before .before .before .before .before .before .before .before .before .before .before .before .before .before .before .before .before .before .before .before .before .before .before .before .before .before .pre .1 .1 .0) l);
+        cells-agree = A .0;
+        cells-meet = λ e. c .cells-meet .ensures g t _ _ _ _ _ _ _ _ _ H (G .code-count) M (A .1 e);
+        narrows = c .before .before .before .before .before .before .before .before .before .before .before .mark-narrow .ensures .1 g t _ H (G .code-count) K U;
+      },
+)
 
 pub judge-state-spec : {M : Type 1} → statement M
 judge-state-spec =

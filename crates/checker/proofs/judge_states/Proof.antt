@@ -47,11 +47,11 @@ loop-less c = search needs
 
 loop-again : tie.Need-loop-again Inv-loop μ-loop
 loop-again c = let i = c .before .before .before .before .before .before .before .before .loop .inv in let j = c .before .before .before .before .before .judge-state .ensures in (
-      omega arith,
-      omega arith,
-      j .0,
-      λ g t G U. found-noted g t _ (i .0) (c .before .before .note .ensures) (c .before .note2 .ensures) (c .note3 .ensures) (i .3 g t G U) (j .1 g t _ G U (c .before .before .before .before .before .before .before .loop-test .taken)),
-    )
+  omega arith,
+  omega arith,
+  j .0,
+  λ g t G U. found-noted g t _ (i .0) (c .before .before .note .ensures) (c .before .note2 .ensures) (c .note3 .ensures) (i .3 g t G U) (j .1 g t _ G U (c .before .before .before .before .before .before .before .loop-test .taken)),
+)
 
 same-length : tie.Need-same-length Inv-loop μ-loop
 same-length c = search needs
