@@ -3,3 +3,4 @@ pub mod Derivation
 pub mod Listing
 pub mod Sentence
 pub mod First
+pub mod WellFormed

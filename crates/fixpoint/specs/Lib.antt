@@ -1,0 +1,4 @@
+pub mod Flags
+pub mod Least
+pub mod Lowest
+pub mod Decision

@@ -1,0 +1,60 @@
+-- The bytes of each class.
+use Prim.Native.Nat.{ℕ, _<_, _≤_}
+use mathlib.Core.Path.{_≡_, refl}
+use mathlib.Core.Bool.{Bool, true, false, cond, _||_}
+use mathlib.Core.List.{List, [], _∷_}
+use mathlib.Core.Logic.{inl, inr, ⊎-elim}
+use native.Mathlib.Omega.{arith}
+use borrow.Author.Tests.{eq-eqb, ne-eqb}
+use lib.Dec.{eqb}
+use types.Run.{OneOf}
+use denote.Enum.Declared.{tagOf}
+use Rattle.range.specs.Range.{within}
+use Rattle.range.proofs.RangeLaws.{within-true, true-within, false-within}
+use Rattle.text.specs.declared.Class.{Class}
+use Rattle.text.specs.declared.Class.the-variants as class
+use Rattle.text.specs.Field.{classOf, onDigit}
+use Rattle.text.proofs.Class.{the-type}
+
+module _ (b : ℕ) where
+  pub class-digit : 48 ≤ b → b ≤ 57 → classOf b ≡ class.Digit
+  unfolding classOf
+  class-digit l h = simp (true-within 48 b 57 l h)
+
+  pub class-letter : 65 ≤ b → b ≤ 90 → classOf b ≡ class.Letter
+  unfolding classOf
+  class-letter l h = simp (false-within 48 b 57 (λ x y. omega arith), true-within 65 b 90 l h)
+
+  pub not-slash : (OneOf (47 ∷ 94 ∷ []) b → ⊥) → 47 ≤ b → 48 ≤ b
+  not-slash m l = let f : b ≡ 47 → ⊥ = λ e. m (inl e) in omega arith
+
+  pub class-mark : OneOf (47 ∷ 94 ∷ []) b → classOf b ≡ class.Mark
+  unfolding classOf
+  class-mark o = rw (false-within 48 b 57 not-digit, false-within 65 b 90 not-letter) (⊎-elim (λ e. simp (eq-eqb b 47 e)) (λ e. simp (ne-eqb b 47 (λ q. omega arith), eq-eqb b 94 e)) o)
+    where
+      not-digit : 48 ≤ b → b ≤ 57 → ⊥
+      not-digit l h = ⊎-elim (λ e. omega arith) (λ e. omega arith) o
+
+      not-letter : 65 ≤ b → b ≤ 90 → ⊥
+      not-letter l h = ⊎-elim (λ e. omega arith) (λ e. omega arith) o
+
+  pub class-other : (48 ≤ b → b ≤ 57 → ⊥) → (65 ≤ b → b ≤ 90 → ⊥) → (OneOf (47 ∷ 94 ∷ []) b → ⊥) → classOf b ≡ class.Other
+  unfolding classOf
+  class-other f g m = simp (false-within 48 b 57 f, false-within 65 b 90 g, ne-eqb b 47 (λ e. m (inl e)), ne-eqb b 94 (λ e. m (inr e)))
+
+  pub digit-low : classOf b ≡ class.Digit → 48 ≤ b
+  unfolding classOf
+  digit-low e = go (within 48 b 57) (within 65 b 90) (eqb b 47 || eqb b 94) refl e
+    where
+      go : (t u v : Bool) → within 48 b 57 ≡ t → cond t class.Digit (cond u class.Letter (cond v class.Mark class.Other)) ≡ class.Digit → 48 ≤ b
+      go true u v p e = within-true 48 b 57 p .0
+      go false true v p e = let z : _≡_ {A = ℕ} 0 1 = cc in absurd (omega arith)
+      go false false true p e = let z : _≡_ {A = ℕ} 0 1 = cc in absurd (omega arith)
+      go false false false p e = let z : _≡_ {A = ℕ} 0 1 = cc in absurd (omega arith)
+
+-- the arm of `let Class::Digit = k else`, where k is another class
+pub not-digit : {A : Type 0} (k : Class) → OneOf (1 ∷ 2 ∷ 3 ∷ []) (tagOf the-type k) → (x y : A) → onDigit k x y ≡ y
+not-digit class.Digit h x y = absurd (⊎-elim (λ e. omega arith) (λ g. ⊎-elim (λ e. omega arith) (λ e. omega arith) g) h)
+not-digit class.Letter h x y = refl
+not-digit class.Mark h x y = refl
+not-digit class.Other h x y = refl

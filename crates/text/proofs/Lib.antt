@@ -1,0 +1,6 @@
+pub mod Bytes
+pub mod ClassLaws
+pub mod NumberLaws
+pub mod FieldLaws
+pub mod ElseLaws
+pub mod OnwardLaws

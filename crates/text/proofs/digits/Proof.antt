@@ -1,0 +1,98 @@
+-- `text::digits` meets its contract. The loop's invariant: the number from the start on is the number from here on, with v read. Assumes nothing.
+use Prim.Native.Nat.{_+_, _≤_, _-_}
+use mathlib.Core.List.{[], _∷_}
+use types.Run.{OneOf}
+use denote.Ref.{now}
+use denote.Enum.Declared.{tagOf}
+use mathlib.Core.Path.{_≡_, sym, ap, subst, _∙_}
+use native.Mathlib.Omega.{arith}
+use borrow.Author.Needs.{needs}
+use lib.ListN.{length, drop, getD}
+use Rattle.text.specs.declared.Class.{Class}
+use Rattle.text.specs.declared.Field.the-variants as field
+use Rattle.text.specs.Field.{digitsFrom, closed}
+use Rattle.text.proofs.Class.{the-type}
+use Rattle.text.proofs.ClassLaws.{digit-low}
+use Rattle.text.proofs.NumberLaws.{capped, one-more, no-more, none-left}
+use Rattle.text.proofs.digits.Statement.{statement}
+use Rattle.text.proofs.digits.Tie as tie
+
+abbrev Inv-loop : tie.InvT-loop
+Inv-loop s at first v₀ i₀ v i = (v ≤ 65536) × (digitsFrom (drop at s) at first ≡ digitsFrom (drop i s) i v)
+
+abbrev μ-loop : tie.MeasureT-loop
+μ-loop s at first v₀ i₀ v i = length s - i
+
+loop-holds : tie.Need-loop-holds Inv-loop μ-loop
+loop-holds c = search needs
+
+shared-slice-read-b : tie.Need-shared-slice-read-b Inv-loop μ-loop
+shared-slice-read-b c = search needs
+
+classify-requires : tie.Need-classify-requires Inv-loop μ-loop
+classify-requires c κs = search needs
+
+enum-told : tie.Need-enum-told Inv-loop μ-loop
+enum-told c = search needs
+
+end-at-requires : tie.Need-end-at-requires Inv-loop μ-loop
+end-at-requires c κs = search needs
+
+number-requires : tie.Need-number-requires Inv-loop μ-loop
+number-requires c κs = search needs
+
+returns : tie.Need-returns Inv-loop μ-loop
+returns c =
+    let n = c .before .before .before in
+    let a = n .before .before .before .before .before .args in
+    let l = n .before .before .before .loop in
+    c .number .ensures
+    ∙ ap (closed (field.Number (l .v))) (c .before .end-at .ensures)
+    ∙ sym (no-more (now (a .s)) (l .i) (l .v) (n .before .before .loop-test .taken) (subst (λ (k : Class). OneOf (1 ∷ 2 ∷ 3 ∷ []) (tagOf the-type k)) (n .classify .ensures) (c .before .before .match .keys2)))
+    ∙ sym (l .inv .1)
+
+add-digit-requires : tie.Need-add-digit-requires Inv-loop μ-loop
+add-digit-requires c κs = (search needs, digit-low _ (sym (c .before .before .classify .ensures) ∙ c .enum-told .given .1))
+
+add-i : tie.Need-add-i Inv-loop μ-loop
+add-i c = search needs
+
+loop-less : tie.Need-loop-less Inv-loop μ-loop
+loop-less c = search needs
+
+loop-again : tie.Need-loop-again Inv-loop μ-loop
+loop-again c =
+    let n = c .before .before .before in
+    let a = n .before .before .before .before .before .args in
+    let l = n .before .before .before .loop in
+    let e = c .add-digit .ensures in (
+      omega (arith, capped (l .v) (getD (now (a .s)) (l .i) 0)),
+      l .inv .1
+          ∙ one-more (now (a .s)) (l .i) (l .v) (n .before .before .loop-test .taken) (sym (n .classify .ensures) ∙ c .before .enum-told .given .1)
+          ∙ ap (digitsFrom (drop (l .i + 1) (now (a .s))) (l .i + 1)) (sym e),
+    )
+
+returns-2 : tie.Need-returns-2 Inv-loop μ-loop
+returns-2 c =
+    let a = c .before .before .before .args in
+    let l = c .before .loop in
+    sym (l .inv .1 ∙ none-left (now (a .s)) (l .i) (l .v) (c .loop-test .left))
+
+pub digits-spec : {M : Type 1} → statement M
+digits-spec =
+    tie.close
+    (tie.spec
+    Inv-loop
+    μ-loop
+    loop-holds
+    shared-slice-read-b
+    classify-requires
+    enum-told
+    end-at-requires
+    number-requires
+    returns
+    add-digit-requires
+    add-i
+    loop-less
+    loop-again
+    returns-2)
