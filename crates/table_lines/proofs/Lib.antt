@@ -1,2 +1,5 @@
 pub mod TallyLaws
 pub mod LineLaws
+pub mod ImageLaws
+pub mod BlockLaws
+pub mod HeldLaws

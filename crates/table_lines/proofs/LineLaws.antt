@@ -9,23 +9,13 @@ use lib.Seq.{sets}
 use Rattle.text.specs.declared.Cursor.{Cursor}
 use Rattle.text.specs.declared.Field.the-variants as field
 use Rattle.text.specs.Field.{fieldAt, onNumber, onLetter}
+use Rattle.items.proofs.StoreLaws.{sets-snoc}
 use Rattle.table_lines.specs.declared.Tally.{Tally}
 use Rattle.table_lines.specs.declared.Line.{Line}
 use Rattle.table_lines.specs.declared.Line.the-variants as line
 use Rattle.table_lines.specs.Line.{TextLine, whole, broken, numbersFrom, lineAt, Stores}
 use Rattle.table_lines.specs.Tally.{addNumber, tally, lineOf}
 use Rattle.table_lines.proofs.TallyLaws.{tally-none, tally-snoc, count-is}
-
--- one more number at the end of a run of stores
-pub sets-more : (l a : List ℕ) (i x : ℕ) → set (sets l i a) (i + length a) x ≡ sets l i (a ++ x ∷ [])
-sets-more l [] i x = ap (λ (n : ℕ). set l n x) (zero-more i)
-  where
-    zero-more : (n : ℕ) → n + 0 ≡ n
-    zero-more n = omega arith
-sets-more l (y ∷ a) i x = ap (λ (n : ℕ). set (sets (set l i y) (suc i) a) n x) (next i (length a)) ∙ sets-more (set l i y) a (suc i) x
-  where
-    next : (m n : ℕ) → m + suc n ≡ suc m + n
-    next m n = omega arith
 
 -- of `all` there is left what numbersFrom says of k, c and the numbers that p and memory m hold; m₀ is what it held at first
 pub record Going (all : TextLine) (s : List ℕ) (letter : ℕ) (m₀ : List ℕ) (k : ℕ) (c : Cursor) (p : Tally) (m : List ℕ) : Type 0 where
@@ -78,7 +68,7 @@ module _ {all : TextLine} {s : List ℕ} {letter : ℕ} {m₀ : List ℕ} {k : �
           same = go k (g .same) h;
           tally-is = e ∙ ap (λ (t : Tally). addNumber t v) (g .tally-is) ∙ tally-snoc (g .numbers) v;
           stored = i ∙ (ap (λ (n : ℕ). set m n v) (ap (λ (t : Tally). t .count) (g .tally-is) ∙ count-is (g .numbers))
-              ∙ (ap (λ (l : List ℕ). set l (length (g .numbers)) v) (g .stored) ∙ (ap (λ (n : ℕ). set (sets m₀ 0 (g .numbers)) n v) (zero-plus (length (g .numbers))) ∙ sets-more m₀ (g .numbers) 0 v)));
+              ∙ (ap (λ (l : List ℕ). set l (length (g .numbers)) v) (g .stored) ∙ (ap (λ (n : ℕ). set (sets m₀ 0 (g .numbers)) n v) (zero-plus (length (g .numbers))) ∙ sets-snoc m₀ (g .numbers) 0 v)));
         }
       where
         zero-plus : (n : ℕ) → n ≡ 0 + n

@@ -1,4 +1,6 @@
-// Lines of table books: a letter, then numbers to the line's end.
+// Lines of table books: a letter, then numbers to the line's end; and what comes of a line and of a block of lines.
+use reply::Kind;
+use reply::Refusal;
 use text::Cursor;
 use text::Field;
 ghost use mathlib.Core.Path.{_≡_};
@@ -20,6 +22,26 @@ pub struct Tally {
 pub enum Line {
     Whole(u8, Tally, usize),
     Broken,
+}
+
+// Whether a line is as it must be, or what is wrong with it.
+pub enum Judgement {
+    Fine,
+    Faulty(Kind),
+}
+
+// What comes of a place where a line of a block may stand: it is taken, with the position past it; or no line of the
+// block stands there; or a line is refused.
+pub enum Step {
+    Taken(usize),
+    Stopped,
+    Refused(Refusal),
+}
+
+// A block that was read: the number of its lines, and the position past them.
+pub enum Block {
+    Read(usize, usize),
+    Refused(Refusal),
 }
 
 fn larger(a: usize, b: usize) -> usize
