@@ -53,6 +53,9 @@ module _ {ns : List ℕ} {p : Tally} {m : List ℕ} (h : Held ns p m) where
   pub held-count : p .count ≡ length ns
   held-count = h .numbers .count-is
 
+  pub held-at : (k : ℕ) → k < length ns → k < length m → getD ns k 0 ≡ getD m k 0
+  held-at k a b = sym (h .numbers .number-is k a b)
+
   pub held-largest : (n : ℕ) → leb (p .largest) n ≡ allAtMost n ns
   held-largest n = ap (λ (t : Tally). leb (t .largest) n) (h .tally-is) ∙ largest-is ns n
 

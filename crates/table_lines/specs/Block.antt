@@ -34,19 +34,10 @@ abbrev pub judged : {A : Type 0} → Judgement → ℕ → A → ℕ → Outcome
 judged Fine at x next = takes x next
 judged (Faulty kind) at x next = fault kind at
 
-abbrev pub stepOf : {A : Type 0} → Outcome A → Step
-stepOf (takes x next) = step.Taken next
-stepOf stops = step.Stopped
-stepOf (refuses why) = step.Refused why
-
 -- a block: its lines and the position past them, or a refusal
 pub data Lines (A : Type 0) : Type 0 where
   read : List A → ℕ → Lines A
   refused : Refusal → Lines A
-
-abbrev pub blockOf : {A : Type 0} → Lines A → Block
-blockOf (read l next) = block.Read (length l) next
-blockOf (refused why) = block.Refused why
 
 abbrev pub onOutcome : {A B : Type 0} → Outcome A → (A → ℕ → B) → B → (Refusal → B) → B
 onOutcome (takes x next) f y g = f x next
@@ -66,3 +57,14 @@ pub record Numbers (ns : List ℕ) (count : ℕ) (m : List ℕ) : Type 0 where
 pub record Held (ns : List ℕ) (p : Tally) (m : List ℕ) : Type 0 where
   pub tally-is : p ≡ tally ns
   pub numbers : Numbers ns (p .count) m
+
+-- what the code's step is, where o should come of the place; M x is what memory must then be with the line x taken
+abbrev pub Comes : {A : Type 0} → Outcome A → Step → (A → Type 0) → Type 0
+Comes (takes x next) r M = (r ≡ step.Taken next) × M x
+Comes stops r M = r ≡ step.Stopped
+Comes (refuses why) r M = r ≡ step.Refused why
+
+-- the code's answer to a block, and what memory must be with its lines read
+abbrev pub Reads : {A : Type 0} → Lines A → Block → (List A → Type 0) → Type 0
+Reads (read l next) r M = (r ≡ block.Read (length l) next) × M l
+Reads (refused why) r M = r ≡ block.Refused why

@@ -81,6 +81,16 @@ fn add_number(p: Tally, v: usize) -> Tally
     }
 }
 
+// Stores a figure in memory. Where there is no room, nothing is stored.
+pub fn put(m: &mut [u8], i: usize, v: usize)
+    requires { ⌜ v < 256 ⌝ }
+    ensures { λ r. ⌜ now (m .exit) ≡ set (now (m .entry)) i v ⌝ }
+{
+    if i < m.len() {
+        m[i] = v as u8;
+    }
+}
+
 // Where there is no room, nothing is stored.
 fn store_number(numbers: &mut [usize], k: usize, v: usize)
     ensures { λ r. ⌜ now (numbers .exit) ≡ set (now (numbers .entry)) k v ⌝ }

@@ -1,0 +1,3 @@
+pub mod StringLaws
+pub mod RowLaws
+pub mod JudgeLaws
