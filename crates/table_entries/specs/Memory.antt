@@ -34,7 +34,13 @@ withEntries m rules l = sets m (suc rules * 64) (concat (entryRows (stringsOf l)
 pub record Rows (m : List ℕ) (rules : ℕ) (l : List EntryLine) : Type 0 where
   pub row-in : (k : ℕ) {s : ℕ} {γ : List ℕ} → at l k ≡ some (E s γ) → EntryIn m (suc (rules + k)) γ
 
--- behind that row nothing is stored
+-- m holds so many entries behind the rules
+pub record HoldsEntries (m : List ℕ) (rules entries : ℕ) : Type 0 where
+  pub lines : List EntryLine
+  pub count-is : length lines ≡ entries
+  pub rows : Rows m rules lines
+
+-- from row i on nothing is stored
 abbrev pub Empty : List ℕ → ℕ → Type 0
 Empty m i = (j : ℕ) → i * 64 ≤ j → getD m j 0 ≡ 0
 

@@ -18,7 +18,7 @@ ghost use Rattle.items.specs.Layout.{entryRow, EntryIn, Shaped};
 ghost use Rattle.leftcorner.specs.Table.{EntryLine, sameString, entryFrom};
 ghost use Rattle.table_lines.specs.Block.{Numbers, Held, Comes, Reads};
 ghost use Rattle.table_entries.specs.Entries.{allDeclared, judgeEntry, entryNext, entriesFrom};
-ghost use Rattle.table_entries.specs.Memory.{Rows, Empty, EntryMemory};
+ghost use Rattle.table_entries.specs.Memory.{Rows, HoldsEntries, Empty, EntryMemory};
 
 // Whether item i's string is that of the numbers from the second on.
 fn same_string(m: &[u8], items: usize, i: usize, numbers: &[usize], count: usize) -> bool
@@ -127,6 +127,7 @@ fn read_entry(s: &[u8], at: usize, t: usize, n: usize, states: usize, rules: usi
     requires { ⌜ (rules + entries) * 64 + 128 ≤ length (now items) ⌝ }
     requires { ⌜ Shaped (now items) (rules + entries) ⌝ }
     requires { ⌜ Empty (now items) (rules + entries + 1) ⌝ }
+    requires { ⌜ HoldsEntries (now items) rules entries ⌝ }
     ensures { λ r. ⌜ ((m : List ℕ) (a b : ℕ) (l : List EntryLine) → length l ≡ entries → EntryMemory m rules a b l (now (items .entry)) (now («entry_states» .entry)) (now (named .entry))
         → Comes (entryNext (now (s .entry)) t n states at l) r (λ x. EntryMemory m rules a b (l ++ x ∷ []) (now (items .exit)) (now («entry_states» .exit)) (now (named .exit)))) ⌝ }
 {

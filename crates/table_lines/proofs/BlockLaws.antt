@@ -1,10 +1,15 @@
 -- How a block goes on, and what holds of the lines of a block that was read.
 use Prim.Native.Nat.{ℕ, zero, suc, _-_, _≤_, _<_}
-use mathlib.Core.Path.{_≡_, refl, sym, ap, _∙_}
+use mathlib.Core.Path.{_≡_, refl, sym, ap, subst, _∙_}
+use mathlib.Core.Bool.{Bool, true, false}
 use mathlib.Core.List.{List, [], _∷_, _++_}
 use native.Mathlib.Omega.{arith}
 use Rattle.reply.specs.declared.Refusal.{Refusal}
-use Rattle.table_lines.specs.Block.{Outcome, takes, stops, refuses, Lines, read, refused, onOutcome, linesFrom}
+use Rattle.table_lines.specs.declared.Judgement.{Judgement}
+use Rattle.table_lines.specs.declared.Judgement.the-variants.{Fine, Faulty}
+use Rattle.table_lines.specs.declared.Step.{Step}
+use Rattle.table_lines.specs.declared.Block.{Block}
+use Rattle.table_lines.specs.Block.{judge, Outcome, takes, stops, refuses, Lines, read, refused, onOutcome, linesFrom, Comes, Reads}
 
 -- of `all` there is left what comes of at most k lines at `at` after l
 pub record Reading {A : Type 0} (all : Lines A) (next : ℕ → List A → Outcome A) (k at : ℕ) (l : List A) : Type 0 where
@@ -62,3 +67,20 @@ module _ {A : Type 0} (P : List A → Type 0) (next : ℕ → List A → Outcome
       go (takes x past) q e f = f x past (kept at l x past p q) e
       go stops q e f = let q : l ≡ m = cc in rw (← q) p
       go (refuses why) q e f = let z : _≡_ {A = ℕ} 0 1 = cc in absurd (omega arith)
+
+-- a line that is fine is so in each part
+pub judge-fine : (f w d : Bool) → judge f w d ≡ Fine → (f ≡ true) × (w ≡ true) × (d ≡ true)
+judge-fine true true true e = (refl, refl, refl)
+judge-fine true true false e = let z : _≡_ {A = ℕ} 0 1 = cc in absurd (omega arith)
+judge-fine true false d e = let z : _≡_ {A = ℕ} 0 1 = cc in absurd (omega arith)
+judge-fine false w d e = let z : _≡_ {A = ℕ} 0 1 = cc in absurd (omega arith)
+
+-- ---- the code's answers
+module _ {A : Type 0} (r : Step) (M : A → Type 0) where
+  -- what should come of a place, told by another expression
+  pub comes : {o : Outcome A} (x : Outcome A) → o ≡ x → Comes x r M → Comes o r M
+  comes x e h = subst (λ (o : Outcome A). Comes o r M) (sym e) h
+
+module _ {A : Type 0} (r : Block) (M : List A → Type 0) where
+  pub block-reads : {all : Lines A} (x : Lines A) → all ≡ x → Reads x r M → Reads all r M
+  block-reads x e h = subst (λ (o : Lines A). Reads o r M) (sym e) h

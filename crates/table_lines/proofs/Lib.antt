@@ -3,3 +3,4 @@ pub mod LineLaws
 pub mod ImageLaws
 pub mod BlockLaws
 pub mod HeldLaws
+pub mod ListLaws
