@@ -10,7 +10,7 @@ use table_lines::Step;
 use table_lines::Tally;
 
 ghost use mathlib.Core.Path.{_≡_};
-ghost use mathlib.Core.List.{List, [], _∷_, _++_};
+ghost use mathlib.Core.List.{List, []};
 ghost use Prim.Native.Nat.{ℕ, _+_, _*_, _≤_, _<_};
 ghost use lib.ListN.{length, getD, take, drop, set};
 ghost use lib.Seq.{sets};
@@ -129,7 +129,7 @@ fn read_entry(s: &[u8], at: usize, t: usize, n: usize, states: usize, rules: usi
     requires { ⌜ Empty (now items) (rules + entries + 1) ⌝ }
     requires { ⌜ HoldsEntries (now items) rules entries ⌝ }
     ensures { λ r. ⌜ ((m : List ℕ) (a b : ℕ) (l : List EntryLine) → length l ≡ entries → EntryMemory m rules a b l (now (items .entry)) (now («entry_states» .entry)) (now (named .entry))
-        → Comes (entryNext (now (s .entry)) t n states at l) r (λ x. EntryMemory m rules a b (l ++ x ∷ []) (now (items .exit)) (now («entry_states» .exit)) (now (named .exit)))) ⌝ }
+        → Comes l (λ k. EntryMemory m rules a b k (now (items .exit)) (now («entry_states» .exit)) (now (named .exit))) (entryNext (now (s .entry)) t n states at l) r) ⌝ }
 {
     let mut numbers = [0usize; 67];
     let Line::Whole(letter, p, next) = table_lines::read_line(s, at, &mut numbers) else {
@@ -154,7 +154,7 @@ pub fn read_entries(s: &[u8], first: usize, t: usize, n: usize, states: usize, r
     requires { ⌜ (length (now s) < 65537) × (t ≤ 63) × (n ≤ 64) × (states ≤ 255) × (rules + count < 255) ⌝ }
     requires { ⌜ (rules + count) * 64 + 64 ≤ length (now items) ⌝ }
     requires { ⌜ EntryMemory (now items) rules (length (now «entry_states»)) (length (now named)) [] (now items) (now «entry_states») (now named) ⌝ }
-    ensures { λ r. ⌜ Reads (entriesFrom count (now (s .entry)) t n states first) r (λ l. EntryMemory (now (items .entry)) rules (length (now («entry_states» .entry))) (length (now (named .entry))) l (now (items .exit)) (now («entry_states» .exit)) (now (named .exit))) ⌝ }
+    ensures { λ r. ⌜ Reads (λ l. EntryMemory (now (items .entry)) rules (length (now («entry_states» .entry))) (length (now (named .entry))) l (now (items .exit)) (now («entry_states» .exit)) (now (named .exit))) (entriesFrom count (now (s .entry)) t n states first) r ⌝ }
 {
     let mut at = first;
     let mut k = 0;

@@ -34,6 +34,11 @@ abbrev pub judged : {A : Type 0} → Judgement → ℕ → A → ℕ → Outcome
 judged Fine at x next = takes x next
 judged (Faulty kind) at x next = fault kind at
 
+abbrev pub stepOf : {A : Type 0} → Outcome A → Step
+stepOf (takes x next) = step.Taken next
+stepOf stops = step.Stopped
+stepOf (refuses why) = step.Refused why
+
 -- a block: its lines and the position past them, or a refusal
 pub data Lines (A : Type 0) : Type 0 where
   read : List A → ℕ → Lines A
@@ -58,13 +63,13 @@ pub record Held (ns : List ℕ) (p : Tally) (m : List ℕ) : Type 0 where
   pub tally-is : p ≡ tally ns
   pub numbers : Numbers ns (p .count) m
 
--- what the code's step is, where o should come of the place; M x is what memory must then be with the line x taken
-abbrev pub Comes : {A : Type 0} → Outcome A → Step → (A → Type 0) → Type 0
-Comes (takes x next) r M = (r ≡ step.Taken next) × M x
-Comes stops r M = r ≡ step.Stopped
-Comes (refuses why) r M = r ≡ step.Refused why
+-- what the code's step is, by what should come of the place after the lines l; M is what memory then is, by the lines taken
+pub data Comes {A : Type 0} (l : List A) (M : List A → Type 0) : Outcome A → Step → Type 0 where
+  taken : {x : A} {next : ℕ} → M (l ++ x ∷ []) → Comes l M (takes x next) (step.Taken next)
+  stopped : M l → Comes l M stops step.Stopped
+  turned : {why : Refusal} → Comes l M (refuses why) (step.Refused why)
 
--- the code's answer to a block, and what memory must be with its lines read
-abbrev pub Reads : {A : Type 0} → Lines A → Block → (List A → Type 0) → Type 0
-Reads (read l next) r M = (r ≡ block.Read (length l) next) × M l
-Reads (refused why) r M = r ≡ block.Refused why
+-- what the code's answer to a block is, by what should come of it; M is what memory then is, by the block's lines
+pub data Reads {A : Type 0} (M : List A → Type 0) : Lines A → Block → Type 0 where
+  all-read : {l : List A} {next : ℕ} → M l → Reads M (read l next) (block.Read (length l) next)
+  turned-away : {why : Refusal} → Reads M (refused why) (block.Refused why)

@@ -1,19 +1,13 @@
+-- `table_entries::all_declared` meets its contract. Assumes nothing.
 use borrow.Author.Tests.{not-true, not-false}
 use Rattle.table_entries.proofs.RowLaws.{declared-more, declared-not, declared-end}
 use Rattle.table_entries.specs.Entries.{allDeclared}
 use lib.ListN.{take, drop}
-use mathlib.Core.Path.{_≡_, refl, sym, ap, subst, _∙_}
-use mathlib.Core.Logic.{⊎-elim}
-use Prim.Native.Nat.{ℕ, zero, suc, _+_, _*_, _≤_, _<_, _-_}
-use native.Mathlib.Omega.{arith}
-use borrow.Author.Count.{below-more, below-none}
-use lib.ListN.{length, getD, set, length-set, replicate}
+use mathlib.Core.Path.{_≡_, sym, _∙_}
+use Prim.Native.Nat.{_≤_, _-_}
 use borrow.Author.Needs.{needs}
 use Rattle.table_entries.proofs.all_declared.Statement.{statement}
 use Rattle.table_entries.proofs.all_declared.Tie as tie
-use Rattle.table_entries.proofs.all_declared.Reads as reads
-use Rattle.table_entries.proofs.all_declared.Lts as lts
-use Rattle.symbol.proofs.Symbol.is_declared.Reads as is-declared-reads
 
 abbrev Inv-loop : tie.InvT-loop
 Inv-loop t n numbers count k₀ k = (1 ≤ k) × (k ≤ count) × (allDeclared t n (drop 1 (take count numbers)) ≡ allDeclared t n (drop k (take count numbers)))

@@ -1,21 +1,16 @@
+-- `table_entries::find_entry` meets its contract. Assumes nothing.
 use Rattle.table_entries.proofs.StringLaws.{entry-found, entry-passed, found-none}
 use Rattle.table_entries.specs.Memory.{Rows}
 use Rattle.table_lines.specs.Block.{Numbers}
 use Rattle.leftcorner.specs.Table.{EntryLine, entryFrom}
-use lib.ListN.{drop}
+use lib.ListN.{drop, length}
 use mathlib.Core.List.{List}
-use mathlib.Core.Path.{_≡_, refl, sym, ap, subst, _∙_}
-use mathlib.Core.Logic.{⊎-elim}
-use Prim.Native.Nat.{ℕ, zero, suc, _+_, _*_, _≤_, _<_, _-_}
+use mathlib.Core.Path.{_≡_, refl, sym, _∙_}
+use Prim.Native.Nat.{ℕ, suc, _≤_, _-_}
 use native.Mathlib.Omega.{arith}
-use borrow.Author.Count.{below-more, below-none}
-use lib.ListN.{length, getD, set, length-set, replicate}
 use borrow.Author.Needs.{needs}
 use Rattle.table_entries.proofs.find_entry.Statement.{statement}
 use Rattle.table_entries.proofs.find_entry.Tie as tie
-use Rattle.table_entries.proofs.find_entry.Reads as reads
-use Rattle.table_entries.proofs.find_entry.Lts as lts
-use Rattle.table_entries.proofs.same_string.Reads as same-string-reads
 
 abbrev Inv-loop : tie.InvT-loop
 Inv-loop m rules entries numbers count k₀ k = 

@@ -1,3 +1,4 @@
+-- `table_entries::judge_entry` meets its contract. Assumes nothing.
 use Rattle.table_entries.proofs.JudgeLaws.{other-letter, too-few, second, too-large, too-many, no-state, no-symbol, fine}
 use Rattle.table_lines.proofs.HeldLaws.{held-count, held-largest, held-at, numbers-take}
 use Rattle.table_entries.specs.Entries.{allDeclared}
@@ -5,20 +6,12 @@ use Rattle.range.specs.Range.{within}
 use borrow.Author.Tests.{le-leb, lt-leb, not-true, not-false}
 use lib.ListN.{drop}
 use mathlib.Core.List.{List}
-use mathlib.Core.Path.{_≡_, refl, sym, ap, subst, _∙_}
-use mathlib.Core.Logic.{⊎-elim}
-use Prim.Native.Nat.{ℕ, zero, suc, _+_, _*_, _≤_, _<_, _-_}
+use mathlib.Core.Path.{sym, ap, _∙_}
+use Prim.Native.Nat.{ℕ, _-_}
 use native.Mathlib.Omega.{arith}
-use borrow.Author.Count.{below-more, below-none}
-use lib.ListN.{length, getD, set, length-set, replicate}
 use borrow.Author.Needs.{needs}
 use Rattle.table_entries.proofs.judge_entry.Statement.{statement}
 use Rattle.table_entries.proofs.judge_entry.Tie as tie
-use Rattle.table_entries.proofs.judge_entry.Reads as reads
-use Rattle.table_entries.proofs.judge_entry.Lts as lts
-use Rattle.range.proofs.in_range.Reads as in-range-reads
-use Rattle.table_entries.proofs.all_declared.Reads as all-declared-reads
-use Rattle.table_entries.proofs.find_entry.Reads as find-entry-reads
 
 returns : tie.Need-returns
 returns c = λ l ns q rows h. other-letter _ _ _ l _ ns (c .if1 .taken)

@@ -1,27 +1,20 @@
+-- `table_entries::read_entry` meets its contract. Assumes nothing.
+use Rattle.table_lines.specs.Block.{taken, turned}
 use Rattle.table_entries.proofs.MemoryLaws.{memory-more}
 use Rattle.table_entries.proofs.NextLaws.{entry-broken, entry-faulty, entry-taken, EntryFine, entry-fine, fine-fits, fine-low}
 use Rattle.table_lines.proofs.HeldLaws.{Whole, whole-read, broken-read, held-count, held-at, numbers-take}
 use Rattle.table_lines.specs.Line.{lineAt}
 use lib.Seq.{sets}
 use Rattle.items.specs.Layout.{entryRow}
-use lib.ListN.{drop}
+use lib.ListN.{drop, length, getD, set, replicate}
 use mathlib.Core.List.{List}
 use denote.Ref.{now}
-use mathlib.Core.Path.{_≡_, refl, sym, ap, subst, _∙_}
-use mathlib.Core.Logic.{⊎-elim}
-use Prim.Native.Nat.{ℕ, zero, suc, _+_, _*_, _≤_, _<_, _-_}
+use mathlib.Core.Path.{sym, ap, _∙_}
+use Prim.Native.Nat.{ℕ, _+_, _*_, _-_}
 use native.Mathlib.Omega.{arith}
-use borrow.Author.Count.{below-more, below-none}
-use lib.ListN.{length, getD, set, length-set, replicate}
 use borrow.Author.Needs.{needs}
 use Rattle.table_entries.proofs.read_entry.Statement.{statement}
 use Rattle.table_entries.proofs.read_entry.Tie as tie
-use Rattle.table_entries.proofs.read_entry.Reads as reads
-use Rattle.table_entries.proofs.read_entry.Lts as lts
-use Rattle.table_entries.proofs.judge_entry.Reads as judge-entry-reads
-use Rattle.table_entries.proofs.store_row.Reads as store-row-reads
-use Rattle.table_lines.proofs.put.Reads as put-reads
-use Rattle.table_lines.proofs.read_line.Reads as read-line-reads
 
 -- the line that was read
 line-read : (c : tie.After-known-told) → let a = c .before .before .before .before .before .before .before .before .before .before .args in let g = c .before .letter .given .0 in
@@ -48,7 +41,7 @@ enum-told : tie.Need-enum-told
 enum-told c = search needs
 
 returns : tie.Need-returns
-returns c = λ m a b l q h. rw (entry-broken _ _ _ _ _ l (broken-read _ (sym (c .enum-told .given .1) ∙ c .before .before .before .read-line .ensures .0))) refl
+returns c = λ m a b l q h. rw (entry-broken _ _ _ _ _ l (broken-read _ (sym (c .enum-told .given .1) ∙ c .before .before .before .read-line .ensures .0))) turned
 
 slice-aggregate-judge-entry : tie.Need-slice-aggregate-judge-entry
 slice-aggregate-judge-entry c = search needs
@@ -65,7 +58,7 @@ same-length c = search needs
 returns-2 : tie.Need-returns-2
 returns-2 c = λ m a b l q h.
     let w = line-read (c .before .before .before .before .before .before) in
-    rw (entry-faulty _ _ _ _ _ l (w .line-is) (sym (c .before .before .before .judge-entry .ensures l (w .numbers) q (h .rows) (w .held)) ∙ c .before .judgement .given .1)) refl
+    rw (entry-faulty _ _ _ _ _ l (w .line-is) (sym (c .before .before .before .judge-entry .ensures l (w .numbers) q (h .rows) (w .held)) ∙ c .before .judgement .given .1)) turned
 
 enum-told-2 : tie.Need-enum-told-2
 enum-told-2 c = search needs
@@ -123,15 +116,14 @@ returns-3 c = λ m a b l q h.
     let f = entry-fine _ _ _ l _ (w .numbers) fine in
     let first = sym (held-at (w .held) 0 (omega (arith, f .long)) (search needs)) in
     rw (entry-taken _ _ _ _ _ l (w .line-is) fine)
-    ( refl
-    , memory-more h _ _ (fine-fits _ _ (p .0 .1) (p .0 .2) f) (omega (arith, p .1 .0, q))
+    (taken (memory-more h _ _ (fine-fits _ _ (p .0 .1) (p .0 .2) f) (omega (arith, p .1 .0, q))
       (c .before .before .before .before .before .before .before .before .before .before .store-row .ensures
         ∙ (ap (λ (z : List ℕ). sets (now (g .items)) ((g .rules + g .entries + 1) * 64) (entryRow (drop 1 z))) (numbers-take (w .held .numbers) (omega (arith, held-count (w .held), f .short)))
         ∙ ap (λ (k : ℕ). sets (now (g .items)) ((g .rules + k + 1) * 64) (entryRow (drop 1 (w .numbers)))) (sym q)))
       (c .before .before .before .before .before .before .put .ensures
         ∙ (ap (λ (k : ℕ). set (now (g .entry-states)) (k + 1) (getD (c .before .before .before .before .before .before .before .before .before .before .before .before .before .before .before .before .before .before .before .before .before .before .read-line .last .1 .1 .0) 0 0)) (sym q)
         ∙ ap (λ (x : ℕ). set (now (g .entry-states)) (length l + 1) x) first))
-      (c .before .before .put2 .ensures ∙ ap (λ (x : ℕ). set (now (g .named)) x 1) first) )
+      (c .before .before .put2 .ensures ∙ ap (λ (x : ℕ). set (now (g .named)) x 1) first)))
 
 pub read-entry-spec : {M : Type 1} → statement M
 read-entry-spec =

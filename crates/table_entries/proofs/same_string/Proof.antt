@@ -1,18 +1,14 @@
+-- `table_entries::same_string` meets its contract. Assumes nothing.
 use Rattle.table_entries.proofs.StringLaws.{row-long, row-other, row-same}
-use Rattle.items.specs.Layout.{symbolAt, lengthAt}
-use mathlib.Core.Path.{_≡_, refl, sym, ap, subst, _∙_}
-use mathlib.Core.Logic.{⊎-elim}
-use Prim.Native.Nat.{ℕ, zero, suc, _+_, _*_, _≤_, _<_, _-_}
+use Rattle.items.specs.Layout.{symbolAt}
+use mathlib.Core.Path.{_≡_, sym, ap, _∙_}
+use Prim.Native.Nat.{ℕ, _+_, _≤_, _<_, _-_}
 use native.Mathlib.Omega.{arith}
 use borrow.Author.Count.{below-more, below-none}
-use lib.ListN.{length, getD, set, length-set, replicate}
+use lib.ListN.{getD}
 use borrow.Author.Needs.{needs}
 use Rattle.table_entries.proofs.same_string.Statement.{statement}
 use Rattle.table_entries.proofs.same_string.Tie as tie
-use Rattle.table_entries.proofs.same_string.Reads as reads
-use Rattle.table_entries.proofs.same_string.Lts as lts
-use Rattle.items.proofs.length_of.Reads as length-of-reads
-use Rattle.items.proofs.symbol_of.Reads as symbol-of-reads
 
 abbrev Inv-loop : tie.InvT-loop
 Inv-loop m items i numbers count len k₀ k = (k ≤ len) × ((j : ℕ) → j < k → symbolAt m i j ≡ getD numbers (j + 1) 0)

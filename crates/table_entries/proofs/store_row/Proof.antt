@@ -1,18 +1,14 @@
+-- `table_entries::store_row` meets its contract. Assumes nothing.
 use Rattle.table_entries.proofs.RowLaws.{Stored, stored-more, stored-end}
 use Rattle.items.proofs.BuildLaws.{build-start}
 use mathlib.Core.List.{List}
-use mathlib.Core.Path.{_≡_, refl, sym, ap, subst, _∙_}
-use mathlib.Core.Logic.{⊎-elim}
-use Prim.Native.Nat.{ℕ, zero, suc, _+_, _*_, _≤_, _<_, _-_}
+use mathlib.Core.Path.{_≡_, sym, ap, _∙_}
+use Prim.Native.Nat.{ℕ, _+_, _≤_, _-_}
 use native.Mathlib.Omega.{arith}
-use borrow.Author.Count.{below-more, below-none}
-use lib.ListN.{length, getD, set, length-set, replicate}
+use lib.ListN.{length, set}
 use borrow.Author.Needs.{needs}
 use Rattle.table_entries.proofs.store_row.Statement.{statement}
 use Rattle.table_entries.proofs.store_row.Tie as tie
-use Rattle.table_entries.proofs.store_row.Reads as reads
-use Rattle.table_entries.proofs.store_row.Lts as lts
-use Rattle.table_lines.proofs.put.Reads as put-reads
 
 abbrev Inv-loop : tie.InvT-loop
 Inv-loop items₀ base numbers count k₀ items k = (k + 1 ≤ count) × (length items ≡ length items₀) × Stored items₀ base numbers k items

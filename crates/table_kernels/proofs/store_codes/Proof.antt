@@ -1,0 +1,65 @@
+use mathlib.Core.Path.{_≡_, refl, sym, ap, subst, _∙_}
+use mathlib.Core.Logic.{⊎-elim}
+use Prim.Native.Nat.{ℕ, zero, suc, _+_, _*_, _≤_, _<_, _-_}
+use native.Mathlib.Omega.{arith}
+use borrow.Author.Count.{below-more, below-none}
+use lib.ListN.{length, getD, set, length-set, replicate}
+use borrow.Author.Needs.{needs}
+use Rattle.table_kernels.proofs.store_codes.Statement.{statement}
+use Rattle.table_kernels.proofs.store_codes.Tie as tie
+use Rattle.table_kernels.proofs.store_codes.Reads as reads
+use Rattle.table_kernels.proofs.store_codes.Lts as lts
+use Rattle.table_lines.proofs.put.Reads as put-reads
+
+abbrev Inv-loop : tie.InvT-loop
+Inv-loop lookaheads₀ base numbers count k₀ lookaheads k = ?
+
+abbrev μ-loop : tie.MeasureT-loop
+μ-loop lookaheads₀ base numbers count k₀ lookaheads k = ?
+
+loop-holds : tie.Need-loop-holds Inv-loop μ-loop
+loop-holds c = search needs
+
+mul-put : tie.Need-mul-put Inv-loop μ-loop
+mul-put c = search needs
+
+shared-slice-read-put : tie.Need-shared-slice-read-put Inv-loop μ-loop
+shared-slice-read-put c = search needs
+
+add-put : tie.Need-add-put Inv-loop μ-loop
+add-put c = search needs
+
+put-requires : tie.Need-put-requires Inv-loop μ-loop
+put-requires c κs = search needs
+
+add-k : tie.Need-add-k Inv-loop μ-loop
+add-k c = search needs
+
+loop-less : tie.Need-loop-less Inv-loop μ-loop
+loop-less c = search needs
+
+loop-again : tie.Need-loop-again Inv-loop μ-loop
+loop-again c = search needs
+
+same-length : tie.Need-same-length Inv-loop μ-loop
+same-length c = search needs
+
+returns : tie.Need-returns Inv-loop μ-loop
+returns c = search needs
+
+pub store-codes-spec : {M : Type 1} → statement M
+store-codes-spec =
+    tie.close
+    (tie.spec
+    Inv-loop
+    μ-loop
+    loop-holds
+    mul-put
+    shared-slice-read-put
+    add-put
+    put-requires
+    add-k
+    loop-less
+    loop-again
+    same-length
+    returns)

@@ -1,0 +1,57 @@
+use mathlib.Core.Path.{_≡_, refl, sym, ap, subst, _∙_}
+use mathlib.Core.Logic.{⊎-elim}
+use Prim.Native.Nat.{ℕ, zero, suc, _+_, _*_, _≤_, _<_, _-_}
+use native.Mathlib.Omega.{arith}
+use borrow.Author.Count.{below-more, below-none}
+use lib.ListN.{length, getD, set, length-set, replicate}
+use borrow.Author.Needs.{needs}
+use Rattle.table_kernels.proofs.store_figures.Statement.{statement}
+use Rattle.table_kernels.proofs.store_figures.Tie as tie
+use Rattle.table_kernels.proofs.store_figures.Reads as reads
+use Rattle.table_kernels.proofs.store_figures.Lts as lts
+use Rattle.table_lines.proofs.put.Reads as put-reads
+
+mul-put : tie.Need-mul-put
+mul-put c = search needs
+
+put-requires : tie.Need-put-requires
+put-requires c κs = search needs
+
+mul-put-2 : tie.Need-mul-put-2
+mul-put-2 c = search needs
+
+add-put : tie.Need-add-put
+add-put c = search needs
+
+put-requires-2 : tie.Need-put-requires-2
+put-requires-2 c κs = search needs
+
+mul-put-3 : tie.Need-mul-put-3
+mul-put-3 c = search needs
+
+add-put-2 : tie.Need-add-put-2
+add-put-2 c = search needs
+
+put-requires-3 : tie.Need-put-requires-3
+put-requires-3 c κs = search needs
+
+same-length : tie.Need-same-length
+same-length c = search needs
+
+returns : tie.Need-returns
+returns c = search needs
+
+pub store-figures-spec : {M : Type 1} → statement M
+store-figures-spec =
+    tie.close
+    (tie.spec
+    mul-put
+    put-requires
+    mul-put-2
+    add-put
+    put-requires-2
+    mul-put-3
+    add-put-2
+    put-requires-3
+    same-length
+    returns)
