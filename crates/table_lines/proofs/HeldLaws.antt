@@ -2,7 +2,7 @@
 use Prim.Native.Nat.{ℕ, zero, suc, _+_, _≤_, _<_}
 use mathlib.Core.Path.{_≡_, refl, sym, ap, _∙_}
 use mathlib.Core.List.{List, [], _∷_}
-use mathlib.Core.Bool.{Bool}
+use mathlib.Core.Bool.{Bool, true}
 use native.Mathlib.Omega.{arith}
 use lib.Dec.{leb}
 use lib.ListN.{length, getD, drop, take, length-take}
@@ -13,7 +13,7 @@ use Rattle.table_lines.specs.declared.Line.the-variants as line
 use Rattle.table_lines.specs.Line.{TextLine, whole, broken, Stores, allAtMost, rising}
 use Rattle.table_lines.specs.Tally.{tally, lineOf}
 use Rattle.table_lines.specs.Block.{Numbers, Held}
-use Rattle.table_lines.proofs.TallyLaws.{count-is, largest-is, rising-is}
+use Rattle.table_lines.proofs.TallyLaws.{count-is, largest-is, rising-is, last-is}
 
 pub record Whole (x : TextLine) (letter : ℕ) (p : Tally) (next : ℕ) (m : List ℕ) : Type 0 where
   pub numbers : List ℕ
@@ -61,6 +61,9 @@ module _ {ns : List ℕ} {p : Tally} {m : List ℕ} (h : Held ns p m) where
 
   pub held-rising : p .rising ≡ rising (drop 3 ns)
   held-rising = ap (λ (t : Tally). t .rising) (h .tally-is) ∙ rising-is ns
+
+  pub held-last : 4 ≤ length ns → rising (drop 3 ns) ≡ true → allAtMost 65535 ns ≡ true → (n : ℕ) → leb (p .last) n ≡ allAtMost n (drop 3 ns)
+  held-last l e s n = ap (λ (t : Tally). leb (t .last) n) (h .tally-is) ∙ last-is ns l e s n
 
 -- where there is room for all the numbers, memory begins with them
 pub numbers-take : {ns : List ℕ} {count : ℕ} {m : List ℕ} → Numbers ns count m → count ≤ length m → take count m ≡ ns

@@ -20,6 +20,10 @@ module _ {A : Type 0} where
   at-front (y ∷ l) x zero f = refl
   at-front (y ∷ l) x (suc k) f = at-front l x k (λ e. f (ap suc e))
 
+  pub at-end : (l : List A) → at l (length l) ≡ none
+  at-end [] = refl
+  at-end (y ∷ l) = at-end l
+
   pub at-behind : (l : List A) (k : ℕ) → length l < k → at l k ≡ none
   at-behind [] k h = refl
   at-behind (y ∷ l) zero h = absurd (omega arith)

@@ -1,3 +1,4 @@
+use Rattle.table_kernels.proofs.TripleLaws.{triple-high, mark-off, mark-on}
 use mathlib.Core.Path.{_≡_, refl, sym, ap, subst, _∙_}
 use mathlib.Core.Logic.{⊎-elim}
 use Prim.Native.Nat.{ℕ, zero, suc, _+_, _*_, _≤_, _<_, _-_}
@@ -11,13 +12,13 @@ use Rattle.table_kernels.proofs.is_second.Reads as reads
 use Rattle.table_kernels.proofs.is_second.Lts as lts
 
 returns : tie.Need-returns
-returns c = search needs
+returns c = λ l h. sym (triple-high l (h .low) _ _ _ (λ e. omega (arith, e .0, c .if1 .taken)))
 
 returns-2 : tie.Need-returns-2
-returns-2 c = search needs
+returns-2 c = λ l h. sym (triple-high l (h .low) _ _ _ (λ e. omega (arith, e .1, c .if2 .taken)))
 
 returns-3 : tie.Need-returns-3
-returns-3 c = search needs
+returns-3 c = λ l h. sym (triple-high l (h .low) _ _ _ (λ e. omega (arith, e .2, c .if3 .taken)))
 
 mul-if4 : tie.Need-mul-if4
 mul-if4 c = search needs
@@ -35,10 +36,10 @@ shared-slice-read-if4 : tie.Need-shared-slice-read-if4
 shared-slice-read-if4 c = search needs
 
 returns-4 : tie.Need-returns-4
-returns-4 c = search needs
+returns-4 c = λ l h. mark-off _ _ _ (search needs) (search needs) (search needs) h (c .if4 .taken)
 
 returns-5 : tie.Need-returns-5
-returns-5 c = search needs
+returns-5 c = λ l h. mark-on _ _ _ (search needs) (search needs) (search needs) h (c .if4 .left)
 
 pub is-second-spec : {M : Type 1} → statement M
 is-second-spec =

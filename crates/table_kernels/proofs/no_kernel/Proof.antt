@@ -1,3 +1,4 @@
+use Rattle.table_kernels.proofs.NextLaws.{none-first, none-later}
 use mathlib.Core.Path.{_≡_, refl, sym, ap, subst, _∙_}
 use mathlib.Core.Logic.{⊎-elim}
 use Prim.Native.Nat.{ℕ, zero, suc, _+_, _*_, _≤_, _<_, _-_}
@@ -11,10 +12,10 @@ use Rattle.table_kernels.proofs.no_kernel.Reads as reads
 use Rattle.table_kernels.proofs.no_kernel.Lts as lts
 
 returns : tie.Need-returns
-returns c = search needs
+returns c = λ l e. none-first _ l (e ∙ c .if1 .taken)
 
 returns-2 : tie.Need-returns-2
-returns-2 c = search needs
+returns-2 c = λ l e. none-later _ l (λ z. c .if1 .left (sym e ∙ z))
 
 pub no-kernel-spec : {M : Type 1} → statement M
 no-kernel-spec = tie.close (tie.spec returns returns-2)

@@ -1,3 +1,7 @@
+use Rattle.table_kernels.proofs.MemoryLaws.{flags-more, flags-end}
+use Rattle.table_kernels.specs.Memory.{flagged}
+use mathlib.Core.List.{List}
+use lib.ListN.{take, drop}
 use mathlib.Core.Path.{_≡_, refl, sym, ap, subst, _∙_}
 use mathlib.Core.Logic.{⊎-elim}
 use Prim.Native.Nat.{ℕ, zero, suc, _+_, _*_, _≤_, _<_, _-_}
@@ -12,10 +16,12 @@ use Rattle.table_kernels.proofs.store_codes.Lts as lts
 use Rattle.table_lines.proofs.put.Reads as put-reads
 
 abbrev Inv-loop : tie.InvT-loop
-Inv-loop lookaheads₀ base numbers count k₀ lookaheads k = ?
+Inv-loop lookaheads₀ base numbers count k₀ lookaheads k = 
+    (3 ≤ k) × (k ≤ count) × (length lookaheads ≡ length lookaheads₀)
+    × (flagged lookaheads₀ base (drop 3 (take count numbers)) ≡ flagged lookaheads base (drop k (take count numbers)))
 
 abbrev μ-loop : tie.MeasureT-loop
-μ-loop lookaheads₀ base numbers count k₀ lookaheads k = ?
+μ-loop lookaheads₀ base numbers count k₀ lookaheads k = count - k
 
 loop-holds : tie.Need-loop-holds Inv-loop μ-loop
 loop-holds c = search needs
@@ -27,7 +33,7 @@ shared-slice-read-put : tie.Need-shared-slice-read-put Inv-loop μ-loop
 shared-slice-read-put c = search needs
 
 add-put : tie.Need-add-put Inv-loop μ-loop
-add-put c = search needs
+add-put c = record { fits = omega (arith, c .before .before .before .before .before .before .pre .0, c .before .before .before .before .before .before .pre .1 _ (c .before .before .before .loop .inv .0) (c .before .before .loop-test .taken)) }
 
 put-requires : tie.Need-put-requires Inv-loop μ-loop
 put-requires c κs = search needs
@@ -39,13 +45,17 @@ loop-less : tie.Need-loop-less Inv-loop μ-loop
 loop-less c = search needs
 
 loop-again : tie.Need-loop-again Inv-loop μ-loop
-loop-again c = search needs
+loop-again c = let l = c .before .before .before .before .before .before .loop in
+    let a = c .before .before .before .before .before .before .before .before .before .args in
+    (search needs, search needs, search needs, l .inv .3 ∙ (flags-more _ (a .base) (a .numbers .now) (a .count) (search needs) (l .k) (c .before .before .before .before .before .loop-test .taken) ∙ ap (λ (m : List ℕ). flagged m (a .base) (drop (l .k + 1) (take (a .count) (a .numbers .now)))) (sym (c .before .before .put .ensures))))
 
 same-length : tie.Need-same-length Inv-loop μ-loop
 same-length c = search needs
 
 returns : tie.Need-returns Inv-loop μ-loop
-returns c = search needs
+returns c = let l = c .before .loop in
+    let a = c .before .before .before .before .args in
+    sym (l .inv .3 ∙ flags-end (l .lookaheads) (a .base) (a .numbers .now) (a .count) (search needs) (l .k) (c .loop-test .left))
 
 pub store-codes-spec : {M : Type 1} → statement M
 store-codes-spec =

@@ -1,3 +1,4 @@
+use mathlib.Core.List.{List}
 use mathlib.Core.Path.{_≡_, refl, sym, ap, subst, _∙_}
 use mathlib.Core.Logic.{⊎-elim}
 use Prim.Native.Nat.{ℕ, zero, suc, _+_, _*_, _≤_, _<_, _-_}
@@ -39,7 +40,13 @@ same-length : tie.Need-same-length
 same-length c = search needs
 
 returns : tie.Need-returns
-returns c = search needs
+returns c = let p3 = c .before .before in
+    let p2 = p3 .before .before .before .before in
+    let p1 = p2 .before .before .before .before in
+    let a = p1 .before .before .before .args in
+    p3 .put3 .ensures
+      ∙ (ap (λ (m : List ℕ). set m (a .line * 4 + 2) (a .dot)) (p2 .put2 .ensures)
+      ∙ ap (λ (m : List ℕ). set (set m (a .line * 4 + 1) (a .item)) (a .line * 4 + 2) (a .dot)) (p1 .put .ensures))
 
 pub store-figures-spec : {M : Type 1} → statement M
 store-figures-spec =
