@@ -158,8 +158,9 @@ pub kernel-more : {a b : ℕ} {l : List KernelLine} {kernels lookaheads marks : 
     → lookaheads′ ≡ flagged lookaheads (length l * 64) σ → marks′ ≡ set marks (q * 4096 + i * 16 + k) 1
     → KernelMemory a b (l ++ K q i k σ ∷ []) kernels′ lookaheads′ marks′
 kernel-more {a} {b} {l} h q i k σ x y z low ks ls ms = record
-    { kernels-are = ks ∙ (ap (λ (m : List ℕ). set (set (set m (length l * 4) q) (length l * 4 + 1) i) (length l * 4 + 2) k) (h .kernels-are) ∙ figures-more l a q i k σ)
-    ; lookaheads-are = ls ∙ (ap (λ (m : List ℕ). flagged m (length l * 64) σ) (h .lookaheads-are) ∙ codes-more l b q i k σ low)
+    { held = record
+        { kernels-are = ks ∙ (ap (λ (m : List ℕ). set (set (set m (length l * 4) q) (length l * 4 + 1) i) (length l * 4 + 2) k) (h .held .kernels-are) ∙ figures-more l a q i k σ)
+        ; lookaheads-are = ls ∙ (ap (λ (m : List ℕ). flagged m (length l * 64) σ) (h .held .lookaheads-are) ∙ codes-more l b q i k σ low) }
     ; marked = mark-more q i k x y z (h .marked) σ ms }
 
 -- ---- the codes stored one after the other

@@ -1,5 +1,5 @@
 -- What comes of a place where a kernel line may stand; and what a line that is taken tells.
-use Prim.Native.Nat.{ℕ, zero, suc, _+_, _≤_, _<_}
+use Prim.Native.Nat.{ℕ, zero, suc, _+_, _-_, _≤_, _<_}
 use mathlib.Core.Path.{_≡_, refl, sym, ap, _∙_}
 use mathlib.Core.List.{List, [], _∷_}
 use mathlib.Core.Bool.{Bool, true, false, not, cond, _&&_}
@@ -7,6 +7,7 @@ use native.Mathlib.Omega.{arith}
 use borrow.Author.Tests.{leb-true, ltb-true, eq-eqb, ne-eqb, not-true}
 use lib.Dec.{leb, ltb, eqb}
 use lib.ListN.{length, getD, drop, length-drop}
+use lib.Seq.{getD-drop}
 use Rattle.range.specs.Range.{within}
 use Rattle.range.proofs.RangeLaws.{within-true}
 use Rattle.reply.specs.declared.Kind.{Kind}
@@ -16,11 +17,13 @@ use Rattle.table_lines.specs.declared.Judgement.the-variants.{Fine, Faulty}
 use Rattle.table_lines.specs.declared.Step.{Step}
 use Rattle.table_lines.specs.declared.Step.the-variants as step
 use Rattle.table_lines.specs.Line.{TextLine, whole, broken, lineAt, allAtMost, rising}
-use Rattle.table_lines.specs.Block.{Outcome, takes, stops, refuses, fault, stepOf, Comes, stopped, turned}
+use Rattle.table_lines.specs.declared.Block.{Block}
+use Rattle.table_lines.specs.Block.{Outcome, takes, stops, refuses, fault, stepOf, Comes, stopped, turned, Lines, Reads, all-read, turned-away}
 use Rattle.table_lines.proofs.BlockLaws.{judge-fine}
 use Rattle.table_lines.proofs.ListLaws.{both-true}
 use Rattle.table_lines.proofs.TallyLaws.{rising-short}
 use Rattle.table_kernels.specs.Kernels.{hasTriple, judgeKernel, noKernel, kernelNext}
+use Rattle.table_kernels.specs.Memory.{KernelImage, KernelMemory}
 
 pub none-first : (at : ℕ) (l : List KernelLine) → length l ≡ 0 → step.Refused (record { kind = kind.Malformed; place = at }) ≡ stepOf (noKernel at l)
 none-first at [] e = refl
@@ -96,3 +99,14 @@ at-most m (v ∷ l) e (suc k) = at-most m l (both-true (leb v m) (allAtMost m l)
 -- its numbers are few, since its codes rise to t at most
 pub fine-short : {t states items : ℕ} {lens : ℕ → ℕ} {l : List KernelLine} {ns : List ℕ} → t ≤ 63 → KernelFine t states items lens l ns → length ns ≤ 67
 fine-short {t = t} {ns = ns} h f = omega (arith, rising-short (drop 3 ns) t (f .rises) (omega (arith, h)) (f .codes-in), length-drop 3 ns, h)
+
+-- and its codes are below 64
+pub code-low : {t states items : ℕ} {lens : ℕ → ℕ} {l : List KernelLine} {ns : List ℕ} → t ≤ 63 → KernelFine t states items lens l ns → (k : ℕ) → 3 ≤ k → getD ns k 0 < 64
+code-low {t = t} {ns = ns} h f k l =
+    omega (arith, at-most t (drop 3 ns) (f .codes-in) (k - 3), getD-drop 3 ns (k - 3) 0, ap (λ (n : ℕ). getD ns n 0) (let e : 3 + (k - 3) ≡ k = omega arith in e), h)
+
+-- without the marks
+pub image-reads : {a b : ℕ} {kernels lookaheads marks : List ℕ} {all : Lines KernelLine} {r : Block} → Reads (λ l. KernelMemory a b l kernels lookaheads marks) all r
+    → Reads (λ l. KernelImage a b l kernels lookaheads) all r
+image-reads (all-read h) = all-read (h .held)
+image-reads turned-away = turned-away

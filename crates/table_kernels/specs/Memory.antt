@@ -54,8 +54,12 @@ abbrev pub flagged : List ℕ → ℕ → List ℕ → List ℕ
 flagged m base [] = m
 flagged m base (d ∷ σ) = flagged (set m (base + d) 1) base σ
 
--- memory with these kernel lines read: figures, lookaheads and marks
-pub record KernelMemory (a b : ℕ) (l : List KernelLine) (kernels lookaheads marks : List ℕ) : Type 0 where
+-- memory with these kernel lines read: figures and lookaheads
+pub record KernelImage (a b : ℕ) (l : List KernelLine) (kernels lookaheads : List ℕ) : Type 0 where
   pub kernels-are : kernels ≡ image a (figureAt l)
   pub lookaheads-are : lookaheads ≡ image b (lookaheadAt l)
+
+-- and marks
+pub record KernelMemory (a b : ℕ) (l : List KernelLine) (kernels lookaheads marks : List ℕ) : Type 0 where
+  pub held : KernelImage a b l kernels lookaheads
   pub marked : Marked marks l

@@ -15,9 +15,8 @@ ghost use lib.ListN.{length, getD, take, drop, set};
 ghost use Rattle.items.specs.Layout.{Shaped, lengthAt};
 ghost use Rattle.leftcorner.specs.Table.{KernelLine};
 ghost use Rattle.table_lines.specs.Block.{Held, stepOf, Comes, Reads};
-ghost use Rattle.table_lines.specs.Image.{image};
 ghost use Rattle.table_kernels.specs.Kernels.{hasTriple, judgeKernel, noKernel, kernelNext, kernelsFrom};
-ghost use Rattle.table_kernels.specs.Memory.{figureAt, lookaheadAt, Marked, HoldsKernels, flagged, KernelMemory};
+ghost use Rattle.table_kernels.specs.Memory.{Marked, HoldsKernels, flagged, KernelImage, KernelMemory};
 
 // Whether a line with this state, item and dot was read: one look at the mark that each such line has.
 fn is_second(marks: &[u8], state: usize, item: usize, dot: usize) -> bool
@@ -142,18 +141,17 @@ fn read_kernel(s: &[u8], at: usize, t: usize, states: usize, items: usize, lines
     Step::Taken(next)
 }
 
-// The kernel lines from `first` on.
-pub fn read_kernels(s: &[u8], first: usize, t: usize, states: usize, items: usize, m: &[u8], kernels: &mut [u8], lookaheads: &mut [u8]) -> Block
-    requires { ⌜ (length (now s) < 65537) × (t ≤ 63) × (states ≤ 255) × (items ≤ 255) ⌝ }
+// The kernel lines from `first` on, with marks for the triples that have a line.
+fn read_marked(s: &[u8], first: usize, t: usize, states: usize, items: usize, m: &[u8], kernels: &mut [u8], lookaheads: &mut [u8], marks: &mut [u8]) -> Block
+    requires { ⌜ (length (now s) < 65537) × (t ≤ 63) × (states ≤ 255) × (items ≤ 255) × (length (now marks) ≡ 1048576) ⌝ }
     requires { ⌜ Shaped (now m) items ⌝ }
-    requires { ⌜ (now kernels ≡ image (length (now kernels)) (figureAt [])) × (now lookaheads ≡ image (length (now lookaheads)) (lookaheadAt [])) ⌝ }
-    ensures { λ r. ⌜ Reads (λ l. (now (kernels .exit) ≡ image (length (now (kernels .entry))) (figureAt l)) × (now (lookaheads .exit) ≡ image (length (now (lookaheads .entry))) (lookaheadAt l))) (kernelsFrom (now (s .entry)) t states items (lengthAt (now (m .entry))) first) r ⌝ }
+    requires { ⌜ KernelMemory (length (now kernels)) (length (now lookaheads)) [] (now kernels) (now lookaheads) (now marks) ⌝ }
+    ensures { λ r. ⌜ Reads (λ l. KernelMemory (length (now (kernels .entry))) (length (now (lookaheads .entry))) l (now (kernels .exit)) (now (lookaheads .exit)) (now (marks .exit))) (kernelsFrom (now (s .entry)) t states items (lengthAt (now (m .entry))) first) r ⌝ }
 {
-    let mut marks = [0u8; 1048576];
     let mut at = first;
     let mut k = 0;
     while k < 1024 {
-        match read_kernel(s, at, t, states, items, k, m, kernels, lookaheads, &mut marks) {
+        match read_kernel(s, at, t, states, items, k, m, kernels, lookaheads, marks) {
             Step::Taken(next) => {
                 at = next;
                 k += 1;
@@ -167,4 +165,16 @@ pub fn read_kernels(s: &[u8], first: usize, t: usize, states: usize, items: usiz
         }
     }
     Block::Read(k, at)
+}
+
+// The kernel lines from `first` on. The marks, a byte for each state, item and dot, cost one clearing of 1 MiB; a line
+// then costs one look, however many lines there are.
+pub fn read_kernels(s: &[u8], first: usize, t: usize, states: usize, items: usize, m: &[u8], kernels: &mut [u8], lookaheads: &mut [u8]) -> Block
+    requires { ⌜ (length (now s) < 65537) × (t ≤ 63) × (states ≤ 255) × (items ≤ 255) ⌝ }
+    requires { ⌜ Shaped (now m) items ⌝ }
+    requires { ⌜ KernelImage (length (now kernels)) (length (now lookaheads)) [] (now kernels) (now lookaheads) ⌝ }
+    ensures { λ r. ⌜ Reads (λ l. KernelImage (length (now (kernels .entry))) (length (now (lookaheads .entry))) l (now (kernels .exit)) (now (lookaheads .exit))) (kernelsFrom (now (s .entry)) t states items (lengthAt (now (m .entry))) first) r ⌝ }
+{
+    let mut marks = [0u8; 1048576];
+    read_marked(s, first, t, states, items, m, kernels, lookaheads, &mut marks)
 }

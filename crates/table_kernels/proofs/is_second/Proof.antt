@@ -1,15 +1,11 @@
+-- `table_kernels::is_second` meets its contract. Assumes nothing.
 use Rattle.table_kernels.proofs.TripleLaws.{triple-high, mark-off, mark-on}
-use mathlib.Core.Path.{_≡_, refl, sym, ap, subst, _∙_}
-use mathlib.Core.Logic.{⊎-elim}
-use Prim.Native.Nat.{ℕ, zero, suc, _+_, _*_, _≤_, _<_, _-_}
+use mathlib.Core.Path.{sym}
+use Prim.Native.Nat.{_-_}
 use native.Mathlib.Omega.{arith}
-use borrow.Author.Count.{below-more, below-none}
-use lib.ListN.{length, getD, set, length-set, replicate}
 use borrow.Author.Needs.{needs}
 use Rattle.table_kernels.proofs.is_second.Statement.{statement}
 use Rattle.table_kernels.proofs.is_second.Tie as tie
-use Rattle.table_kernels.proofs.is_second.Reads as reads
-use Rattle.table_kernels.proofs.is_second.Lts as lts
 
 returns : tie.Need-returns
 returns c = λ l h. sym (triple-high l (h .low) _ _ _ (λ e. omega (arith, e .0, c .if1 .taken)))

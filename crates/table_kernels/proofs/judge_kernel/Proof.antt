@@ -1,22 +1,16 @@
+-- `table_kernels::judge_kernel` meets its contract. Assumes nothing.
 use Rattle.table_lines.proofs.HeldLaws.{held-count, held-largest, held-at, held-rising, held-last}
 use Rattle.table_kernels.specs.Kernels.{judgeKernel}
 use Rattle.range.proofs.RangeLaws.{within-true}
 use lib.Dec.{leb}
 use borrow.Author.Tests.{le-leb, lt-leb, le-ltb, lt-ltb, not-true, not-false}
-use mathlib.Core.Path.{_≡_, refl, sym, ap, subst, _∙_}
-use mathlib.Core.Logic.{⊎-elim}
-use Prim.Native.Nat.{ℕ, zero, suc, _+_, _*_, _≤_, _<_, _-_}
+use mathlib.Core.Path.{sym, ap, _∙_}
+use Prim.Native.Nat.{_-_}
 use native.Mathlib.Omega.{arith}
-use borrow.Author.Count.{below-more, below-none}
-use lib.ListN.{length, getD, set, length-set, replicate}
+use lib.ListN.{length, getD}
 use borrow.Author.Needs.{needs}
 use Rattle.table_kernels.proofs.judge_kernel.Statement.{statement}
 use Rattle.table_kernels.proofs.judge_kernel.Tie as tie
-use Rattle.table_kernels.proofs.judge_kernel.Reads as reads
-use Rattle.table_kernels.proofs.judge_kernel.Lts as lts
-use Rattle.items.proofs.length_of.Reads as length-of-reads
-use Rattle.range.proofs.in_range.Reads as in-range-reads
-use Rattle.table_kernels.proofs.is_second.Reads as is-second-reads
 
 returns : tie.Need-returns
 unfolding judgeKernel

@@ -1,15 +1,9 @@
+-- `table_kernels::no_kernel` meets its contract. Assumes nothing.
 use Rattle.table_kernels.proofs.NextLaws.{none-first, none-later}
-use mathlib.Core.Path.{_≡_, refl, sym, ap, subst, _∙_}
-use mathlib.Core.Logic.{⊎-elim}
-use Prim.Native.Nat.{ℕ, zero, suc, _+_, _*_, _≤_, _<_, _-_}
-use native.Mathlib.Omega.{arith}
-use borrow.Author.Count.{below-more, below-none}
-use lib.ListN.{length, getD, set, length-set, replicate}
-use borrow.Author.Needs.{needs}
+use mathlib.Core.Path.{sym, _∙_}
+use Prim.Native.Nat.{_-_}
 use Rattle.table_kernels.proofs.no_kernel.Statement.{statement}
 use Rattle.table_kernels.proofs.no_kernel.Tie as tie
-use Rattle.table_kernels.proofs.no_kernel.Reads as reads
-use Rattle.table_kernels.proofs.no_kernel.Lts as lts
 
 returns : tie.Need-returns
 returns c = λ l e. none-first _ l (e ∙ c .if1 .taken)

@@ -1,30 +1,18 @@
+-- `table_kernels::read_kernel` meets its contract. Assumes nothing.
+use Rattle.table_kernels.proofs.NextLaws.{code-low, none-comes, kernel-broken, kernel-other, kernel-faulty, kernel-taken, KernelFine, kernel-fine, at-most, fine-short}
 use Rattle.table_kernels.proofs.MemoryLaws.{kernel-more, figures-by, mark-by, flags-by}
-use Rattle.table_kernels.proofs.NextLaws.{none-comes, kernel-broken, kernel-other, kernel-faulty, kernel-taken, KernelFine, kernel-fine, at-most, fine-short}
 use Rattle.table_lines.proofs.HeldLaws.{Whole, whole-read, broken-read, held-count, held-at, numbers-take}
 use Rattle.table_lines.specs.Block.{taken, turned}
 use Rattle.table_lines.specs.Line.{lineAt}
 use Rattle.items.specs.Layout.{lengthAt}
-use lib.Seq.{getD-drop}
-use lib.ListN.{drop, take, length-drop}
-use mathlib.Core.List.{List}
+use lib.ListN.{drop, getD, replicate}
 use denote.Ref.{now}
-use mathlib.Core.Path.{_≡_, refl, sym, ap, subst, _∙_}
-use mathlib.Core.Logic.{⊎-elim}
-use Prim.Native.Nat.{ℕ, zero, suc, _+_, _*_, _≤_, _<_, _-_}
+use mathlib.Core.Path.{sym, ap, _∙_}
+use Prim.Native.Nat.{_≤_, _<_, _-_}
 use native.Mathlib.Omega.{arith}
-use borrow.Author.Count.{below-more, below-none}
-use lib.ListN.{length, getD, set, length-set, replicate}
 use borrow.Author.Needs.{needs}
 use Rattle.table_kernels.proofs.read_kernel.Statement.{statement}
 use Rattle.table_kernels.proofs.read_kernel.Tie as tie
-use Rattle.table_kernels.proofs.read_kernel.Reads as reads
-use Rattle.table_kernels.proofs.read_kernel.Lts as lts
-use Rattle.table_kernels.proofs.judge_kernel.Reads as judge-kernel-reads
-use Rattle.table_kernels.proofs.no_kernel.Reads as no-kernel-reads
-use Rattle.table_kernels.proofs.store_codes.Reads as store-codes-reads
-use Rattle.table_kernels.proofs.store_figures.Reads as store-figures-reads
-use Rattle.table_lines.proofs.put.Reads as put-reads
-use Rattle.table_lines.proofs.read_line.Reads as read-line-reads
 
 -- the line that was read
 line-read : (c : tie.After-known-told) → let a = c .before .before .before .before .before .before .before .before .before .before .before .args in let g = c .before .letter .given .0 in
@@ -117,7 +105,7 @@ store-codes-requires c κs = let f = fine-at (c .before .before .before .before 
     let w = line-read (c .before .before .before .before .before .before .before .before .before .before .before .before) in
     let p = c .before .before .before .before .before .before .before .before .before .before .before .before .before .before .before .before .before .before .before .before .before .before .before .pre in
     ( (omega (arith, f .long, held-count (w .held)), omega (arith, fine-short (p .0 .1) f, held-count (w .held)), omega (arith, low-at (c .before .before .before .before .before .before) .0))
-    , (λ k l d. ?) )
+    , (λ k l d. omega (arith, held-at (w .held) k (omega (arith, d, held-count (w .held))) (omega (arith, d, fine-short (p .0 .1) f, held-count (w .held))), code-low (p .0 .1) f k l)) )
 
 mul-put : tie.Need-mul-put
 mul-put c = record { fits = omega (arith, low-at (c .before .before .before .before .before .before .before .before .before .before) .1) }

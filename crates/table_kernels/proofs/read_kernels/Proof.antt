@@ -1,99 +1,30 @@
-use mathlib.Core.Path.{_≡_, refl, sym, ap, subst, _∙_}
-use mathlib.Core.Logic.{⊎-elim}
-use Prim.Native.Nat.{ℕ, zero, suc, _+_, _*_, _≤_, _<_, _-_}
-use native.Mathlib.Omega.{arith}
-use borrow.Author.Count.{below-more, below-none}
-use lib.ListN.{length, getD, set, length-set, replicate}
-use borrow.Author.Needs.{needs}
+-- `table_kernels::read_kernels` meets its contract. Assumes nothing.
+use Rattle.table_kernels.proofs.NextLaws.{image-reads}
+use Rattle.table_kernels.proofs.TripleLaws.{marks-none}
+use lib.ListN.{length-replicate}
+use mathlib.Core.Path.{refl, sym}
+use Prim.Native.Nat.{ℕ, _-_}
 use Rattle.table_kernels.proofs.read_kernels.Statement.{statement}
 use Rattle.table_kernels.proofs.read_kernels.Tie as tie
-use Rattle.table_kernels.proofs.read_kernels.Reads as reads
-use Rattle.table_kernels.proofs.read_kernels.Lts as lts
-use Rattle.table_kernels.proofs.read_kernel.Reads as read-kernel-reads
 
-abbrev Inv-loop : tie.InvT-loop
-Inv-loop s first t states items m kernels₀ lookaheads₀ marks₀ at₀ k₀ kernels lookaheads marks at k =
-    ?
+slice-aggregate-read-marked : tie.Need-slice-aggregate-read-marked
+slice-aggregate-read-marked c = sym (length-replicate {A = ℕ} 1048576 0)
 
-abbrev μ-loop : tie.MeasureT-loop
-μ-loop s first t states items m kernels₀ lookaheads₀ marks₀ at₀ k₀ kernels lookaheads marks at k =
-    ?
+read-marked-requires : tie.Need-read-marked-requires
+read-marked-requires c κs = let p = c .before .before .before .before .before .before .before .pre in
+    ( (p .0 .0, p .0 .1, p .0 .2, p .0 .3, length-replicate {A = ℕ} 1048576 0)
+    , (p .1 .0, record { held = p .1 .1; marked = marks-none refl }) )
 
-loop-holds : tie.Need-loop-holds Inv-loop μ-loop
-loop-holds c = search needs
+same-length : tie.Need-same-length
+same-length c = c .before .before .before .before .before .read-marked .kept .1 .1 .1 .1 .1 .1 .0
 
-slice-aggregate-read-kernel : tie.Need-slice-aggregate-read-kernel Inv-loop μ-loop
-slice-aggregate-read-kernel c = search needs
+same-length-2 : tie.Need-same-length-2
+same-length-2 c = c .before .before .before .before .before .read-marked .kept .1 .1 .1 .1 .1 .1 .1 .0
 
-read-kernel-requires : tie.Need-read-kernel-requires Inv-loop μ-loop
-read-kernel-requires c κs = search needs
-
-enum-known-next : tie.Need-enum-known-next Inv-loop μ-loop
-enum-known-next c = search needs
-
-add-k : tie.Need-add-k Inv-loop μ-loop
-add-k c = search needs
-
-loop-less : tie.Need-loop-less Inv-loop μ-loop
-loop-less c = search needs
-
-loop-again : tie.Need-loop-again Inv-loop μ-loop
-loop-again c = search needs
-
-enum-told : tie.Need-enum-told Inv-loop μ-loop
-enum-told c = search needs
-
-same-length : tie.Need-same-length Inv-loop μ-loop
-same-length c = search needs
-
-same-length-2 : tie.Need-same-length-2 Inv-loop μ-loop
-same-length-2 c = search needs
-
-returns : tie.Need-returns Inv-loop μ-loop
-returns c = search needs
-
-enum-known-why : tie.Need-enum-known-why Inv-loop μ-loop
-enum-known-why c = search needs
-
-same-length-3 : tie.Need-same-length-3 Inv-loop μ-loop
-same-length-3 c = search needs
-
-same-length-4 : tie.Need-same-length-4 Inv-loop μ-loop
-same-length-4 c = search needs
-
-returns-2 : tie.Need-returns-2 Inv-loop μ-loop
-returns-2 c = search needs
-
-same-length-5 : tie.Need-same-length-5 Inv-loop μ-loop
-same-length-5 c = search needs
-
-same-length-6 : tie.Need-same-length-6 Inv-loop μ-loop
-same-length-6 c = search needs
-
-returns-3 : tie.Need-returns-3 Inv-loop μ-loop
-returns-3 c = search needs
+returns : tie.Need-returns
+returns c = image-reads (c .before .before .before .before .before .read-marked .ensures)
 
 pub read-kernels-spec : {M : Type 1} → statement M
 read-kernels-spec =
     tie.close
-    (tie.spec
-    Inv-loop
-    μ-loop
-    loop-holds
-    slice-aggregate-read-kernel
-    read-kernel-requires
-    enum-known-next
-    add-k
-    loop-less
-    loop-again
-    enum-told
-    same-length
-    same-length-2
-    returns
-    enum-known-why
-    same-length-3
-    same-length-4
-    returns-2
-    same-length-5
-    same-length-6
-    returns-3)
+    (tie.spec slice-aggregate-read-marked read-marked-requires same-length same-length-2 returns)

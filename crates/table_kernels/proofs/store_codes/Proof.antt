@@ -1,19 +1,14 @@
+-- `table_kernels::store_codes` meets its contract. Assumes nothing.
 use Rattle.table_kernels.proofs.MemoryLaws.{flags-more, flags-end}
 use Rattle.table_kernels.specs.Memory.{flagged}
 use mathlib.Core.List.{List}
-use lib.ListN.{take, drop}
-use mathlib.Core.Path.{_≡_, refl, sym, ap, subst, _∙_}
-use mathlib.Core.Logic.{⊎-elim}
-use Prim.Native.Nat.{ℕ, zero, suc, _+_, _*_, _≤_, _<_, _-_}
+use lib.ListN.{take, drop, length}
+use mathlib.Core.Path.{_≡_, sym, ap, _∙_}
+use Prim.Native.Nat.{ℕ, _+_, _≤_, _-_}
 use native.Mathlib.Omega.{arith}
-use borrow.Author.Count.{below-more, below-none}
-use lib.ListN.{length, getD, set, length-set, replicate}
 use borrow.Author.Needs.{needs}
 use Rattle.table_kernels.proofs.store_codes.Statement.{statement}
 use Rattle.table_kernels.proofs.store_codes.Tie as tie
-use Rattle.table_kernels.proofs.store_codes.Reads as reads
-use Rattle.table_kernels.proofs.store_codes.Lts as lts
-use Rattle.table_lines.proofs.put.Reads as put-reads
 
 abbrev Inv-loop : tie.InvT-loop
 Inv-loop lookaheads₀ base numbers count k₀ lookaheads k = 

@@ -1,16 +1,11 @@
+-- `table_kernels::store_figures` meets its contract. Assumes nothing.
 use mathlib.Core.List.{List}
-use mathlib.Core.Path.{_≡_, refl, sym, ap, subst, _∙_}
-use mathlib.Core.Logic.{⊎-elim}
-use Prim.Native.Nat.{ℕ, zero, suc, _+_, _*_, _≤_, _<_, _-_}
-use native.Mathlib.Omega.{arith}
-use borrow.Author.Count.{below-more, below-none}
-use lib.ListN.{length, getD, set, length-set, replicate}
+use mathlib.Core.Path.{ap, _∙_}
+use Prim.Native.Nat.{ℕ, _+_, _*_, _-_}
+use lib.ListN.{set}
 use borrow.Author.Needs.{needs}
 use Rattle.table_kernels.proofs.store_figures.Statement.{statement}
 use Rattle.table_kernels.proofs.store_figures.Tie as tie
-use Rattle.table_kernels.proofs.store_figures.Reads as reads
-use Rattle.table_kernels.proofs.store_figures.Lts as lts
-use Rattle.table_lines.proofs.put.Reads as put-reads
 
 mul-put : tie.Need-mul-put
 mul-put c = search needs
