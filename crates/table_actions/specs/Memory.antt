@@ -1,11 +1,11 @@
 -- Action lines in memory: cells dense by state and code, gotos dense by state and nonterminal.
-use Prim.Native.Nat.{ℕ, _+_, _-_, _/_, _%_, _≤_, _<_}
+use Prim.Native.Nat.{ℕ, _+_, _*_, _-_, _/_, _%_, _≤_, _<_}
 use mathlib.Core.Path.{_≡_}
 use mathlib.Core.List.{List, [], _∷_}
 use mathlib.Core.Bool.{Bool, true, false, cond, _&&_, _||_}
 use mathlib.Core.Option.{Option, some, none}
 use lib.Dec.{leb, eqb}
-use lib.ListN.{length}
+use lib.ListN.{length, set}
 use Rattle.leftcorner.specs.Table.{Action, S, N, A, P, ActionLine, L, actionFor, gotoState}
 use Rattle.table_lines.specs.Image.{image, flag}
 
@@ -69,11 +69,19 @@ pub record Cells (a b c : ℕ) (l : List ActionLine) (kinds values gotos : List 
   pub gotos-are : gotos ≡ image c (gotoAt l)
   pub formed : AllFormed l
 
+pub record HoldsActions (kinds values gotos : List ℕ) : Type 0 where
+  pub sizes : ℕ × ℕ × ℕ
+  pub lines : List ActionLine
+  pub cells : Cells (sizes .0) (sizes .1) (sizes .2) lines kinds values gotos
+
+-- what a line stores: a cell, or a goto; and that its next state is named
+abbrev pub Stored : ActionLine → (kinds values gotos named kinds′ values′ gotos′ named′ : List ℕ) → Type 0
+Stored (L q X (S s)) k v g n k′ v′ g′ n′ = (k′ ≡ set k (q * 64 + X) 1) × (v′ ≡ set v (q * 64 + X) s) × (g′ ≡ g) × (n′ ≡ set n s 1)
+Stored (L q X (N s)) k v g n k′ v′ g′ n′ = (k′ ≡ k) × (v′ ≡ v) × (g′ ≡ set g (q * 64 + X - 64) s) × (n′ ≡ set n s 1)
+Stored (L q X (A i)) k v g n k′ v′ g′ n′ = (k′ ≡ set k (q * 64 + X) 2) × (v′ ≡ set v (q * 64 + X) i) × (g′ ≡ g) × (n′ ≡ n)
+Stored (L q X (P c)) k v g n k′ v′ g′ n′ = (k′ ≡ set k (q * 64 + X) 3) × (v′ ≡ set v (q * 64 + X) (popValue c)) × (g′ ≡ g) × (n′ ≡ n)
+
 -- memory with these action lines read; `entered` tells the states that entries have
 pub record ActionMemory (entered : ℕ → Bool) (a b c d : ℕ) (l : List ActionLine) (kinds values gotos named : List ℕ) : Type 0 where
   pub cells : Cells a b c l kinds values gotos
   pub named-are : named ≡ image d (λ q. flag (entered q || isNamed l q))
-
-pub record HoldsActions (a b c : ℕ) (kinds values gotos : List ℕ) : Type 0 where
-  pub lines : List ActionLine
-  pub cells : Cells a b c lines kinds values gotos

@@ -14,10 +14,11 @@ ghost use mathlib.Core.List.{List, []};
 ghost use mathlib.Core.Bool.{Bool, not};
 ghost use Prim.Native.Nat.{ℕ, _+_, _*_, _≤_, _<_};
 ghost use lib.ListN.{length};
-ghost use Rattle.leftcorner.specs.Table.{ActionLine, actionFor};
+ghost use Rattle.leftcorner.specs.Table.{ActionLine, L, actionFor};
+ghost use Rattle.table_lines.specs.Image.{image, flag};
 ghost use Rattle.table_lines.specs.Block.{Held, Comes, Reads};
-ghost use Rattle.table_actions.specs.Actions.{isAction, actionDeclared, isNone, judgeAction, actionNext, actionsFrom};
-ghost use Rattle.table_actions.specs.Memory.{Cells, HoldsActions, ActionMemory};
+ghost use Rattle.table_actions.specs.Actions.{isAction, actionOf, actionDeclared, isNone, judgeAction, actionNext, actionsFrom};
+ghost use Rattle.table_actions.specs.Memory.{popValue, Formed, Cells, HoldsActions, Stored, ActionMemory};
 
 fn is_action(letter: u8) -> bool
     ensures { λ r. ⌜ r ≡ isAction letter ⌝ }
@@ -102,4 +103,93 @@ fn judge_action(t: usize, n: usize, rules: usize, states: usize, letter: u8, p: 
         return Judgement::Faulty(Kind::Undeclared);
     }
     Judgement::Fine
+}
+
+// A pop's value in its cell.
+fn pop_value(count: usize) -> usize
+    ensures { λ r. ⌜ (r ≡ popValue count) × (r < 256) ⌝ }
+{
+    if !in_range(1, count, 255) {
+        return 255;
+    }
+    count - 1
+}
+
+// Stores the cell or the goto of a line, and marks its next state as named.
+fn store_action(letter: u8, state: usize, symbol: usize, v: usize, kinds: &mut [u8], values: &mut [u8], gotos: &mut [u8], named: &mut [u8])
+    requires { ⌜ Formed (L state symbol (actionOf letter v)) ⌝ }
+    ensures { λ r. ⌜ Stored (L state symbol (actionOf letter v)) (now (kinds .entry)) (now (values .entry)) (now (gotos .entry)) (now (named .entry)) (now (kinds .exit)) (now (values .exit)) (now (gotos .exit)) (now (named .exit)) ⌝ }
+{
+    let cell = state * 64 + symbol;
+    if letter == b'S' {
+        table_lines::put(kinds, cell, 1);
+        table_lines::put(values, cell, v);
+        table_lines::put(named, v, 1);
+        return;
+    }
+    if letter == b'N' {
+        table_lines::put(gotos, cell - 64, v);
+        table_lines::put(named, v, 1);
+        return;
+    }
+    if letter == b'A' {
+        table_lines::put(kinds, cell, 2);
+        table_lines::put(values, cell, v);
+        return;
+    }
+    table_lines::put(kinds, cell, 3);
+    table_lines::put(values, cell, pop_value(v));
+}
+
+// The action line at `at`.
+fn read_action(s: &[u8], at: usize, t: usize, n: usize, rules: usize, states: usize, kinds: &mut [u8], values: &mut [u8], gotos: &mut [u8], named: &mut [u8]) -> Step
+    requires { ⌜ (length (now s) < 65537) × (t ≤ 63) × (n ≤ 64) × (rules ≤ 127) × (states ≤ 255) × (16640 ≤ length (now kinds)) × (16640 ≤ length (now gotos)) ⌝ }
+    requires { ⌜ HoldsActions (now kinds) (now values) (now gotos) ⌝ }
+    ensures { λ r. ⌜ ((e : ℕ → Bool) (a b c d : ℕ) (l : List ActionLine) → ActionMemory e a b c d l (now (kinds .entry)) (now (values .entry)) (now (gotos .entry)) (now (named .entry))
+        → Comes l (λ k. ActionMemory e a b c d k (now (kinds .exit)) (now (values .exit)) (now (gotos .exit)) (now (named .exit))) (actionNext (now (s .entry)) t n rules states at l) r) ⌝ }
+{
+    if s.len() <= at {
+        return Step::Stopped;
+    }
+    let mut numbers = [0usize; 67];
+    let Line::Whole(letter, p, next) = table_lines::read_line(s, at, &mut numbers) else {
+        return Step::Refused(Refusal {
+            kind: Kind::Malformed,
+            place: at,
+        });
+    };
+    let judgement = judge_action(t, n, rules, states, letter, p, &numbers, kinds, gotos);
+    if let Judgement::Faulty(kind) = judgement {
+        return Step::Refused(Refusal { kind, place: at });
+    }
+    store_action(letter, numbers[0], numbers[1], numbers[2], kinds, values, gotos, named);
+    Step::Taken(next)
+}
+
+// The action lines from `first` on to the book's end.
+pub fn read_actions(s: &[u8], first: usize, t: usize, n: usize, rules: usize, states: usize, kinds: &mut [u8], values: &mut [u8], gotos: &mut [u8], named: &mut [u8]) -> Block
+    requires { ⌜ (length (now s) < 65537) × (t ≤ 63) × (n ≤ 64) × (rules ≤ 127) × (states ≤ 255) × (16640 ≤ length (now kinds)) × (16640 ≤ length (now gotos)) ⌝ }
+    requires { ⌜ Cells (length (now kinds)) (length (now values)) (length (now gotos)) [] (now kinds) (now values) (now gotos) ⌝ }
+    ensures { λ r. ⌜ ((e : ℕ → Bool) → now (named .entry) ≡ image (length (now (named .entry))) (λ q. flag (e q))
+        → Reads (λ l. ActionMemory e (length (now (kinds .entry))) (length (now (values .entry))) (length (now (gotos .entry))) (length (now (named .entry))) l (now (kinds .exit)) (now (values .exit)) (now (gotos .exit)) (now (named .exit))) (actionsFrom (now (s .entry)) t n rules states first) r) ⌝ }
+{
+    let mut at = first;
+    let mut k = 0;
+    let mut left = s.len();
+    while 0 < left {
+        left -= 1;
+        match read_action(s, at, t, n, rules, states, kinds, values, gotos, named) {
+            Step::Taken(next) => {
+                at = next;
+                k += 1;
+            }
+            Step::Stopped => {
+                return Block::Read(k, at);
+            }
+            Step::Refused(why) => {
+                return Block::Refused(why);
+            }
+        }
+    }
+    Block::Read(k, at)
 }
