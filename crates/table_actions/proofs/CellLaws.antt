@@ -14,7 +14,7 @@ use Rattle.table_lines.specs.Image.{image, flag}
 use Rattle.table_lines.proofs.ImageLaws.{image-at, image-set, image-same, image-length}
 use Rattle.table_lines.proofs.ListLaws.{both-true}
 use Rattle.table_actions.specs.Actions.{isNone}
-use Rattle.table_actions.specs.Memory.{kindOf, popValue, valueOf, kindAt, valueAt, gotoAt, names, isNamed, Formed, AllFormed, Cells, Stored, ActionMemory}
+use Rattle.table_actions.specs.Memory.{kindOf, cellAt, kindAt, gotoAt, Formed, AllFormed, Cells}
 
 abbrev same : ℕ → ℕ → ℕ → ℕ → Bool
 same p Y q X = eqb p q && eqb Y X
@@ -55,13 +55,13 @@ found-formed (L p Y y ∷ l) h q X {x} e = go (same p Y q X) refl e (found-forme
         subst (λ (n : ℕ). Formed (L n X x)) (k .0) (subst (λ (n : ℕ). Formed (L p n x)) (k .1) (subst (λ (w : Action). Formed (L p Y w)) d (h .0)))
     go false s e f = f e
 
-low-state : (q X : ℕ) (x : Action) → Formed (L q X x) → q ≤ 255
+pub low-state : (q X : ℕ) (x : Action) → Formed (L q X x) → q ≤ 255
 low-state q X (S s) f = f .1
 low-state q X (N s) f = f .1
 low-state q X (A i) f = f .1
 low-state q X (P n) f = f .1
 
-low-symbol : (q X : ℕ) (x : Action) → Formed (L q X x) → X < 128
+pub low-symbol : (q X : ℕ) (x : Action) → Formed (L q X x) → X < 128
 low-symbol q X (S s) f = omega (arith, f .2)
 low-symbol q X (N s) f = f .2 .1
 low-symbol q X (A i) f = omega (arith, f .2)
@@ -114,13 +114,9 @@ module _ (l : List ActionLine) (h : AllFormed l) (q X : ℕ) where
 
 -- ---- what is read
 module _ (q X : ℕ) (few : q ≤ 255) where
-  pub kind-back : (l : List ActionLine) → X < 64 → kindAt l (q * 64 + X) ≡ kindOf (actionFor l q X)
-  unfolding kindAt
-  kind-back l b = let e : (q * 64 + X) / 64 ≡ q = omega arith in let d : (q * 64 + X) % 64 ≡ X = omega arith in simp (e, d)
-
-  pub value-back : (l : List ActionLine) → X < 64 → valueAt l (q * 64 + X) ≡ valueOf (actionFor l q X)
-  unfolding valueAt
-  value-back l b = let e : (q * 64 + X) / 64 ≡ q = omega arith in let d : (q * 64 + X) % 64 ≡ X = omega arith in simp (e, d)
+  pub cell-back : (f : Option Action → ℕ) (l : List ActionLine) → X < 64 → cellAt f l (q * 64 + X) ≡ f (actionFor l q X)
+  unfolding cellAt
+  cell-back f l b = let e : (q * 64 + X) / 64 ≡ q = omega arith in let d : (q * 64 + X) % 64 ≡ X = omega arith in simp (e, d)
 
   pub goto-back : (l : List ActionLine) → 64 ≤ X → X < 128 → gotoAt l (q * 64 + (X - 64)) ≡ gotoState (actionFor l q X)
   unfolding gotoAt
@@ -130,7 +126,7 @@ module _ (q X : ℕ) (few : q ≤ 255) where
     kind-read : X < 64 → q * 64 + X < length kinds → getD kinds (q * 64 + X) 0 ≡ kindOf (actionFor l q X)
     kind-read s r =
         ap (λ (m : List ℕ). getD m (q * 64 + X) 0) (h .kinds-are)
-          ∙ (image-at a (kindAt l) (q * 64 + X) (omega (arith, r, ap length (h .kinds-are), image-length a (kindAt l))) ∙ kind-back l s)
+          ∙ (image-at a (kindAt l) (q * 64 + X) (omega (arith, r, ap length (h .kinds-are), image-length a (kindAt l))) ∙ cell-back kindOf l s)
 
     goto-read : 64 ≤ X → X < 128 → q * 64 + (X - 64) < length gotos → getD gotos (q * 64 + (X - 64)) 0 ≡ gotoState (actionFor l q X)
     goto-read s t r =

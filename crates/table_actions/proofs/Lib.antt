@@ -1,1 +1,4 @@
 pub mod CellLaws
+pub mod LetterLaws
+pub mod MemoryLaws
+pub mod NextLaws

@@ -2,10 +2,11 @@
 use Prim.Native.Nat.{ℕ, _+_, _*_, _-_, _/_, _%_, _≤_, _<_}
 use mathlib.Core.Path.{_≡_}
 use mathlib.Core.List.{List, [], _∷_}
-use mathlib.Core.Bool.{Bool, true, false, cond, _&&_, _||_}
+use mathlib.Core.Bool.{Bool, true, false, cond, _||_}
 use mathlib.Core.Option.{Option, some, none}
-use lib.Dec.{leb, eqb}
+use lib.Dec.{eqb}
 use lib.ListN.{length, set}
+use Rattle.range.specs.Range.{within}
 use Rattle.leftcorner.specs.Table.{Action, S, N, A, P, ActionLine, L, actionFor, gotoState}
 use Rattle.table_lines.specs.Image.{image, flag}
 
@@ -19,7 +20,7 @@ kindOf (some (P n)) = 3
 
 -- a pop's value: one less than its count, and 255 for every count that no entry has
 abbrev pub popValue : ℕ → ℕ
-popValue n = cond (leb 1 n && leb n 255) (n - 1) 255
+popValue n = cond (within 1 n 255) (n - 1) 255
 
 -- a cell's value: the next state, the rule, or a pop's value
 abbrev pub valueOf : Option Action → ℕ
@@ -30,11 +31,14 @@ valueOf (some (A i)) = i
 valueOf (some (P n)) = popValue n
 
 -- at state * 64 + code
-unfoldable pub kindAt : List ActionLine → ℕ → ℕ
-kindAt l x = kindOf (actionFor l (x / 64) (x % 64))
+unfoldable pub cellAt : (Option Action → ℕ) → List ActionLine → ℕ → ℕ
+cellAt f l x = f (actionFor l (x / 64) (x % 64))
 
-unfoldable pub valueAt : List ActionLine → ℕ → ℕ
-valueAt l x = valueOf (actionFor l (x / 64) (x % 64))
+abbrev pub kindAt : List ActionLine → ℕ → ℕ
+kindAt = cellAt kindOf
+
+abbrev pub valueAt : List ActionLine → ℕ → ℕ
+valueAt = cellAt valueOf
 
 -- at state * 64 + nonterminal - 64
 unfoldable pub gotoAt : List ActionLine → ℕ → ℕ
@@ -80,6 +84,11 @@ Stored (L q X (S s)) k v g n k′ v′ g′ n′ = (k′ ≡ set k (q * 64 + X) 
 Stored (L q X (N s)) k v g n k′ v′ g′ n′ = (k′ ≡ k) × (v′ ≡ v) × (g′ ≡ set g (q * 64 + X - 64) s) × (n′ ≡ set n s 1)
 Stored (L q X (A i)) k v g n k′ v′ g′ n′ = (k′ ≡ set k (q * 64 + X) 2) × (v′ ≡ set v (q * 64 + X) i) × (g′ ≡ g) × (n′ ≡ n)
 Stored (L q X (P c)) k v g n k′ v′ g′ n′ = (k′ ≡ set k (q * 64 + X) 3) × (v′ ≡ set v (q * 64 + X) (popValue c)) × (g′ ≡ g) × (n′ ≡ n)
+
+-- memory of flags
+pub record Flags (m : List ℕ) : Type 0 where
+  pub test : ℕ → Bool
+  pub flags-are : m ≡ image (length m) (λ q. flag (test q))
 
 -- memory with these action lines read; `entered` tells the states that entries have
 pub record ActionMemory (entered : ℕ → Bool) (a b c d : ℕ) (l : List ActionLine) (kinds values gotos named : List ℕ) : Type 0 where

@@ -18,15 +18,24 @@ ghost use Rattle.leftcorner.specs.Table.{ActionLine, L, actionFor};
 ghost use Rattle.table_lines.specs.Image.{image, flag};
 ghost use Rattle.table_lines.specs.Block.{Held, Comes, Reads};
 ghost use Rattle.table_actions.specs.Actions.{isAction, actionOf, actionDeclared, isNone, judgeAction, actionNext, actionsFrom};
-ghost use Rattle.table_actions.specs.Memory.{popValue, Formed, Cells, HoldsActions, Stored, ActionMemory};
+ghost use Rattle.table_actions.specs.Memory.{popValue, Formed, Cells, HoldsActions, Stored, Flags, ActionMemory};
 
 fn is_action(letter: u8) -> bool
     ensures { λ r. ⌜ r ≡ isAction letter ⌝ }
 {
-    match letter {
-        b'S' | b'N' | b'A' | b'P' => true,
-        _ => false,
+    if letter == b'S' {
+        return true;
     }
+    if letter == b'N' {
+        return true;
+    }
+    if letter == b'A' {
+        return true;
+    }
+    if letter == b'P' {
+        return true;
+    }
+    false
 }
 
 // Whether a line with this state and symbol was read: one look at its cell or goto.
@@ -170,6 +179,7 @@ fn read_action(s: &[u8], at: usize, t: usize, n: usize, rules: usize, states: us
 pub fn read_actions(s: &[u8], first: usize, t: usize, n: usize, rules: usize, states: usize, kinds: &mut [u8], values: &mut [u8], gotos: &mut [u8], named: &mut [u8]) -> Block
     requires { ⌜ (length (now s) < 65537) × (t ≤ 63) × (n ≤ 64) × (rules ≤ 127) × (states ≤ 255) × (16640 ≤ length (now kinds)) × (16640 ≤ length (now gotos)) ⌝ }
     requires { ⌜ Cells (length (now kinds)) (length (now values)) (length (now gotos)) [] (now kinds) (now values) (now gotos) ⌝ }
+    requires { ⌜ Flags (now named) ⌝ }
     ensures { λ r. ⌜ ((e : ℕ → Bool) → now (named .entry) ≡ image (length (now (named .entry))) (λ q. flag (e q))
         → Reads (λ l. ActionMemory e (length (now (kinds .entry))) (length (now (values .entry))) (length (now (gotos .entry))) (length (now (named .entry))) l (now (kinds .exit)) (now (values .exit)) (now (gotos .exit)) (now (named .exit))) (actionsFrom (now (s .entry)) t n rules states first) r) ⌝ }
 {

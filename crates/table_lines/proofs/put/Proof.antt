@@ -1,15 +1,10 @@
+-- `table_lines::put` meets its contract. Assumes nothing.
 use lib.Seq.{set-out}
-use mathlib.Core.Path.{_≡_, refl, sym, ap, subst, _∙_}
-use mathlib.Core.Logic.{⊎-elim}
-use Prim.Native.Nat.{ℕ, zero, suc, _+_, _*_, _≤_, _<_, _-_}
-use native.Mathlib.Omega.{arith}
-use borrow.Author.Count.{below-more, below-none}
-use lib.ListN.{length, getD, set, length-set, replicate}
+use mathlib.Core.Path.{sym}
+use Prim.Native.Nat.{_-_}
 use borrow.Author.Needs.{needs}
 use Rattle.table_lines.proofs.put.Statement.{statement}
 use Rattle.table_lines.proofs.put.Tie as tie
-use Rattle.table_lines.proofs.put.Reads as reads
-use Rattle.table_lines.proofs.put.Lts as lts
 
 cast-m : tie.Need-cast-m
 cast-m c = search needs
