@@ -7,7 +7,7 @@ use native.Mathlib.Omega.{arith}
 use borrow.Author.Count.{below-more}
 use lib.ListN.{length, getD, set, replicate, length-set}
 use Rattle.fixpoint.specs.Flags.{On, Off, Decides}
-use Rattle.fixpoint.specs.Decision.{zeros, zeros-set, only-set, keep-set}
+use Rattle.fixpoint.proofs.CountLaws.{zeros, zeros-set, only-set, keep-set}
 
 -- A pass from fs₀ and added₀ on: fs now, and `added` counts the flags set. While it is 0, what was visited is met (Done).
 pub record Pass (n : ℕ) (P : ℕ → Type 0) (fs₀ fs : List ℕ) (added₀ added : ℕ) (Done : List ℕ → Type 0) : Type 0 where
@@ -26,7 +26,7 @@ module _ {n : ℕ} {P : ℕ → Type 0} where
       → Pass n P fs₀ fs added₀ added Done → (Done fs → Done′ fs) → Pass n P fs₀ fs′ added₀ added′ Done′
   pass-more {fs₀ = fs₀} {added₀ = a₀} Done Done′ ef ea p f =
       subst₂ (λ (xs : List ℕ) (a : ℕ). Pass n P fs₀ xs a₀ a Done′) (sym ef) (sym ea)
-        (record { long = p .long; only = p .only; kept = p .kept; count = p .count; closed = λ e. f (p .closed e) })
+      (record { long = p .long; only = p .only; kept = p .kept; count = p .count; closed = λ e. f (p .closed e) })
 
   -- a flag set: `added` is no longer 0, so nothing is claimed to be met
   pub pass-add : {fs₀ fs fs′ : List ℕ} {added₀ added added′ : ℕ} (Done Done′ : List ℕ → Type 0) (x : ℕ) → fs′ ≡ set fs x 1 → added′ ≡ added + 1
@@ -34,12 +34,13 @@ module _ {n : ℕ} {P : ℕ → Type 0} where
   pass-add {fs₀ = fs₀} {fs = fs} {added₀ = a₀} {added = added} Done Done′ x ef ea p l z px =
       let l′ = subst (λ (k : ℕ). x < k) (sym (p .long)) l in
       subst₂ (λ (xs : List ℕ) (a : ℕ). Pass n P fs₀ xs a₀ a Done′) (sym ef) (sym ea)
-        (record {
-          long = length-set fs x 1 ∙ p .long;
-          only = only-set P fs x (p .only) px;
-          kept = λ y on. keep-set fs x l′ y (p .kept y on);
-          count = omega (arith, zeros-set fs x l′ z, p .count);
-          closed = λ e. absurd (not-zero added e) })
+      (record {
+        long = length-set fs x 1 ∙ p .long;
+        only = only-set P fs x (p .only) px;
+        kept = λ y on. keep-set fs x l′ y (p .kept y on);
+        count = omega (arith, zeros-set fs x l′ z, p .count);
+        closed = λ e. absurd (not-zero added e);
+      })
     where
       not-zero : (m : ℕ) → m + 1 ≡ 0 → ⊥
       not-zero m e = omega arith
@@ -49,12 +50,13 @@ module _ {n : ℕ} {P : ℕ → Type 0} where
       → Pass n P fs₀ fs added₀ added Done → Pass n P′ fs fs′ added added′ Done′ → ((y : ℕ) → P′ y → P y) → (Done′ fs′ → Done″ fs′) → Pass n P fs₀ fs″ added₀ added″ Done″
   pass-join {fs₀ = fs₀} {added₀ = a₀} Done Done′ Done″ ef ea p q up f =
       subst₂ (λ (xs : List ℕ) (a : ℕ). Pass n P fs₀ xs a₀ a Done″) (sym ef) (sym ea)
-        (record {
-          long = q .long;
-          only = λ y on. up y (q .only y on);
-          kept = λ y on. q .kept y (p .kept y on);
-          count = omega (arith, p .count, q .count);
-          closed = λ e. f (q .closed e) })
+      (record {
+        long = q .long;
+        only = λ y on. up y (q .only y on);
+        kept = λ y on. q .kept y (p .kept y on);
+        count = omega (arith, p .count, q .count);
+        closed = λ e. f (q .closed e);
+      })
 
 -- ---- flags
 pub none-on : (n x : ℕ) → getD {A = ℕ} (replicate n 0) x 0 ≡ 0
@@ -75,6 +77,10 @@ on-at {fs = fs} e on = subst (On fs) e on
 
 pub off-at : (fs : List ℕ) {x y : ℕ} → x ≡ y → Off fs x → Off fs y
 off-at fs e z = subst (λ (k : ℕ). getD fs k 0 ≡ 0) e z
+
+-- a flag is not both set and unset
+pub not-off : {Q : Type 0} {fs : List ℕ} {x y : ℕ} → On fs y → x ≡ y → Off fs x → Q
+not-off {fs = fs} on e z = absurd (on .nonzero (off-at fs e z))
 
 -- ---- ranges
 pub no-gap : {d k : ℕ} → d ≤ k → k < d → ⊥

@@ -1,4 +1,5 @@
 pub mod Flags
+pub mod Tests
 pub mod Least
 pub mod Lowest
 pub mod Decision

@@ -17,6 +17,7 @@ lowest-one P low high (Found.At x) (Found.At y) h k = go (decLt x y) (decLt y x)
   where
     equal : (a b : ℕ) → ¬ (a < b) → ¬ (b < a) → a ≡ b
     equal a b n m = omega arith
+
     go : Dec (x < y) → Dec (y < x) → Found.At x ≡ Found.At y
     go (yes l) d = absurd (k .3 x (h .0) l (h .2))
     go (no n) (yes l) = absurd (h .3 y (k .0) l (k .2))
@@ -68,6 +69,7 @@ lowest-is {P = P} test low (suc n) = go (test low) (lowest-is test (suc low) n)
           where
             equal : (a b : ℕ) → b ≤ a → ¬ (b < a) → a ≡ b
             equal a b l m = omega arith
+
     go : (d : Dec (P low)) → Lowest P (suc low) (suc low + n) (lowest test (suc low) n) → Lowest P low (low + suc n) (pick d (Found.At low) (lowest test (suc low) n))
     go (yes p) h = (omega arith, omega arith, p, λ k a b q. absurd (none k a b))
       where

@@ -30,9 +30,9 @@ pub body-inside : (α φ : List ℕ) → length α ≤ 16 → body α (φ ++ 0 �
 unfolding body
 body-inside α φ h =
     sym (sets-snoc (sets (replicate 64 0) 16 α) φ 32 0)
-      ∙ set-zero (sets (sets (replicate 64 0) 16 α) 32 φ) (32 + length φ)
-          (read-above (sets (replicate 64 0) 16 α) φ 32 (32 + length φ) (omega arith)
-            ∙ (read-above (replicate 64 0) α 16 (32 + length φ) (omega arith) ∙ read-zeros 64 (32 + length φ)))
+    ∙ set-zero (sets (sets (replicate 64 0) 16 α) 32 φ) (32 + length φ)
+    (read-above (sets (replicate 64 0) 16 α) φ 32 (32 + length φ) (omega arith)
+    ∙ (read-above (replicate 64 0) α 16 (32 + length φ) (omega arith) ∙ read-zeros 64 (32 + length φ)))
 
 -- ---- in memory: the row at `base` of m while its symbols come
 unfoldable pub building : List ℕ → ℕ → List ℕ → List ℕ → List ℕ
@@ -47,7 +47,7 @@ pub build-symbol : (m : List ℕ) (base : ℕ) (α φ : List ℕ) (X : ℕ) → 
 unfolding building
 build-symbol m base α φ X h =
     ap (λ (n : ℕ). set (sets m base (body α φ)) n X) (group base (length α))
-      ∙ (set-inside m (body α φ) base (16 + length α) X (omega (arith, body-length α φ)) ∙ ap (sets m base) (body-symbol α φ X h))
+    ∙ (set-inside m (body α φ) base (16 + length α) X (omega (arith, body-length α φ)) ∙ ap (sets m base) (body-symbol α φ X h))
   where
     group : (a b : ℕ) → a + 16 + b ≡ a + (16 + b)
     group a b = omega arith
@@ -57,7 +57,7 @@ pub build-start-flag : (m : List ℕ) (base : ℕ) (α φ : List ℕ) (f : ℕ) 
 unfolding building
 build-start-flag m base α φ f h =
     ap (λ (n : ℕ). set (sets m base (body α φ)) n f) (group base (length φ))
-      ∙ (set-inside m (body α φ) base (32 + length φ) f (omega (arith, body-length α φ)) ∙ ap (sets m base) (body-start α φ f))
+    ∙ (set-inside m (body α φ) base (32 + length φ) f (omega (arith, body-length α φ)) ∙ ap (sets m base) (body-start α φ f))
   where
     group : (a b : ℕ) → a + 32 + b ≡ a + (32 + b)
     group a b = omega arith
@@ -74,8 +74,10 @@ build-end m base α φ left mark unit = go (body α φ) (body-length α φ)
   where
     store : (b : List ℕ) (j v : ℕ) → length b ≡ 64 → j < 64 → set (sets m base b) (base + j) v ≡ sets m base (set b j v)
     store b j v e h = set-inside m b base j v (omega arith)
+
     zero-at : (n : ℕ) → n ≡ n + 0
     zero-at n = omega arith
+
     go : (b : List ℕ) → length b ≡ 64 → set (set (set (set (sets m base b) base left) (base + 1) (length α)) (base + 2) mark) (base + 3) unit
         ≡ sets m base (sets b 0 (left ∷ length α ∷ mark ∷ unit ∷ []))
     go b e =
@@ -83,7 +85,7 @@ build-end m base α φ left mark unit = go (body α φ) (body-length α φ)
         let e2 : length (set (set b 0 left) 1 (length α)) ≡ 64 = length-sets b 0 (left ∷ length α ∷ []) ∙ e in
         let e3 : length (set (set (set b 0 left) 1 (length α)) 2 mark) ≡ 64 = length-sets b 0 (left ∷ length α ∷ mark ∷ []) ∙ e in
         ap (λ (l : List ℕ). set (set (set l (base + 1) (length α)) (base + 2) mark) (base + 3) unit)
-          (ap (λ (n : ℕ). set (sets m base b) n left) (zero-at base) ∙ store b 0 left e (omega arith))
+        (ap (λ (n : ℕ). set (sets m base b) n left) (zero-at base) ∙ store b 0 left e (omega arith))
         ∙ (ap (λ (l : List ℕ). set (set l (base + 2) mark) (base + 3) unit) (store (set b 0 left) 1 (length α) e1 (omega arith))
         ∙ (ap (λ (l : List ℕ). set l (base + 3) unit) (store (set (set b 0 left) 1 (length α)) 2 mark e2 (omega arith))
         ∙ store (set (set (set b 0 left) 1 (length α)) 2 mark) 3 unit e3 (omega arith)))

@@ -52,4 +52,4 @@ starts-length (γ ∷ γs) =
 pub rule-starts-length : (r : Rule) → length (startsOf r) ≡ length (right r)
 rule-starts-length r =
     length-append (replicate {A = ℕ} (length (r .before)) 0) (groupStarts (r .groups))
-      ∙ (ap₂ _+_ (length-replicate {A = ℕ} (length (r .before)) 0) (starts-length (r .groups)) ∙ sym (length-append (r .before) (concat (r .groups))))
+    ∙ (ap₂ _+_ (length-replicate {A = ℕ} (length (r .before)) 0) (starts-length (r .groups)) ∙ sym (length-append (r .before) (concat (r .groups))))

@@ -4,14 +4,14 @@ use mathlib.Core.Path.{_≡_, refl, sym, ap, subst, _∙_}
 use mathlib.Core.Logic.{_⊎_, inl, inr}
 use mathlib.Core.List.{List, [], _∷_, _++_}
 use mathlib.Core.Option.{Option, some, none}
-use native.Mathlib.Nat.{not-suc-le-zero, le-of-suc-le-suc, add-zero}
+use native.Mathlib.Nat.{add-zero}
 use native.Mathlib.Decide.{decLt, decLe}
 use native.Mathlib.Omega.{arith}
 use lib.ListN.{length, getD, replicate, length-replicate, List·getD-eq-default}
 use lib.Seq.{sets, length-sets}
 use Rattle.language.specs.Grammar.{Grammar, Rule, right, concat, at, ruleAt, IsTerminal, IsNonterminal}
 use Rattle.language.specs.Listing.{unitOf}
-use Rattle.language.specs.Sentence.{In, here, there}
+use Rattle.language.specs.GrammarLaws.{not-there, at-below, in-string}
 use Rattle.language.specs.WellFormed.{RuleFormed, WellFormed}
 use Rattle.items.specs.Layout.{body, row, rowOf, entryRow, startsOf, itemTable, layout, leftAt, lengthAt, symbolAt, RowIs, RuleIn, EntryIn, Holds, Shaped}
 use Rattle.items.proofs.StoreLaws.{read-inside, read-below, read-above, read-zeros}
@@ -24,7 +24,7 @@ module _ (left mark unit : ℕ) (α φ : List ℕ) where
   unfolding row
   figure j h =
       ap (λ (n : ℕ). getD (sets (body α φ) 0 (left ∷ length α ∷ mark ∷ unit ∷ [])) n 0) (zero-plus j)
-        ∙ read-inside (body α φ) (left ∷ length α ∷ mark ∷ unit ∷ []) 0 j h (omega (arith, body-length α φ))
+      ∙ read-inside (body α φ) (left ∷ length α ∷ mark ∷ unit ∷ []) 0 j h (omega (arith, body-length α φ))
     where
       zero-plus : (n : ℕ) → n ≡ 0 + n
       zero-plus n = omega arith
@@ -50,18 +50,19 @@ module _ (left mark unit : ℕ) (α φ : List ℕ) where
       go (yes l) = read-inside (sets (replicate 64 0) 16 α) φ 32 k l (omega (arith, length-sets (replicate 64 0) 16 α, length-replicate {A = ℕ} 64 0))
       go (no n) =
           read-above (sets (replicate 64 0) 16 α) φ 32 (32 + k) (omega arith)
-            ∙ (read-above (replicate 64 0) α 16 (32 + k) (omega arith) ∙ (read-zeros 64 (32 + k) ∙ sym (List·getD-eq-default φ 0 {n = k} (omega arith))))
+          ∙ (read-above (replicate 64 0) α 16 (32 + k) (omega arith) ∙ (read-zeros 64 (32 + k) ∙ sym (List·getD-eq-default φ 0 {n = k} (omega arith))))
 
   -- memory that agrees with the row, byte for byte
   pub row-is : (m : List ℕ) (i : ℕ) → length α ≤ 16 → ((j : ℕ) → j < 64 → getD m (i * 64 + j) 0 ≡ getD (row left mark unit α φ) j 0)
       → RowIs m i left mark unit α φ
-  row-is m i s same = record
-      { left-is = ap (λ (n : ℕ). getD m n 0) (sym (add-zero (i * 64))) ∙ (same 0 (omega arith) ∙ figure 0 (omega arith))
-      ; length-is = same 1 (omega arith) ∙ figure 1 (omega arith)
-      ; mark-is = same 2 (omega arith) ∙ figure 2 (omega arith)
-      ; unit-is = same 3 (omega arith) ∙ figure 3 (omega arith)
-      ; symbol-is = λ k l. ap (λ (n : ℕ). getD m n 0) (group (i * 64) 16 k) ∙ (same (16 + k) (omega arith) ∙ symbol k l)
-      ; start-is = λ k l. ap (λ (n : ℕ). getD m n 0) (group (i * 64) 32 k) ∙ (same (32 + k) (omega arith) ∙ start s k l) }
+  row-is m i s same = record {
+    left-is = ap (λ (n : ℕ). getD m n 0) (sym (add-zero (i * 64))) ∙ (same 0 (omega arith) ∙ figure 0 (omega arith));
+    length-is = same 1 (omega arith) ∙ figure 1 (omega arith);
+    mark-is = same 2 (omega arith) ∙ figure 2 (omega arith);
+    unit-is = same 3 (omega arith) ∙ figure 3 (omega arith);
+    symbol-is = λ k l. ap (λ (n : ℕ). getD m n 0) (group (i * 64) 16 k) ∙ (same (16 + k) (omega arith) ∙ symbol k l);
+    start-is = λ k l. ap (λ (n : ℕ). getD m n 0) (group (i * 64) 32 k) ∙ (same (32 + k) (omega arith) ∙ start s k l);
+  }
     where
       group : (a b c : ℕ) → a + b + c ≡ a + (b + c)
       group a b c = omega arith
@@ -71,7 +72,7 @@ module _ (rs : List Rule) (γs : List (List ℕ)) (size : ℕ) (room : suc (leng
   pub table-rule-in : (k : ℕ) {r : Rule} → at rs k ≡ some r → length (right r) ≤ 15 → RuleIn (itemTable rs γs size) (suc k) r
   table-rule-in k {r = r} e s =
       row-is (r .left) (length (r .before)) (unitOf (r .unit)) (right r) (startsOf r) (itemTable rs γs size) (suc k) (omega arith)
-        (λ j l. table-read-rule rs γs size k j e room l)
+      (λ j l. table-read-rule rs γs size k j e room l)
 
   pub table-entry-in : (k : ℕ) {γ : List ℕ} → at γs k ≡ some γ → length γ ≤ 15 → EntryIn (itemTable rs γs size) (suc (length rs + k)) γ
   table-entry-in k {γ = γ} e s =
@@ -88,24 +89,21 @@ record RowFits (m : List ℕ) (i : ℕ) : Type 0 where
   low-symbols : (k : ℕ) → k < 15 → symbolAt m i k < 128
 
 row-fits : {m : List ℕ} {i left mark unit : ℕ} {α φ : List ℕ} → RowIs m i left mark unit α φ → left < 128 → Fits α → RowFits m i
-row-fits {α = α} h l f = record
-    { low-left = omega (arith, h .left-is, l)
-    ; low-length = omega (arith, h .length-is, f .0)
-    ; low-symbols = λ k lk. omega (arith, h .symbol-is k lk, f .1 k) }
-
-pub at-below : {A : Type 0} (l : List A) (k : ℕ) → k < length l → (x : A) × (at l k ≡ some x)
-at-below [] k h = absurd (not-suc-le-zero h)
-at-below (x ∷ l) zero h = (x, refl)
-at-below (x ∷ l) (suc k) h = at-below l k (le-of-suc-le-suc h)
+row-fits {α = α} h l f = record {
+  low-left = omega (arith, h .left-is, l);
+  low-length = omega (arith, h .length-is, f .0);
+  low-symbols = λ k lk. omega (arith, h .symbol-is k lk, f .1 k);
+}
 
 module _ (rs : List Rule) (γs : List (List ℕ)) (size : ℕ) (room : suc (length rs + length γs) * 64 ≤ size)
     (rules-fit : (k : ℕ) (r : Rule) → at rs k ≡ some r → (r .left < 128) × Fits (right r))
     (entries-fit : (k : ℕ) (γ : List ℕ) → at γs k ≡ some γ → Fits γ) where
   fits : (i : ℕ) → i ≤ length rs + length γs → RowFits (itemTable rs γs size) i
-  fits zero h = record
-      { low-left = omega (arith, table-front rs γs size (0 * 64) (omega arith))
-      ; low-length = omega (arith, table-front rs γs size (0 * 64 + 1) (omega arith))
-      ; low-symbols = λ k l. omega (arith, table-front rs γs size (0 * 64 + 16 + k) (omega arith)) }
+  fits zero h = record {
+    low-left = omega (arith, table-front rs γs size (0 * 64) (omega arith));
+    low-length = omega (arith, table-front rs γs size (0 * 64 + 1) (omega arith));
+    low-symbols = λ k l. omega (arith, table-front rs γs size (0 * 64 + 16 + k) (omega arith));
+  }
   fits (suc i) h = go (decLt i (length rs))
     where
       go : Dec (i < length rs) → RowFits (itemTable rs γs size) (suc i)
@@ -115,21 +113,17 @@ module _ (rs : List Rule) (γs : List (List ℕ)) (size : ℕ) (room : suc (leng
           let γ = at-below γs (i - length rs) (omega arith) in
           let f = entries-fit (i - length rs) (γ .0) (γ .1) in
           subst (λ (j : ℕ). RowFits (itemTable rs γs size) (suc j)) (sym b)
-            (row-fits (table-entry-in rs γs size room (i - length rs) (γ .1) (f .0)) (omega arith) f)
+          (row-fits (table-entry-in rs γs size room (i - length rs) (γ .1) (f .0)) (omega arith) f)
 
   pub table-shaped : Shaped (itemTable rs γs size) (length rs + length γs)
-  table-shaped = record
-      { room = omega (arith, room, table-length rs γs size)
-      ; lengths = λ i h. fits i h .low-length
-      ; lefts = λ i h. fits i h .low-left
-      ; symbols = λ i k h l. fits i h .low-symbols k l }
+  table-shaped = record {
+    room = omega (arith, room, table-length rs γs size);
+    lengths = λ i h. fits i h .low-length;
+    lefts = λ i h. fits i h .low-left;
+    symbols = λ i k h l. fits i h .low-symbols k l;
+  }
 
 -- ---- a grammar's layout
-pub in-string : (l : List ℕ) (k : ℕ) → k < length l → In (getD l k 0) l
-in-string [] k h = absurd (not-suc-le-zero h)
-in-string (x ∷ l) zero h = here
-in-string (x ∷ l) (suc k) h = there (in-string l k (le-of-suc-le-suc h))
-
 pub declared-below : (g : Grammar) → WellFormed g → (X : ℕ) → IsTerminal g X ⊎ IsNonterminal g X → X < 128
 declared-below g w X (inl h) = omega (arith, h .1, w .few-terminals)
 declared-below g w X (inr h) = omega (arith, h .1, w .few-nonterminals)
@@ -147,11 +141,8 @@ module _ (g : Grammar) (w : WellFormed g) where
     layout-holds = record { count = refl; rule-in = go }
       where
         go : (i : ℕ) {r : Rule} → ruleAt g i ≡ some r → RuleIn (layout g size) i r
-        go zero e = let z : _≡_ {A = ℕ} 0 1 = cc in absurd (omega arith)
+        go zero e = not-there e
         go (suc k) e = table-rule-in (g .rules) [] size (omega arith) k e (w .formed (suc k) e .short)
 
     pub layout-shaped : Shaped (layout g size) (length (g .rules))
-    layout-shaped = subst (Shaped (layout g size)) (add-zero (length (g .rules))) (table-shaped (g .rules) [] size (omega arith) rule-fits (λ k γ e. no-entry e))
-      where
-        no-entry : {A B : Type 0} {x : A} → none ≡ some x → B
-        no-entry e = let z : _≡_ {A = ℕ} 0 1 = cc in absurd (omega arith)
+    layout-shaped = subst (Shaped (layout g size)) (add-zero (length (g .rules))) (table-shaped (g .rules) [] size (omega arith) rule-fits (λ k γ e. not-there e))

@@ -34,7 +34,7 @@ pub set-inside : (l a : List ℕ) (i j x : ℕ) → j < length a → set (sets l
 set-inside l [] i j x h = absurd (not-suc-le-zero h)
 set-inside l (y ∷ a) i zero x h =
     ap (λ (n : ℕ). set (sets (set l i y) (suc i) a) n x) (add-zero i)
-      ∙ (set-below (set l i y) a (suc i) i x (omega arith) ∙ ap (λ (m : List ℕ). sets m (suc i) a) (set-set l i y x))
+    ∙ (set-below (set l i y) a (suc i) i x (omega arith) ∙ ap (λ (m : List ℕ). sets m (suc i) a) (set-set l i y x))
 set-inside l (y ∷ a) i (suc j) x h =
     ap (λ (n : ℕ). set (sets (set l i y) (suc i) a) n x) (next i j) ∙ set-inside (set l i y) a (suc i) j x (le-of-suc-le-suc h)
   where
@@ -54,10 +54,10 @@ pub read-inside : (l a : List ℕ) (i j : ℕ) → j < length a → i + j < leng
 read-inside l [] i j h k = absurd (not-suc-le-zero h)
 read-inside l (y ∷ a) i zero h k =
     ap (λ (n : ℕ). getD (sets (set l i y) (suc i) a) n 0) (add-zero i)
-      ∙ (read-below (set l i y) a (suc i) i (omega arith) ∙ getD-set-same l i y 0 (omega arith))
+    ∙ (read-below (set l i y) a (suc i) i (omega arith) ∙ getD-set-same l i y 0 (omega arith))
 read-inside l (y ∷ a) i (suc j) h k =
     ap (λ (n : ℕ). getD (sets (set l i y) (suc i) a) n 0) (next i j)
-      ∙ read-inside (set l i y) a (suc i) j (le-of-suc-le-suc h) (simp length-set (omega arith))
+    ∙ read-inside (set l i y) a (suc i) j (le-of-suc-le-suc h) (simp length-set (omega arith))
   where
     next : (m n : ℕ) → m + suc n ≡ suc m + n
     next m n = omega arith

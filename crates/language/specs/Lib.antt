@@ -4,3 +4,4 @@ pub mod Listing
 pub mod Sentence
 pub mod First
 pub mod WellFormed
+pub mod GrammarLaws

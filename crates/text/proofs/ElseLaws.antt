@@ -38,15 +38,15 @@ module _ {A : Type 0} {r f : Field} (e : r ≡ f) where
       by field.Broken o = refl
 
 -- what holds of each way out holds of what is done with a field
-module _ {A : Type 0} (P : A → Type 0) {x : ℕ → Cursor → A} {y : A} (yes : (v : ℕ) (c : Cursor) → P (x v c)) (no : P y) where
-  pub all-number : (f : Field) → P (onNumber f x y)
-  all-number (field.Number v c) = yes v c
-  all-number (field.Mark b c) = no
-  all-number (field.Letter b c) = no
-  all-number field.Broken = no
+module _ {A : Type 0} (P : A → Type 0) {x : ℕ → Cursor → A} {y : A} where
+  pub all-number : (f : Field) → ((v : ℕ) (c : Cursor) → f ≡ field.Number v c → P (x v c)) → P y → P (onNumber f x y)
+  all-number (field.Number v c) h k = h v c refl
+  all-number (field.Mark b c) h k = k
+  all-number (field.Letter b c) h k = k
+  all-number field.Broken h k = k
 
-  pub all-letter : (f : Field) → P (onLetter f x y)
-  all-letter (field.Letter b c) = yes b c
-  all-letter (field.Mark b c) = no
-  all-letter (field.Number v c) = no
-  all-letter field.Broken = no
+  pub all-letter : (f : Field) → ((b : ℕ) (c : Cursor) → f ≡ field.Letter b c → P (x b c)) → P y → P (onLetter f x y)
+  all-letter (field.Letter b c) h k = h b c refl
+  all-letter (field.Mark b c) h k = k
+  all-letter (field.Number v c) h k = k
+  all-letter field.Broken h k = k

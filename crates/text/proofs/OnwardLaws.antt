@@ -3,6 +3,7 @@ use Prim.Native.Nat.{ℕ, _+_, _<_, _≤_}
 use mathlib.Core.Path.{_≡_, subst}
 use mathlib.Core.List.{List, [], _∷_}
 use mathlib.Core.Bool.{Bool, true, false, cond}
+use native.Mathlib.Decide.{decLt}
 use native.Mathlib.Omega.{arith}
 use lib.Dec.{eqb}
 use lib.ListN.{length, drop, length-drop}
@@ -14,6 +15,7 @@ use Rattle.text.specs.declared.End.the-variants.{Past, Missing}
 use Rattle.text.specs.declared.Field.{Field}
 use Rattle.text.specs.declared.Field.the-variants as field
 use Rattle.text.specs.Field.{classOf, endOf, addDigit, closed, onDigit, digitsFrom, byClass, fieldOf, fieldAt}
+use Rattle.text.proofs.Bytes.{past}
 
 -- past a, and at most z
 abbrev pub Between : ℕ → ℕ → Cursor → Type 0
@@ -62,10 +64,11 @@ module _ (a z : ℕ) where
   bytes-onward (b ∷ l) at p q = class-onward (classOf b) b l at p q
 
 -- the field at a cursor
-pub onward : (s : List ℕ) (c : Cursor) (f : Field) → c .at ≤ length s → fieldAt s c ≡ f → Onward (c .at) (length s) f
+pub onward : (s : List ℕ) (c : Cursor) (f : Field) → fieldAt s c ≡ f → Onward (c .at) (length s) f
 unfolding fieldAt
-onward s c f h e = subst (λ (g : Field). Onward (c .at) (length s) g) e (go (c .ended))
+onward s c f e = subst (λ (g : Field). Onward (c .at) (length s) g) e (go (c .ended) (decLt (length s) (c .at)))
   where
-    go : (b : Bool) → Onward (c .at) (length s) (cond b field.Broken (fieldOf (drop (c .at) s) (c .at)))
-    go true = tt
-    go false = bytes-onward (c .at) (length s) (drop (c .at) s) (c .at) (omega arith) (simp length-drop (omega arith))
+    go : (b : Bool) → Dec (length s < c .at) → Onward (c .at) (length s) (cond b field.Broken (fieldOf (drop (c .at) s) (c .at)))
+    go true d = tt
+    go false (yes h) = rw (past s (c .at) (omega arith)) tt
+    go false (no h) = bytes-onward (c .at) (length s) (drop (c .at) s) (c .at) (omega arith) (simp length-drop (omega arith))

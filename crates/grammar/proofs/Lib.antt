@@ -1,0 +1,7 @@
+pub mod ListLaws
+pub mod BookLaws
+pub mod FormLaws
+pub mod ReducedLaws
+pub mod IntoLaws
+pub mod GrammarLaws
+pub mod Examples
