@@ -1,0 +1,209 @@
+// Reads a table book, with the grammar book it belongs to, into memory.
+use grammar::GrammarReply;
+use header::Heading;
+use range::in_range;
+use reply::Kind;
+use reply::Refusal;
+use reply::Reply;
+use reply::clear;
+use table_lines::Block;
+use table_lines::Line;
+
+ghost use mathlib.Core.Path.{_≡_};
+ghost use Prim.Native.Nat.{ℕ, _+_, _*_, _≤_, _<_};
+ghost use lib.ListN.{length, replicate};
+ghost use Rattle.language.specs.Grammar.{Grammar};
+ghost use Rattle.table.specs.Book.{headOf};
+
+
+// The bytes that each slice must have at least.
+pub const ITEMS: usize = 16640;
+pub const ENTRY_STATES: usize = 128;
+pub const KERNELS: usize = 4096;
+pub const LOOKAHEADS: usize = 65536;
+pub const CELLS: usize = 16640;
+pub const NAMED: usize = 256;
+
+// The figures of tables that are in memory: the grammar's, and the numbers of states, entries and kernel lines.
+pub struct Counts {
+    pub grammar: Heading,
+    pub states: usize,
+    pub entries: usize,
+    pub kernels: usize,
+}
+
+// The first line of a table book, with the position past it.
+pub enum Head {
+    Read(usize, usize, usize),
+    Refused(Refusal),
+}
+
+// What reading both books comes to.
+pub enum TableReply {
+    Read(Counts),
+    Refused(Refusal),
+}
+
+fn refuse_head(kind: Kind) -> Head
+    ensures { λ r. ⌜ r ≡ Head.Refused (record { kind = kind; place = 0 }) ⌝ }
+{
+    Head::Refused(Refusal { kind, place: 0 })
+}
+
+// The first line, `T,states,entries`.
+fn read_head(s: &[u8]) -> Head
+    requires { ⌜ length (now s) < 65537 ⌝ }
+    ensures { λ r. ⌜ r ≡ headOf (now (s .entry)) ⌝ }
+{
+    let mut numbers = [0usize; 67];
+    let Line::Whole(letter, p, next) = table_lines::read_line(s, 0, &mut numbers) else {
+        return refuse_head(Kind::Malformed);
+    };
+    if letter != b'T' {
+        return refuse_head(Kind::Malformed);
+    }
+    if p.count != 2 {
+        return refuse_head(Kind::Malformed);
+    }
+    let states = numbers[0];
+    let entries = numbers[1];
+    if !in_range(1, states, 255) {
+        return refuse_head(Kind::LimitExceeded);
+    }
+    if !in_range(1, entries, 127) {
+        return refuse_head(Kind::LimitExceeded);
+    }
+    Head::Read(states, entries, next)
+}
+
+// The blocks after the first line, read into memory that holds the grammar's rules and nothing else.
+fn read_blocks(
+    s: &[u8],
+    h: Heading,
+    states: usize,
+    entries: usize,
+    first: usize,
+    items: &mut [u8],
+    entry_states: &mut [u8],
+    kernels: &mut [u8],
+    lookaheads: &mut [u8],
+    kinds: &mut [u8],
+    values: &mut [u8],
+    gotos: &mut [u8],
+    named: &mut [u8],
+) -> TableReply {
+    let t = h.terminals;
+    let n = h.nonterminals;
+    let rules = h.rules;
+    match table_entries::read_entries(s, first, t, n, states, rules, entries, items, entry_states, named) {
+        Block::Refused(why) => TableReply::Refused(why),
+        Block::Read(count, at) => match table_kernels::read_kernels(s, at, t, states, rules + count, items, kernels, lookaheads) {
+            Block::Refused(why) => TableReply::Refused(why),
+            Block::Read(lines, at) => match table_actions::read_actions(s, at, t, n, rules, states, kinds, values, gotos, named) {
+                Block::Refused(why) => TableReply::Refused(why),
+                Block::Read(_, _) => TableReply::Read(Counts {
+                    grammar: h,
+                    states,
+                    entries: count,
+                    kernels: lines,
+                }),
+            },
+        },
+    }
+}
+
+// A table book read into memory that holds the grammar's rules and nothing else.
+fn read_book(
+    s: &[u8],
+    h: Heading,
+    items: &mut [u8],
+    entry_states: &mut [u8],
+    kernels: &mut [u8],
+    lookaheads: &mut [u8],
+    kinds: &mut [u8],
+    values: &mut [u8],
+    gotos: &mut [u8],
+    named: &mut [u8],
+) -> TableReply {
+    match read_head(s) {
+        Head::Refused(why) => TableReply::Refused(why),
+        Head::Read(states, entries, first) => read_blocks(s, h, states, entries, first, items, entry_states, kernels, lookaheads, kinds, values, gotos, named),
+    }
+}
+
+fn clear_all(
+    items: &mut [u8],
+    entry_states: &mut [u8],
+    kernels: &mut [u8],
+    lookaheads: &mut [u8],
+    kinds: &mut [u8],
+    values: &mut [u8],
+    gotos: &mut [u8],
+    named: &mut [u8],
+) {
+    clear(items);
+    clear(entry_states);
+    clear(kernels);
+    clear(lookaheads);
+    clear(kinds);
+    clear(values);
+    clear(gotos);
+    clear(named);
+}
+
+// Both books read into slices that have room.
+fn read_into(
+    grammar: &[u8],
+    book: &[u8],
+    items: &mut [u8],
+    entry_states: &mut [u8],
+    kernels: &mut [u8],
+    lookaheads: &mut [u8],
+    kinds: &mut [u8],
+    values: &mut [u8],
+    gotos: &mut [u8],
+    named: &mut [u8],
+) -> TableReply {
+    clear_all(items, entry_states, kernels, lookaheads, kinds, values, gotos, named);
+    if 65536 < book.len() {
+        return TableReply::Refused(Refusal {
+            kind: Kind::LimitExceeded,
+            place: 0,
+        });
+    }
+    match grammar::read_grammar(grammar, items) {
+        GrammarReply::Refused(why) => TableReply::Refused(why),
+        GrammarReply::Read(h) => {
+            let answer = read_book(book, h, items, entry_states, kernels, lookaheads, kinds, values, gotos, named);
+            if let TableReply::Refused(why) = answer {
+                clear_all(items, entry_states, kernels, lookaheads, kinds, values, gotos, named);
+                return TableReply::Refused(why);
+            }
+            answer
+        }
+    }
+}
+
+// Reads a grammar book and a table book into memory. A refusal leaves zeros.
+pub fn read_tables(
+    grammar: &[u8],
+    book: &[u8],
+    items: &mut [u8],
+    entry_states: &mut [u8],
+    kernels: &mut [u8],
+    lookaheads: &mut [u8],
+    kinds: &mut [u8],
+    values: &mut [u8],
+    gotos: &mut [u8],
+    named: &mut [u8],
+) -> TableReply {
+    read_into(grammar, book, items, entry_states, kernels, lookaheads, kinds, values, gotos, named)
+}
+
+// The answer as a reply, with its number and place.
+pub fn as_reply(answer: TableReply) -> Reply {
+    match answer {
+        TableReply::Read(_) => Reply::Accepted(0),
+        TableReply::Refused(why) => Reply::Refused(why),
+    }
+}
