@@ -53,12 +53,12 @@ abbrev pub lengthsOf : Grammar → List EntryLine → ℕ → ℕ
 lengthsOf g l i = length (symbolsOf g (record { states = 0; entries = l; kernels = []; actions = [] }) i)
 
 abbrev pub tableWith : ℕ → List EntryLine → List KernelLine → List ActionLine → Table
-tableWith states es ks as = record { states = states; entries = es; kernels = ks; actions = as }
+tableWith states es ks xs = record { states = states; entries = es; kernels = ks; actions = xs }
 
 module _ (g : Grammar) (s : List ℕ) (states : ℕ) where
   unfoldable pub actionsOf : List EntryLine → List KernelLine → ℕ → Reading
   actionsOf es ks at =
-      onLines (actionsFrom s (g .terminals) (g .nonterminals) (length (g .rules)) states at) (λ as end. whole g (tableWith states es ks as)) rejected
+      onLines (actionsFrom s (g .terminals) (g .nonterminals) (length (g .rules)) states at) (λ xs end. whole g (tableWith states es ks xs)) rejected
 
   unfoldable pub kernelsOf : List EntryLine → ℕ → Reading
   kernelsOf es at =

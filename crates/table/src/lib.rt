@@ -13,7 +13,10 @@ ghost use mathlib.Core.Path.{_≡_};
 ghost use Prim.Native.Nat.{ℕ, _+_, _*_, _≤_, _<_};
 ghost use lib.ListN.{length, replicate};
 ghost use Rattle.language.specs.Grammar.{Grammar};
-ghost use Rattle.table.specs.Book.{headOf};
+ghost use Rattle.header.specs.declared.Heading.{Heading};
+ghost use Rattle.grammar.specs.Memory.{headingOf};
+ghost use Rattle.table.specs.Book.{headOf, entriesOf, tableOf, tablesOf, readOf};
+ghost use Rattle.table.specs.Memory.{asReply, replyOf, slices, hasRoom, Roomy, Zero, Begun, Blank, Holds, Fills};
 
 
 // The bytes that each slice must have at least.
@@ -91,7 +94,12 @@ fn read_blocks(
     values: &mut [u8],
     gotos: &mut [u8],
     named: &mut [u8],
-) -> TableReply {
+) -> TableReply
+    requires { ⌜ (length (now s) < 65537) × (states ≤ 255) × (entries ≤ 127) ⌝ }
+    requires { ⌜ Begun h (slices (now items) (now «entry_states») (now kernels) (now lookaheads) (now kinds) (now values) (now gotos) (now named)) ⌝ }
+    ensures { λ r. ⌜ ((g : Grammar) → Blank g (slices (now (items .entry)) (now («entry_states» .entry)) (now (kernels .entry)) (now (lookaheads .entry)) (now (kinds .entry)) (now (values .entry)) (now (gotos .entry)) (now (named .entry))) → h ≡ headingOf g
+        → Fills (slices (now (items .entry)) (now («entry_states» .entry)) (now (kernels .entry)) (now (lookaheads .entry)) (now (kinds .entry)) (now (values .entry)) (now (gotos .entry)) (now (named .entry))) (slices (now (items .exit)) (now («entry_states» .exit)) (now (kernels .exit)) (now (lookaheads .exit)) (now (kinds .exit)) (now (values .exit)) (now (gotos .exit)) (now (named .exit))) (entriesOf g (now (s .entry)) states entries first) r) ⌝ }
+{
     let t = h.terminals;
     let n = h.nonterminals;
     let rules = h.rules;
@@ -124,7 +132,12 @@ fn read_book(
     values: &mut [u8],
     gotos: &mut [u8],
     named: &mut [u8],
-) -> TableReply {
+) -> TableReply
+    requires { ⌜ length (now s) < 65537 ⌝ }
+    requires { ⌜ Begun h (slices (now items) (now «entry_states») (now kernels) (now lookaheads) (now kinds) (now values) (now gotos) (now named)) ⌝ }
+    ensures { λ r. ⌜ ((g : Grammar) → Blank g (slices (now (items .entry)) (now («entry_states» .entry)) (now (kernels .entry)) (now (lookaheads .entry)) (now (kinds .entry)) (now (values .entry)) (now (gotos .entry)) (now (named .entry))) → h ≡ headingOf g
+        → Fills (slices (now (items .entry)) (now («entry_states» .entry)) (now (kernels .entry)) (now (lookaheads .entry)) (now (kinds .entry)) (now (values .entry)) (now (gotos .entry)) (now (named .entry))) (slices (now (items .exit)) (now («entry_states» .exit)) (now (kernels .exit)) (now (lookaheads .exit)) (now (kinds .exit)) (now (values .exit)) (now (gotos .exit)) (now (named .exit))) (tableOf g (now (s .entry))) r) ⌝ }
+{
     match read_head(s) {
         Head::Refused(why) => TableReply::Refused(why),
         Head::Read(states, entries, first) => read_blocks(s, h, states, entries, first, items, entry_states, kernels, lookaheads, kinds, values, gotos, named),
@@ -140,7 +153,16 @@ fn clear_all(
     values: &mut [u8],
     gotos: &mut [u8],
     named: &mut [u8],
-) {
+)
+    ensures { λ r. ⌜ now (items .exit) ≡ replicate (length (now (items .entry))) 0 ⌝ }
+    ensures { λ r. ⌜ now («entry_states» .exit) ≡ replicate (length (now («entry_states» .entry))) 0 ⌝ }
+    ensures { λ r. ⌜ now (kernels .exit) ≡ replicate (length (now (kernels .entry))) 0 ⌝ }
+    ensures { λ r. ⌜ now (lookaheads .exit) ≡ replicate (length (now (lookaheads .entry))) 0 ⌝ }
+    ensures { λ r. ⌜ now (kinds .exit) ≡ replicate (length (now (kinds .entry))) 0 ⌝ }
+    ensures { λ r. ⌜ now (values .exit) ≡ replicate (length (now (values .entry))) 0 ⌝ }
+    ensures { λ r. ⌜ now (gotos .exit) ≡ replicate (length (now (gotos .entry))) 0 ⌝ }
+    ensures { λ r. ⌜ now (named .exit) ≡ replicate (length (now (named .entry))) 0 ⌝ }
+{
     clear(items);
     clear(entry_states);
     clear(kernels);
@@ -163,7 +185,11 @@ fn read_into(
     values: &mut [u8],
     gotos: &mut [u8],
     named: &mut [u8],
-) -> TableReply {
+) -> TableReply
+    requires { ⌜ Roomy (slices (now items) (now «entry_states») (now kernels) (now lookaheads) (now kinds) (now values) (now gotos) (now named)) ⌝ }
+    ensures { λ r. ⌜ r ≡ replyOf (tablesOf (now (grammar .entry)) (now (book .entry))) ⌝ }
+    ensures { λ r. ⌜ Holds (tablesOf (now (grammar .entry)) (now (book .entry))) (slices (now (items .entry)) (now («entry_states» .entry)) (now (kernels .entry)) (now (lookaheads .entry)) (now (kinds .entry)) (now (values .entry)) (now (gotos .entry)) (now (named .entry))) (slices (now (items .exit)) (now («entry_states» .exit)) (now (kernels .exit)) (now (lookaheads .exit)) (now (kinds .exit)) (now (values .exit)) (now (gotos .exit)) (now (named .exit))) ⌝ }
+{
     clear_all(items, entry_states, kernels, lookaheads, kinds, values, gotos, named);
     if 65536 < book.len() {
         return TableReply::Refused(Refusal {
@@ -201,7 +227,9 @@ pub fn read_tables(
 }
 
 // The answer as a reply, with its number and place.
-pub fn as_reply(answer: TableReply) -> Reply {
+pub fn as_reply(answer: TableReply) -> Reply
+    ensures { λ r. ⌜ r ≡ asReply answer ⌝ }
+{
     match answer {
         TableReply::Read(_) => Reply::Accepted(0),
         TableReply::Refused(why) => Reply::Refused(why),

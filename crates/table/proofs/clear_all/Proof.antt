@@ -1,0 +1,85 @@
+use mathlib.Core.Path.{_≡_, refl, sym, ap, subst, _∙_}
+use mathlib.Core.Logic.{⊎-elim}
+use Prim.Native.Nat.{ℕ, zero, suc, _+_, _*_, _≤_, _<_, _-_}
+use native.Mathlib.Omega.{arith}
+use borrow.Author.Count.{below-more, below-none}
+use lib.ListN.{length, getD, set, length-set, replicate}
+use borrow.Author.Needs.{needs}
+use Rattle.table.proofs.clear_all.Statement.{statement}
+use Rattle.table.proofs.clear_all.Tie as tie
+use Rattle.table.proofs.clear_all.Reads as reads
+use Rattle.table.proofs.clear_all.Lts as lts
+use Rattle.reply.proofs.clear.Reads as clear-reads
+
+clear-requires : tie.Need-clear-requires
+clear-requires c κs = ?
+
+clear-requires-2 : tie.Need-clear-requires-2
+clear-requires-2 c κs = ?
+
+clear-requires-3 : tie.Need-clear-requires-3
+clear-requires-3 c κs = ?
+
+clear-requires-4 : tie.Need-clear-requires-4
+clear-requires-4 c κs = ?
+
+clear-requires-5 : tie.Need-clear-requires-5
+clear-requires-5 c κs = ?
+
+clear-requires-6 : tie.Need-clear-requires-6
+clear-requires-6 c κs = ?
+
+clear-requires-7 : tie.Need-clear-requires-7
+clear-requires-7 c κs = ?
+
+clear-requires-8 : tie.Need-clear-requires-8
+clear-requires-8 c κs = ?
+
+same-length : tie.Need-same-length
+same-length c = ?
+
+same-length-2 : tie.Need-same-length-2
+same-length-2 c = ?
+
+same-length-3 : tie.Need-same-length-3
+same-length-3 c = ?
+
+same-length-4 : tie.Need-same-length-4
+same-length-4 c = ?
+
+same-length-5 : tie.Need-same-length-5
+same-length-5 c = ?
+
+same-length-6 : tie.Need-same-length-6
+same-length-6 c = ?
+
+same-length-7 : tie.Need-same-length-7
+same-length-7 c = ?
+
+same-length-8 : tie.Need-same-length-8
+same-length-8 c = ?
+
+returns : tie.Need-returns
+returns c = ?
+
+pub clear-all-spec : {M : Type 1} → statement M
+clear-all-spec =
+    tie.close
+    (tie.spec
+    clear-requires
+    clear-requires-2
+    clear-requires-3
+    clear-requires-4
+    clear-requires-5
+    clear-requires-6
+    clear-requires-7
+    clear-requires-8
+    same-length
+    same-length-2
+    same-length-3
+    same-length-4
+    same-length-5
+    same-length-6
+    same-length-7
+    same-length-8
+    returns)
