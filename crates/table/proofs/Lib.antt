@@ -2,3 +2,4 @@ pub mod LengthLaws
 pub mod BlankLaws
 pub mod ReadLaws
 pub mod BlocksLaws
+pub mod IntoLaws

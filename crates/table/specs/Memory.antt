@@ -80,10 +80,14 @@ abbrev pub slices : (items states kernels lookaheads kinds values gotos named : 
 slices i s k l c v g n = record { items = i; states = s; kernels = k; lookaheads = l; kinds = c; values = v; gotos = g; named = n }
 
 -- each has the bytes that the whole result needs
+unfoldable pub roomFor : (items states kernels lookaheads kinds values gotos named : ℕ) → Bool
+roomFor items states kernels lookaheads kinds values gotos named =
+    leb 16640 items && (leb 128 states && (leb 4096 kernels && (leb 65536 lookaheads && (leb 16640 kinds && (leb 16640 values && (leb 16640 gotos && leb 256 named))))))
+
 abbrev pub hasRoom : Slices → Bool
 hasRoom b =
-    leb 16640 (length (b .items)) && (leb 128 (length (b .states)) && (leb 4096 (length (b .kernels)) && (leb 65536 (length (b .lookaheads))
-    && (leb 16640 (length (b .kinds)) && (leb 16640 (length (b .values)) && (leb 16640 (length (b .gotos)) && leb 256 (length (b .named))))))))
+    roomFor (length (b .items)) (length (b .states)) (length (b .kernels)) (length (b .lookaheads)) (length (b .kinds)) (length (b .values)) (length (b .gotos))
+    (length (b .named))
 
 pub record Roomy (b : Slices) : Type 0 where
   pub items-room : 16640 ≤ length (b .items)
@@ -102,6 +106,12 @@ pub record Cleared (b : Slices) : Type 0 where
   pub values-none : Zero (b .values)
   pub gotos-none : Zero (b .gotos)
   pub named-none : Zero (b .named)
+
+-- all zeros, with room
+pub record Wiped (b : Slices) : Type 0 where
+  pub items-none : Zero (b .items)
+  pub cleared : Cleared b
+  pub room : Roomy b
 
 -- memory holds the rules of g and nothing else
 pub record Blank (g : Grammar) (b : Slices) : Type 0 where

@@ -10,13 +10,14 @@ use table_lines::Block;
 use table_lines::Line;
 
 ghost use mathlib.Core.Path.{_≡_};
+ghost use mathlib.Core.Bool.{false};
 ghost use Prim.Native.Nat.{ℕ, _+_, _*_, _≤_, _<_};
 ghost use lib.ListN.{length, replicate};
 ghost use Rattle.language.specs.Grammar.{Grammar};
 ghost use Rattle.header.specs.declared.Heading.{Heading};
 ghost use Rattle.grammar.specs.Memory.{headingOf};
 ghost use Rattle.table.specs.Book.{headOf, entriesOf, tableOf, tablesOf, readOf};
-ghost use Rattle.table.specs.Memory.{asReply, replyOf, slices, hasRoom, Roomy, Zero, Begun, Blank, Holds, Fills};
+ghost use Rattle.table.specs.Memory.{asReply, replyOf, slices, roomFor, hasRoom, Roomy, Wiped, Begun, Blank, Holds, Fills};
 
 
 // The bytes that each slice must have at least.
@@ -173,6 +174,34 @@ fn clear_all(
     clear(named);
 }
 
+// Both books read into slices of zeros that have room. What a refusal leaves is to be cleared.
+fn read_cleared(
+    grammar: &[u8],
+    book: &[u8],
+    items: &mut [u8],
+    entry_states: &mut [u8],
+    kernels: &mut [u8],
+    lookaheads: &mut [u8],
+    kinds: &mut [u8],
+    values: &mut [u8],
+    gotos: &mut [u8],
+    named: &mut [u8],
+) -> TableReply
+    requires { ⌜ Wiped (slices (now items) (now «entry_states») (now kernels) (now lookaheads) (now kinds) (now values) (now gotos) (now named)) ⌝ }
+    ensures { λ r. ⌜ Fills (slices (now (items .entry)) (now («entry_states» .entry)) (now (kernels .entry)) (now (lookaheads .entry)) (now (kinds .entry)) (now (values .entry)) (now (gotos .entry)) (now (named .entry))) (slices (now (items .exit)) (now («entry_states» .exit)) (now (kernels .exit)) (now (lookaheads .exit)) (now (kinds .exit)) (now (values .exit)) (now (gotos .exit)) (now (named .exit))) (tablesOf (now (grammar .entry)) (now (book .entry))) r ⌝ }
+{
+    if 65536 < book.len() {
+        return TableReply::Refused(Refusal {
+            kind: Kind::LimitExceeded,
+            place: 0,
+        });
+    }
+    match grammar::read_grammar(grammar, items) {
+        GrammarReply::Refused(why) => TableReply::Refused(why),
+        GrammarReply::Read(h) => read_book(book, h, items, entry_states, kernels, lookaheads, kinds, values, gotos, named),
+    }
+}
+
 // Both books read into slices that have room.
 fn read_into(
     grammar: &[u8],
@@ -191,23 +220,73 @@ fn read_into(
     ensures { λ r. ⌜ Holds (tablesOf (now (grammar .entry)) (now (book .entry))) (slices (now (items .entry)) (now («entry_states» .entry)) (now (kernels .entry)) (now (lookaheads .entry)) (now (kinds .entry)) (now (values .entry)) (now (gotos .entry)) (now (named .entry))) (slices (now (items .exit)) (now («entry_states» .exit)) (now (kernels .exit)) (now (lookaheads .exit)) (now (kinds .exit)) (now (values .exit)) (now (gotos .exit)) (now (named .exit))) ⌝ }
 {
     clear_all(items, entry_states, kernels, lookaheads, kinds, values, gotos, named);
-    if 65536 < book.len() {
+    let answer = read_cleared(grammar, book, items, entry_states, kernels, lookaheads, kinds, values, gotos, named);
+    if let TableReply::Refused(why) = answer {
+        clear_all(items, entry_states, kernels, lookaheads, kinds, values, gotos, named);
+        return TableReply::Refused(why);
+    }
+    answer
+}
+
+// What is answered where the slices are too short.
+fn read_short(grammar: &[u8], book: &[u8]) -> TableReply
+    ensures { λ r. ⌜ r ≡ replyOf (readOf false (tablesOf (now (grammar .entry)) (now (book .entry)))) ⌝ }
+{
+    let mut items = [0u8; ITEMS];
+    let mut entry_states = [0u8; ENTRY_STATES];
+    let mut kernels = [0u8; KERNELS];
+    let mut lookaheads = [0u8; LOOKAHEADS];
+    let mut kinds = [0u8; CELLS];
+    let mut values = [0u8; CELLS];
+    let mut gotos = [0u8; CELLS];
+    let mut named = [0u8; NAMED];
+    let answer = read_into(
+        grammar,
+        book,
+        &mut items,
+        &mut entry_states,
+        &mut kernels,
+        &mut lookaheads,
+        &mut kinds,
+        &mut values,
+        &mut gotos,
+        &mut named,
+    );
+    let TableReply::Refused(why) = answer else {
         return TableReply::Refused(Refusal {
-            kind: Kind::LimitExceeded,
+            kind: Kind::BufferTooSmall,
             place: 0,
         });
+    };
+    TableReply::Refused(why)
+}
+
+// Whether slices of these lengths have room.
+fn has_room(items: usize, entry_states: usize, kernels: usize, lookaheads: usize, kinds: usize, values: usize, gotos: usize, named: usize) -> bool
+    ensures { λ r. ⌜ r ≡ roomFor items «entry_states» kernels lookaheads kinds values gotos named ⌝ }
+{
+    if items < ITEMS {
+        return false;
     }
-    match grammar::read_grammar(grammar, items) {
-        GrammarReply::Refused(why) => TableReply::Refused(why),
-        GrammarReply::Read(h) => {
-            let answer = read_book(book, h, items, entry_states, kernels, lookaheads, kinds, values, gotos, named);
-            if let TableReply::Refused(why) = answer {
-                clear_all(items, entry_states, kernels, lookaheads, kinds, values, gotos, named);
-                return TableReply::Refused(why);
-            }
-            answer
-        }
+    if entry_states < ENTRY_STATES {
+        return false;
     }
+    if kernels < KERNELS {
+        return false;
+    }
+    if lookaheads < LOOKAHEADS {
+        return false;
+    }
+    if kinds < CELLS {
+        return false;
+    }
+    if values < CELLS {
+        return false;
+    }
+    if gotos < CELLS {
+        return false;
+    }
+    NAMED <= named
 }
 
 // Reads a grammar book and a table book into memory. A refusal leaves zeros.
@@ -222,7 +301,14 @@ pub fn read_tables(
     values: &mut [u8],
     gotos: &mut [u8],
     named: &mut [u8],
-) -> TableReply {
+) -> TableReply
+    ensures { λ r. ⌜ r ≡ replyOf (readOf (hasRoom (slices (now (items .entry)) (now («entry_states» .entry)) (now (kernels .entry)) (now (lookaheads .entry)) (now (kinds .entry)) (now (values .entry)) (now (gotos .entry)) (now (named .entry)))) (tablesOf (now (grammar .entry)) (now (book .entry)))) ⌝ }
+    ensures { λ r. ⌜ Holds (readOf (hasRoom (slices (now (items .entry)) (now («entry_states» .entry)) (now (kernels .entry)) (now (lookaheads .entry)) (now (kinds .entry)) (now (values .entry)) (now (gotos .entry)) (now (named .entry)))) (tablesOf (now (grammar .entry)) (now (book .entry)))) (slices (now (items .entry)) (now («entry_states» .entry)) (now (kernels .entry)) (now (lookaheads .entry)) (now (kinds .entry)) (now (values .entry)) (now (gotos .entry)) (now (named .entry))) (slices (now (items .exit)) (now («entry_states» .exit)) (now (kernels .exit)) (now (lookaheads .exit)) (now (kinds .exit)) (now (values .exit)) (now (gotos .exit)) (now (named .exit))) ⌝ }
+{
+    if !has_room(items.len(), entry_states.len(), kernels.len(), lookaheads.len(), kinds.len(), values.len(), gotos.len(), named.len()) {
+        clear_all(items, entry_states, kernels, lookaheads, kinds, values, gotos, named);
+        return read_short(grammar, book);
+    }
     read_into(grammar, book, items, entry_states, kernels, lookaheads, kinds, values, gotos, named)
 }
 
