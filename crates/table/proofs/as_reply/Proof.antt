@@ -1,15 +1,10 @@
+-- `table::as_reply` meets its contract. Assumes nothing.
 use Rattle.table.specs.Memory.{asReply}
-use mathlib.Core.Path.{_≡_, refl, sym, ap, subst, _∙_}
-use mathlib.Core.Logic.{⊎-elim}
-use Prim.Native.Nat.{ℕ, zero, suc, _+_, _*_, _≤_, _<_, _-_}
-use native.Mathlib.Omega.{arith}
-use borrow.Author.Count.{below-more, below-none}
-use lib.ListN.{length, getD, set, length-set, replicate}
+use mathlib.Core.Path.{sym, ap}
+use Prim.Native.Nat.{_-_}
 use borrow.Author.Needs.{needs}
 use Rattle.table.proofs.as_reply.Statement.{statement}
 use Rattle.table.proofs.as_reply.Tie as tie
-use Rattle.table.proofs.as_reply.Reads as reads
-use Rattle.table.proofs.as_reply.Lts as lts
 
 enum-told : tie.Need-enum-told
 enum-told c = search needs

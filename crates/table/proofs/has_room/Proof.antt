@@ -1,16 +1,9 @@
+-- `table::has_room` meets its contract. Assumes nothing.
 use Rattle.table.specs.Memory.{roomFor}
 use borrow.Author.Tests.{le-leb, lt-leb}
-use mathlib.Core.Path.{_≡_, refl, sym, ap, subst, _∙_}
-use mathlib.Core.Logic.{⊎-elim}
-use Prim.Native.Nat.{ℕ, zero, suc, _+_, _*_, _≤_, _<_, _-_}
-use native.Mathlib.Omega.{arith}
-use borrow.Author.Count.{below-more, below-none}
-use lib.ListN.{length, getD, set, length-set, replicate}
-use borrow.Author.Needs.{needs}
+use Prim.Native.Nat.{_-_}
 use Rattle.table.proofs.has_room.Statement.{statement}
 use Rattle.table.proofs.has_room.Tie as tie
-use Rattle.table.proofs.has_room.Reads as reads
-use Rattle.table.proofs.has_room.Lts as lts
 
 returns : tie.Need-returns
 unfolding roomFor

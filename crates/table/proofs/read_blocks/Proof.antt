@@ -1,27 +1,19 @@
+-- `table::read_blocks` meets its contract. Assumes nothing.
 use Rattle.table_lines.specs.Image.{image, flag}
 use Rattle.table.proofs.ReadLaws.{lines-few, entries-refused, entries-read, kernels-refused, kernels-read, actions-refused, actions-read}
 use Rattle.table.proofs.BlocksLaws.{begun-low, begun-entries, entries-at, kernels-at, counts-same, memory-sized}
 use Rattle.table.proofs.BlankLaws.{kernel-start, cells-start, blocks-hold}
 use Rattle.table.specs.Memory.{filled-with, denied}
-use Rattle.table_entries.specs.Entries.{entryNext}
 use Rattle.table_entries.specs.Memory.{isEntryState}
 use Rattle.table_lines.proofs.BlockLaws.{reads-read, reads-refused}
-use mathlib.Core.List.{List, []}
-use denote.Ref.{now}
-use mathlib.Core.Path.{_≡_, refl, sym, ap, subst, _∙_}
-use mathlib.Core.Logic.{⊎-elim}
-use Prim.Native.Nat.{ℕ, zero, suc, _+_, _*_, _≤_, _<_, _-_}
+use mathlib.Core.List.{[]}
+use mathlib.Core.Path.{_≡_, sym, ap, _∙_}
+use Prim.Native.Nat.{ℕ, _+_, _-_}
 use native.Mathlib.Omega.{arith}
-use borrow.Author.Count.{below-more, below-none}
-use lib.ListN.{length, getD, set, length-set, replicate}
+use lib.ListN.{length}
 use borrow.Author.Needs.{needs}
 use Rattle.table.proofs.read_blocks.Statement.{statement}
 use Rattle.table.proofs.read_blocks.Tie as tie
-use Rattle.table.proofs.read_blocks.Reads as reads
-use Rattle.table.proofs.read_blocks.Lts as lts
-use Rattle.table_actions.proofs.read_actions.Reads as read-actions-reads
-use Rattle.table_entries.proofs.read_entries.Reads as read-entries-reads
-use Rattle.table_kernels.proofs.read_kernels.Reads as read-kernels-reads
 
 -- the entry lines that were read leave the flags of their states
 flags-at : (d : tie.After-known-told2) → let e = reads-read (d .before .before .before .before .before .before .before .before .before .read-entries .ensures) (d .before .count .given .1) in

@@ -1,18 +1,11 @@
+-- `table::read_book` meets its contract. Assumes nothing.
 use Rattle.table.proofs.ReadLaws.{head-refused, head-read, head-low}
 use Rattle.table.specs.Memory.{denied}
-use mathlib.Core.Path.{_≡_, refl, sym, ap, subst, _∙_}
-use mathlib.Core.Logic.{⊎-elim}
-use Prim.Native.Nat.{ℕ, zero, suc, _+_, _*_, _≤_, _<_, _-_}
-use native.Mathlib.Omega.{arith}
-use borrow.Author.Count.{below-more, below-none}
-use lib.ListN.{length, getD, set, length-set, replicate}
+use mathlib.Core.Path.{sym, _∙_}
+use Prim.Native.Nat.{_-_}
 use borrow.Author.Needs.{needs}
 use Rattle.table.proofs.read_book.Statement.{statement}
 use Rattle.table.proofs.read_book.Tie as tie
-use Rattle.table.proofs.read_book.Reads as reads
-use Rattle.table.proofs.read_book.Lts as lts
-use Rattle.table.proofs.read_blocks.Reads as read-blocks-reads
-use Rattle.table.proofs.read_head.Reads as read-head-reads
 
 read-head-requires : tie.Need-read-head-requires
 read-head-requires c κs = search needs

@@ -1,19 +1,12 @@
+-- `table::read_cleared` meets its contract. Assumes nothing.
 use Rattle.table.proofs.IntoLaws.{too-long, no-grammar, with-grammar, grammar-refused, grammar-read, rules-laid, blank-now, fills-alike}
 use Rattle.table.specs.Memory.{denied}
-use denote.Ref.{now}
-use mathlib.Core.Path.{_≡_, refl, sym, ap, subst, _∙_}
-use mathlib.Core.Logic.{⊎-elim}
-use Prim.Native.Nat.{ℕ, zero, suc, _+_, _*_, _≤_, _<_, _-_}
+use mathlib.Core.Path.{refl}
+use Prim.Native.Nat.{_-_}
 use native.Mathlib.Omega.{arith}
-use borrow.Author.Count.{below-more, below-none}
-use lib.ListN.{length, getD, set, length-set, replicate}
 use borrow.Author.Needs.{needs}
 use Rattle.table.proofs.read_cleared.Statement.{statement}
 use Rattle.table.proofs.read_cleared.Tie as tie
-use Rattle.table.proofs.read_cleared.Reads as reads
-use Rattle.table.proofs.read_cleared.Lts as lts
-use Rattle.grammar.proofs.read_grammar.Reads as read-grammar-reads
-use Rattle.table.proofs.read_book.Reads as read-book-reads
 
 returns : tie.Need-returns
 returns c = rw (too-long _ _ (c .if1 .taken)) denied

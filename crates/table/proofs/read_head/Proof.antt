@@ -1,22 +1,16 @@
+-- `table::read_head` meets its contract. Assumes nothing.
 use Rattle.table.specs.Book.{headOf}
 use Rattle.table_lines.proofs.HeldLaws.{Whole, whole-read, broken-read, held-count, held-at}
 use Rattle.table_lines.specs.Line.{lineAt}
 use borrow.Author.Tests.{eq-eqb, ne-eqb, not-true, not-false}
 use denote.Ref.{now}
-use mathlib.Core.Path.{_≡_, refl, sym, ap, subst, _∙_}
-use mathlib.Core.Logic.{⊎-elim}
-use Prim.Native.Nat.{ℕ, zero, suc, _+_, _*_, _≤_, _<_, _-_}
+use mathlib.Core.Path.{sym, _∙_}
+use Prim.Native.Nat.{_-_}
 use native.Mathlib.Omega.{arith}
-use borrow.Author.Count.{below-more, below-none}
-use lib.ListN.{length, getD, set, length-set, replicate}
+use lib.ListN.{length, replicate}
 use borrow.Author.Needs.{needs}
 use Rattle.table.proofs.read_head.Statement.{statement}
 use Rattle.table.proofs.read_head.Tie as tie
-use Rattle.table.proofs.read_head.Reads as reads
-use Rattle.table.proofs.read_head.Lts as lts
-use Rattle.range.proofs.in_range.Reads as in-range-reads
-use Rattle.table.proofs.refuse_head.Reads as refuse-head-reads
-use Rattle.table_lines.proofs.read_line.Reads as read-line-reads
 
 -- the line that was read
 line-read : (c : tie.After-known-told) → let g = c .before .letter .given .0 in

@@ -1,29 +1,24 @@
+-- `table::read_into` meets its contract. Assumes nothing.
 use Rattle.table.proofs.IntoLaws.{holds-alike, fills-refused, fills-read, holds-zero}
 use Rattle.grammar.proofs.IntoLaws.{zeros-again}
-use mathlib.Core.List.{List}
 use denote.Ref.{now}
-use mathlib.Core.Path.{_≡_, refl, sym, ap, subst, _∙_}
-use mathlib.Core.Logic.{⊎-elim}
-use Prim.Native.Nat.{ℕ, zero, suc, _+_, _*_, _≤_, _<_, _-_}
+use mathlib.Core.Path.{ap, _∙_}
+use Prim.Native.Nat.{ℕ, _-_}
 use native.Mathlib.Omega.{arith}
-use borrow.Author.Count.{below-more, below-none}
-use lib.ListN.{length, getD, set, length-set, replicate}
+use lib.ListN.{length, replicate}
 use borrow.Author.Needs.{needs}
 use Rattle.table.proofs.read_into.Statement.{statement}
 use Rattle.table.proofs.read_into.Tie as tie
-use Rattle.table.proofs.read_into.Reads as reads
-use Rattle.table.proofs.read_into.Lts as lts
-use Rattle.table.proofs.clear_all.Reads as clear-all-reads
-use Rattle.table.proofs.read_cleared.Reads as read-cleared-reads
 
 clear-all-requires : tie.Need-clear-all-requires
 clear-all-requires c κs = search needs
 
 read-cleared-requires : tie.Need-read-cleared-requires
 read-cleared-requires c κs = let p = c .before .before .before .before .before .before .before .before .before .before .before .before .before .before .before .before .before .before .before .before .before .before .before .before .before .before .before .before .before .before .before .before .before .before .before .before .before .before .before .before .before .before .before .pre in
+    let a = c .before .before .before .before .before .before .before .before .before .before .before .before .before .before .before .before .before .before .before .before .before .before .before .before .before .before .before .before .before .before .before .before .before .before .before .before .before .before .before .before .before .before .before .args in
     record
-    { items-none = zeros-again _ (c .before .before .before .before .before .before .before .before .before .before .before .before .before .before .before .before .before .before .before .before .before .before .before .before .clear-all .ensures .0)
-    ; cleared = record { states-none = zeros-again _ (c .before .before .before .before .before .before .before .before .before .before .before .before .before .before .before .before .before .before .before .before .before .before .before .before .clear-all .ensures .1 .0); kernels-none = zeros-again _ (c .before .before .before .before .before .before .before .before .before .before .before .before .before .before .before .before .before .before .before .before .before .before .before .before .clear-all .ensures .1 .1 .0); lookaheads-none = zeros-again _ (c .before .before .before .before .before .before .before .before .before .before .before .before .before .before .before .before .before .before .before .before .before .before .before .before .clear-all .ensures .1 .1 .1 .0); kinds-none = zeros-again _ (c .before .before .before .before .before .before .before .before .before .before .before .before .before .before .before .before .before .before .before .before .before .before .before .before .clear-all .ensures .1 .1 .1 .1 .0); values-none = zeros-again _ (c .before .before .before .before .before .before .before .before .before .before .before .before .before .before .before .before .before .before .before .before .before .before .before .before .clear-all .ensures .1 .1 .1 .1 .1 .0); gotos-none = zeros-again _ (c .before .before .before .before .before .before .before .before .before .before .before .before .before .before .before .before .before .before .before .before .before .before .before .before .clear-all .ensures .1 .1 .1 .1 .1 .1 .0); named-none = zeros-again _ (c .before .before .before .before .before .before .before .before .before .before .before .before .before .before .before .before .before .before .before .before .before .before .before .before .clear-all .ensures .1 .1 .1 .1 .1 .1 .1) }
+    { items-none = zeros-again (length (a .items .now)) (c .before .before .before .before .before .before .before .before .before .before .before .before .before .before .before .before .before .before .before .before .before .before .before .before .clear-all .ensures .0)
+    ; cleared = record { states-none = zeros-again (length (a .entry-states .now)) (c .before .before .before .before .before .before .before .before .before .before .before .before .before .before .before .before .before .before .before .before .before .before .before .before .clear-all .ensures .1 .0); kernels-none = zeros-again (length (a .kernels .now)) (c .before .before .before .before .before .before .before .before .before .before .before .before .before .before .before .before .before .before .before .before .before .before .before .before .clear-all .ensures .1 .1 .0); lookaheads-none = zeros-again (length (a .lookaheads .now)) (c .before .before .before .before .before .before .before .before .before .before .before .before .before .before .before .before .before .before .before .before .before .before .before .before .clear-all .ensures .1 .1 .1 .0); kinds-none = zeros-again (length (a .kinds .now)) (c .before .before .before .before .before .before .before .before .before .before .before .before .before .before .before .before .before .before .before .before .before .before .before .before .clear-all .ensures .1 .1 .1 .1 .0); values-none = zeros-again (length (a .values .now)) (c .before .before .before .before .before .before .before .before .before .before .before .before .before .before .before .before .before .before .before .before .before .before .before .before .clear-all .ensures .1 .1 .1 .1 .1 .0); gotos-none = zeros-again (length (a .gotos .now)) (c .before .before .before .before .before .before .before .before .before .before .before .before .before .before .before .before .before .before .before .before .before .before .before .before .clear-all .ensures .1 .1 .1 .1 .1 .1 .0); named-none = zeros-again (length (a .named .now)) (c .before .before .before .before .before .before .before .before .before .before .before .before .before .before .before .before .before .before .before .before .before .before .before .before .clear-all .ensures .1 .1 .1 .1 .1 .1 .1) }
     ; room = record
         { items-room = omega (arith, p .items-room, c .before .before .before .before .before .before .before .before .before .before .before .before .before .before .before .before .before .before .before .before .before .before .before .before .clear-all .kept .0)
         ; kinds-room = omega (arith, p .kinds-room, c .before .before .before .before .before .before .before .before .before .before .before .before .before .before .before .before .before .before .before .before .before .before .before .before .clear-all .kept .1 .1 .1 .1 .0)

@@ -1,15 +1,11 @@
-use mathlib.Core.Path.{_≡_, refl, sym, ap, subst, _∙_}
-use mathlib.Core.Logic.{⊎-elim}
-use Prim.Native.Nat.{ℕ, zero, suc, _+_, _*_, _≤_, _<_, _-_}
-use native.Mathlib.Omega.{arith}
-use borrow.Author.Count.{below-more, below-none}
-use lib.ListN.{length, getD, set, length-set, replicate}
+-- `table::read_short` meets its contract. Assumes nothing.
+use Rattle.table.proofs.IntoLaws.{short-read, short-refused}
+use Rattle.table.specs.Book.{tablesOf}
+use denote.Ref.{now}
+use Prim.Native.Nat.{_-_}
 use borrow.Author.Needs.{needs}
 use Rattle.table.proofs.read_short.Statement.{statement}
 use Rattle.table.proofs.read_short.Tie as tie
-use Rattle.table.proofs.read_short.Reads as reads
-use Rattle.table.proofs.read_short.Lts as lts
-use Rattle.table.proofs.read_into.Reads as read-into-reads
 
 slice-aggregate-read-into : tie.Need-slice-aggregate-read-into
 slice-aggregate-read-into c = search needs
@@ -45,10 +41,10 @@ enum-told : tie.Need-enum-told
 enum-told c = search needs
 
 returns : tie.Need-returns
-returns c = ?
+returns c = let a = c .before .before .before .before .before .before .before .before .before .before .before .before .before .before .before .before .before .before .before .before .before .args in short-read (tablesOf (now (a .grammar)) (now (a .book))) (c .before .before .before .before .before .before .before .before .before .before .read-into .ensures .0) (c .enum-told .given .1)
 
 returns-2 : tie.Need-returns-2
-returns-2 c = ?
+returns-2 c = let a = c .before .before .before .before .before .before .before .before .before .before .before .before .before .before .before .before .before .before .before .before .before .before .args in short-refused (tablesOf (now (a .grammar)) (now (a .book))) (c .before .before .before .before .before .before .before .before .before .before .before .read-into .ensures .0) (c .before .answer .given .1)
 
 pub read-short-spec : {M : Type 1} → statement M
 read-short-spec =

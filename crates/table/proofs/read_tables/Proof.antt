@@ -1,18 +1,13 @@
-use mathlib.Core.Path.{_≡_, refl, sym, ap, subst, _∙_}
-use mathlib.Core.Logic.{⊎-elim}
-use Prim.Native.Nat.{ℕ, zero, suc, _+_, _*_, _≤_, _<_, _-_}
-use native.Mathlib.Omega.{arith}
-use borrow.Author.Count.{below-more, below-none}
-use lib.ListN.{length, getD, set, length-set, replicate}
+-- `table::read_tables` meets its contract. Assumes nothing.
+use Rattle.table.proofs.IntoLaws.{short-holds, room-holds, room-tells}
+use Rattle.table.specs.Book.{tablesOf}
+use borrow.Author.Tests.{not-true, not-false}
+use denote.Ref.{now}
+use mathlib.Core.Path.{sym, _∙_}
+use Prim.Native.Nat.{_-_}
 use borrow.Author.Needs.{needs}
 use Rattle.table.proofs.read_tables.Statement.{statement}
 use Rattle.table.proofs.read_tables.Tie as tie
-use Rattle.table.proofs.read_tables.Reads as reads
-use Rattle.table.proofs.read_tables.Lts as lts
-use Rattle.table.proofs.clear_all.Reads as clear-all-reads
-use Rattle.table.proofs.has_room.Reads as has-room-reads
-use Rattle.table.proofs.read_into.Reads as read-into-reads
-use Rattle.table.proofs.read_short.Reads as read-short-reads
 
 has-room-requires : tie.Need-has-room-requires
 has-room-requires c κs = search needs
@@ -48,10 +43,11 @@ same-length-8 : tie.Need-same-length-8
 same-length-8 c = search needs
 
 returns : tie.Need-returns
-returns c = ?
+returns c = let a = c .before .before .before .before .before .before .before .before .before .before .before .before .before .before .before .before .before .before .before .before .before .before .before .before .before .before .before .before .before .before .before .before .before .before .before .before .before .before .args in
+    short-holds (tablesOf (now (a .grammar)) (now (a .book))) (sym (c .before .before .before .before .before .before .before .before .before .before .before .before .before .before .before .before .before .before .before .before .before .before .before .before .before .before .before .has-room .ensures) ∙ not-true _ (c .before .before .before .before .before .before .before .before .before .before .before .before .before .before .before .before .before .before .before .before .before .before .before .before .before .before .if1 .taken)) (c .read-short .ensures) (record { items-zero = c .before .before .before .before .before .before .before .before .before .before .before .before .before .before .before .before .before .clear-all .ensures .0; states-zero = c .before .before .before .before .before .before .before .before .before .before .before .before .before .before .before .before .before .clear-all .ensures .1 .0; kernels-zero = c .before .before .before .before .before .before .before .before .before .before .before .before .before .before .before .before .before .clear-all .ensures .1 .1 .0; lookaheads-zero = c .before .before .before .before .before .before .before .before .before .before .before .before .before .before .before .before .before .clear-all .ensures .1 .1 .1 .0; kinds-zero = c .before .before .before .before .before .before .before .before .before .before .before .before .before .before .before .before .before .clear-all .ensures .1 .1 .1 .1 .0; values-zero = c .before .before .before .before .before .before .before .before .before .before .before .before .before .before .before .before .before .clear-all .ensures .1 .1 .1 .1 .1 .0; gotos-zero = c .before .before .before .before .before .before .before .before .before .before .before .before .before .before .before .before .before .clear-all .ensures .1 .1 .1 .1 .1 .1 .0; named-zero = c .before .before .before .before .before .before .before .before .before .before .before .before .before .before .before .before .before .clear-all .ensures .1 .1 .1 .1 .1 .1 .1 })
 
 read-into-requires : tie.Need-read-into-requires
-read-into-requires c κs = search needs
+read-into-requires c κs = room-tells _ (sym (c .before .before .before .before .before .before .before .before .before .has-room .ensures) ∙ not-false _ (c .before .before .before .before .before .before .before .before .if1 .left))
 
 same-length-9 : tie.Need-same-length-9
 same-length-9 c = search needs
@@ -78,7 +74,8 @@ same-length-16 : tie.Need-same-length-16
 same-length-16 c = search needs
 
 returns-2 : tie.Need-returns-2
-returns-2 c = ?
+returns-2 c = let a = c .before .before .before .before .before .before .before .before .before .before .before .before .before .before .before .before .before .before .before .before .before .before .before .before .before .before .before .before .before .before .before .before .before .before .before .before .before .args in
+    room-holds (tablesOf (now (a .grammar)) (now (a .book))) (sym (c .before .before .before .before .before .before .before .before .before .before .before .before .before .before .before .before .before .before .before .before .before .before .before .before .before .before .has-room .ensures) ∙ not-false _ (c .before .before .before .before .before .before .before .before .before .before .before .before .before .before .before .before .before .before .before .before .before .before .before .before .before .if1 .left)) (c .before .before .before .before .before .before .before .before .before .before .before .before .before .before .before .before .read-into .ensures)
 
 pub read-tables-spec : {M : Type 1} → statement M
 read-tables-spec =
