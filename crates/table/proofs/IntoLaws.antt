@@ -1,0 +1,164 @@
+-- Both books: what comes of them, and what the slices hold.
+use Prim.Native.Nat.{ℕ, _≤_, _<_}
+use mathlib.Core.Path.{_≡_, refl, sym, ap, subst, _∙_}
+use mathlib.Core.List.{List}
+use mathlib.Core.Bool.{Bool, true, false, cond, _&&_}
+use native.Mathlib.Omega.{arith}
+use borrow.Author.Tests.{lt-ltb, le-ltb, leb-true}
+use lib.Dec.{leb}
+use lib.ListN.{length, replicate}
+use Rattle.language.specs.Grammar.{Grammar}
+use Rattle.reply.specs.declared.Kind.the-variants as kind
+use Rattle.reply.specs.declared.Refusal.{Refusal}
+use Rattle.header.specs.declared.Heading.{Heading}
+use Rattle.items.specs.Layout.{layout}
+use Rattle.grammar.specs.declared.GrammarReply.{GrammarReply}
+use Rattle.grammar.specs.declared.GrammarReply.the-variants as grammar-reply
+use Rattle.grammar.specs.Book as grammar
+use Rattle.grammar.specs.Memory as grammar-memory
+use Rattle.grammar.proofs.IntoLaws.{is-accepted, is-rejected, long-enough}
+use Rattle.grammar.proofs.GrammarLaws.{accepted-reduced}
+use Rattle.table_lines.proofs.ListLaws.{both-true}
+use Rattle.table.specs.declared.TableReply.{TableReply}
+use Rattle.table.specs.declared.TableReply.the-variants as reply
+use Rattle.table.specs.declared.Counts.{Counts}
+use Rattle.table.specs.Book.{Reading, whole, rejected, rejectedAt, tableOf, tablesOf, readOf}
+use Rattle.table.specs.Memory.{replyOf, Slices, slices, roomFor, hasRoom, Roomy, Zero, Cleared, Wiped, Blank, Holds, Fills, filled-with, denied}
+
+module _ (gs s : List ℕ) where
+  pub too-long : 65536 < length s → tablesOf gs s ≡ rejectedAt kind.LimitExceeded 0
+  unfolding tablesOf
+  too-long h = simp (lt-ltb 65536 (length s) h)
+
+  module _ (h : length s ≤ 65536) where
+    pub no-grammar : {why : Refusal} → grammar.grammarOf gs ≡ grammar.rejected why → tablesOf gs s ≡ rejected why
+    unfolding tablesOf
+    no-grammar e = simp (le-ltb 65536 (length s) h, e)
+
+    pub with-grammar : {g : Grammar} → grammar.grammarOf gs ≡ grammar.accepted g → tablesOf gs s ≡ tableOf g s
+    unfolding tablesOf
+    with-grammar e = simp (le-ltb 65536 (length s) h, e)
+
+-- ---- the grammar reader's answer, for a slice with room
+module _ (gs : List ℕ) (size : ℕ) (room : 16640 ≤ size) {r : GrammarReply} (e : r ≡ grammar-memory.replyOf (grammar-memory.readOf gs size)) where
+  enough : grammar-memory.readOf gs size ≡ grammar.grammarOf gs
+  enough = long-enough gs size (omega arith)
+
+  pub grammar-refused : {why : Refusal} → r ≡ grammar-reply.Refused why → grammar.grammarOf gs ≡ grammar.rejected why
+  grammar-refused q = sym enough ∙ is-rejected (grammar-memory.readOf gs size) (sym e ∙ q)
+
+  pub grammar-read : {h : Heading} → r ≡ grammar-reply.Read h → (g : Grammar) × (grammar.grammarOf gs ≡ grammar.accepted g) × (h ≡ grammar-memory.headingOf g)
+  grammar-read q = let a = is-accepted (grammar-memory.readOf gs size) (sym e ∙ q) in (a .0, sym enough ∙ a .1, a .2)
+
+  -- the rules are then in memory
+  pub rules-laid : {g : Grammar} {m : List ℕ} → grammar.grammarOf gs ≡ grammar.accepted g → m ≡ grammar-memory.memoryOf (grammar-memory.readOf gs size) size → length m ≡ size
+      → m ≡ layout g (length m)
+  rules-laid {g} {m} a i l = i ∙ (ap (λ (b : grammar.Book). grammar-memory.memoryOf b size) (enough ∙ a) ∙ ap (layout g) (sym l))
+
+pub blank-now : (gs : List ℕ) {g : Grammar} {i j st ks ls c v o n : List ℕ} → grammar.grammarOf gs ≡ grammar.accepted g → Wiped (slices i st ks ls c v o n)
+    → j ≡ layout g (length j) → length j ≡ length i → Blank g (slices j st ks ls c v o n)
+blank-now gs {g} a w e l = record
+    { formed = accepted-reduced gs g a .formed
+    ; items-are = e
+    ; cleared = record
+        { states-none = w .cleared .states-none
+        ; kernels-none = w .cleared .kernels-none
+        ; lookaheads-none = w .cleared .lookaheads-none
+        ; kinds-none = w .cleared .kinds-none
+        ; values-none = w .cleared .values-none
+        ; gotos-none = w .cleared .gotos-none
+        ; named-none = w .cleared .named-none }
+    ; room = record { items-room = omega (arith, w .room .items-room, l); kinds-room = w .room .kinds-room; gotos-room = w .room .gotos-room } }
+
+-- ---- slices of the same lengths
+pub record Alike (b c : Slices) : Type 0 where
+  pub items-same : length (b .items) ≡ length (c .items)
+  pub states-same : length (b .states) ≡ length (c .states)
+  pub kernels-same : length (b .kernels) ≡ length (c .kernels)
+  pub lookaheads-same : length (b .lookaheads) ≡ length (c .lookaheads)
+  pub kinds-same : length (b .kinds) ≡ length (c .kinds)
+  pub values-same : length (b .values) ≡ length (c .values)
+  pub gotos-same : length (b .gotos) ≡ length (c .gotos)
+  pub named-same : length (b .named) ≡ length (c .named)
+
+pub holds-alike : {x : Reading} {b c a : Slices} → Alike b c → Holds x b a → Holds x c a
+holds-alike s h = record
+    { items-are = rw (← s .items-same) (h .items-are)
+    ; states-are = rw (← s .states-same) (h .states-are)
+    ; kernels-are = rw (← s .kernels-same) (h .kernels-are)
+    ; lookaheads-are = rw (← s .lookaheads-same) (h .lookaheads-are)
+    ; kinds-are = rw (← s .kinds-same) (h .kinds-are)
+    ; values-are = rw (← s .values-same) (h .values-are)
+    ; gotos-are = rw (← s .gotos-same) (h .gotos-are)
+    ; named-are = rw (← s .named-same) (h .named-are) }
+
+pub fills-alike : {b c a : Slices} {x : Reading} {r : TableReply} → Alike b c → Fills b a x r → Fills c a x r
+fills-alike s (filled-with h) = filled-with (holds-alike s h)
+fills-alike s denied = denied
+
+-- ---- the answer
+pub fills-refused : {b a : Slices} {x : Reading} {r : TableReply} {why : Refusal} → Fills b a x r → r ≡ reply.Refused why → x ≡ rejected why
+fills-refused (filled-with h) e = let z : _≡_ {A = ℕ} 0 1 = cc in absurd (omega arith)
+fills-refused {why = why} (denied {why = v}) e = let q : v ≡ why = cc in ap rejected q
+
+pub fills-read : {b a : Slices} {x : Reading} {r : TableReply} {k : Counts} → Fills b a x r → r ≡ reply.Read k → (r ≡ replyOf x) × Holds x b a
+fills-read (filled-with h) e = (refl, h)
+fills-read denied e = let z : _≡_ {A = ℕ} 0 1 = cc in absurd (omega arith)
+
+-- a refusal, with every slice zeros
+pub record AllZero (b a : Slices) : Type 0 where
+  pub items-zero : a .items ≡ replicate (length (b .items)) 0
+  pub states-zero : a .states ≡ replicate (length (b .states)) 0
+  pub kernels-zero : a .kernels ≡ replicate (length (b .kernels)) 0
+  pub lookaheads-zero : a .lookaheads ≡ replicate (length (b .lookaheads)) 0
+  pub kinds-zero : a .kinds ≡ replicate (length (b .kinds)) 0
+  pub values-zero : a .values ≡ replicate (length (b .values)) 0
+  pub gotos-zero : a .gotos ≡ replicate (length (b .gotos)) 0
+  pub named-zero : a .named ≡ replicate (length (b .named)) 0
+
+pub holds-zero : {x : Reading} {b a : Slices} {why : Refusal} → x ≡ rejected why → AllZero b a → (reply.Refused why ≡ replyOf x) × Holds x b a
+holds-zero e z = rw e (refl, record
+    { items-are = z .items-zero; states-are = z .states-zero; kernels-are = z .kernels-zero; lookaheads-are = z .lookaheads-zero
+    ; kinds-are = z .kinds-zero; values-are = z .values-zero; gotos-are = z .gotos-zero; named-are = z .named-zero })
+
+-- ---- slices too short, or not
+pub short-read : (x : Reading) {k : Counts} {r : TableReply} → r ≡ replyOf x → r ≡ reply.Read k → reply.Refused (record { kind = kind.BufferTooSmall; place = 0 }) ≡ replyOf (readOf false x)
+short-read x {k} {r} e q = go x (sym e ∙ q)
+  where
+    go : (x : Reading) → replyOf x ≡ reply.Read k → reply.Refused (record { kind = kind.BufferTooSmall; place = 0 }) ≡ replyOf (readOf false x)
+    go (whole g t) p = refl
+    go (rejected why) p = let z : _≡_ {A = ℕ} 0 1 = cc in absurd (omega arith)
+
+pub short-refused : (x : Reading) {why : Refusal} {r : TableReply} → r ≡ replyOf x → r ≡ reply.Refused why → reply.Refused why ≡ replyOf (readOf false x)
+short-refused x {why} {r} e q = go x (sym e ∙ q)
+  where
+    go : (x : Reading) → replyOf x ≡ reply.Refused why → reply.Refused why ≡ replyOf (readOf false x)
+    go (whole g t) p = let z : _≡_ {A = ℕ} 0 1 = cc in absurd (omega arith)
+    go (rejected v) p = sym p
+
+short-rejected : (x : Reading) → (why : Refusal) × (readOf false x ≡ rejected why)
+short-rejected (whole g t) = (record { kind = kind.BufferTooSmall; place = 0 }, refl)
+short-rejected (rejected why) = (why, refl)
+
+pub short-holds : (x : Reading) {b a : Slices} {r : TableReply} → hasRoom b ≡ false → r ≡ replyOf (readOf false x) → AllZero b a
+    → (r ≡ replyOf (readOf (hasRoom b) x)) × Holds (readOf (hasRoom b) x) b a
+short-holds x e q z = rw e (q, holds-zero (short-rejected x .1) z .1)
+
+pub room-holds : (x : Reading) {b a : Slices} {r : TableReply} → hasRoom b ≡ true → (r ≡ replyOf x) × Holds x b a → (r ≡ replyOf (readOf (hasRoom b) x)) × Holds (readOf (hasRoom b) x) b a
+room-holds x {b} {a} {r} e h = rw (e, same x) h
+  where
+    same : (x : Reading) → readOf true x ≡ x
+    same (whole g t) = refl
+    same (rejected why) = refl
+
+pub room-tells : (b : Slices) → hasRoom b ≡ true → Roomy b
+unfolding roomFor
+room-tells b e =
+    let a = both-true (leb 16640 (length (b .items))) _ e in
+    let s = both-true (leb 128 (length (b .states))) _ (a .1) in
+    let k = both-true (leb 4096 (length (b .kernels))) _ (s .1) in
+    let l = both-true (leb 65536 (length (b .lookaheads))) _ (k .1) in
+    let c = both-true (leb 16640 (length (b .kinds))) _ (l .1) in
+    let v = both-true (leb 16640 (length (b .values))) _ (c .1) in
+    let g = both-true (leb 16640 (length (b .gotos))) _ (v .1) in
+    record { items-room = leb-true 16640 (length (b .items)) (a .0); kinds-room = leb-true 16640 (length (b .kinds)) (c .0); gotos-room = leb-true 16640 (length (b .gotos)) (g .0) }

@@ -1,0 +1,5 @@
+pub mod LengthLaws
+pub mod BlankLaws
+pub mod ReadLaws
+pub mod BlocksLaws
+pub mod IntoLaws

@@ -1,0 +1,4 @@
+pub mod CellLaws
+pub mod LetterLaws
+pub mod MemoryLaws
+pub mod NextLaws

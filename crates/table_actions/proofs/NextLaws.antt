@@ -1,0 +1,104 @@
+-- What comes of a place where an action line may stand; and what a line that is taken tells.
+use Prim.Native.Nat.{ℕ, zero, suc, _+_, _≤_, _<_}
+use mathlib.Core.Path.{_≡_, refl, sym, ap, _∙_}
+use mathlib.Core.List.{List, [], _∷_}
+use mathlib.Core.Bool.{Bool, true, false, cond, _&&_}
+use mathlib.Core.Option.{Option, some, none}
+use native.Mathlib.Omega.{arith}
+use borrow.Author.Tests.{leb-true, eqb-true, le-leb, lt-leb}
+use lib.Dec.{leb, eqb}
+use lib.ListN.{length, getD}
+use Rattle.range.specs.Range.{within}
+use Rattle.range.proofs.RangeLaws.{within-true}
+use Rattle.reply.specs.declared.Kind.{Kind}
+use Rattle.reply.specs.declared.Kind.the-variants as kind
+use Rattle.symbol.specs.Symbol.{isTerminal, isNonterminal}
+use Rattle.leftcorner.specs.Table.{Action, S, N, A, P, ActionLine, L, actionFor}
+use Rattle.table_lines.specs.declared.Judgement.the-variants.{Fine, Faulty}
+use Rattle.table_lines.specs.Line.{TextLine, whole, broken, lineAt, allAtMost}
+use Rattle.table_lines.specs.Block.{Outcome, takes, stops, fault}
+use Rattle.table_lines.proofs.BlockLaws.{judge-fine}
+use Rattle.table_lines.proofs.ListLaws.{both-true}
+use Rattle.table_actions.specs.Actions.{isAction, actionOf, actionDeclared, isNone, judgeAction, actionNext}
+use Rattle.table_actions.specs.Memory.{Formed}
+
+module _ (s : List ℕ) (t n rules states at : ℕ) (l : List ActionLine) where
+  pub action-end : length s ≤ at → actionNext s t n rules states at l ≡ stops
+  unfolding actionNext
+  action-end h = simp (le-leb (length s) at h)
+
+  module _ (h : at < length s) where
+    pub action-broken : lineAt s at ≡ broken → actionNext s t n rules states at l ≡ fault kind.Malformed at
+    unfolding actionNext
+    action-broken e = simp (lt-leb (length s) at h, e)
+
+    module _ {letter : ℕ} {ns : List ℕ} {next : ℕ} (e : lineAt s at ≡ whole letter ns next) where
+      pub action-faulty : {why : Kind} → judgeAction t n rules states l letter ns ≡ Faulty why → actionNext s t n rules states at l ≡ fault why at
+      unfolding actionNext
+      action-faulty j = simp (lt-leb (length s) at h, e, j)
+
+      pub action-taken : judgeAction t n rules states l letter ns ≡ Fine
+          → actionNext s t n rules states at l ≡ takes (L (getD ns 0 0) (getD ns 1 0) (actionOf letter (getD ns 2 0))) next
+      unfolding actionNext
+      action-taken j = simp (lt-leb (length s) at h, e, j)
+
+-- ---- a line that is fine
+pub record ActionFine (t n rules states : ℕ) (l : List ActionLine) (letter : ℕ) (ns : List ℕ) : Type 0 where
+  pub three : length ns ≡ 3
+  pub new : actionFor l (getD ns 0 0) (getD ns 1 0) ≡ none
+  pub small : allAtMost 65535 ns ≡ true
+  pub state-in : (1 ≤ getD ns 0 0) × (getD ns 0 0 ≤ states)
+  pub declared : actionDeclared t n rules states letter (getD ns 1 0) (getD ns 2 0) ≡ true
+
+none-is : {B : Type 0} (o : Option B) → isNone o ≡ true → o ≡ none
+none-is none e = refl
+none-is (some x) e = let z : _≡_ {A = ℕ} 0 1 = cc in absurd (omega arith)
+
+pub action-fine : (t n rules states : ℕ) (l : List ActionLine) (letter : ℕ) (ns : List ℕ) → judgeAction t n rules states l letter ns ≡ Fine → ActionFine t n rules states l letter ns
+unfolding judgeAction
+action-fine t n rules states l letter ns e =
+    let j = judge-fine (isAction letter && (eqb (length ns) 3 && isNone (actionFor l (getD ns 0 0) (getD ns 1 0)))) (allAtMost 65535 ns)
+        (within 1 (getD ns 0 0) states && actionDeclared t n rules states letter (getD ns 1 0) (getD ns 2 0)) e in
+    let f = both-true (isAction letter) (eqb (length ns) 3 && isNone (actionFor l (getD ns 0 0) (getD ns 1 0))) (j .0) in
+    let g = both-true (eqb (length ns) 3) (isNone (actionFor l (getD ns 0 0) (getD ns 1 0))) (f .1) in
+    let d = both-true (within 1 (getD ns 0 0) states) (actionDeclared t n rules states letter (getD ns 1 0) (getD ns 2 0)) (j .2) in
+    record
+    { three = eqb-true (length ns) 3 (g .0)
+    ; new = none-is (actionFor l (getD ns 0 0) (getD ns 1 0)) (g .1)
+    ; small = j .1
+    ; state-in = within-true 1 (getD ns 0 0) states (d .0)
+    ; declared = d .1 }
+
+-- its line is formed
+module _ (t n rules states : ℕ) (few : t ≤ 63) (small : n ≤ 64) (short : rules ≤ 127) (low : states ≤ 255) where
+  formed : (letter q X v : ℕ) → 1 ≤ q → q ≤ states → v ≤ 65535 → actionDeclared t n rules states letter X v ≡ true → Formed (L q X (actionOf letter v))
+  unfolding actionDeclared actionOf
+  formed letter q X v a b m e = go (eqb letter 83) (eqb letter 78) (eqb letter 65) e
+    where
+      go : (x y z : Bool) → cond x (isTerminal t X && within 1 v states) (cond y (isNonterminal n X && within 1 v states) (cond z (leb X t && within 1 v rules) (leb X t))) ≡ true
+          → Formed (L q X (cond x (S v) (cond y (N v) (cond z (A v) (P v)))))
+      go true y z e =
+          let p = both-true (isTerminal t X) (within 1 v states) e in
+          let w = within-true 1 X t (p .0) in
+          let u = within-true 1 v states (p .1) in
+          (a, omega arith, omega (arith, w .1), u .0, omega (arith, u .1))
+      go false true z e =
+          let p = both-true (isNonterminal n X) (within 1 v states) e in
+          let w = within-true 64 X (63 + n) (p .0) in
+          let u = within-true 1 v states (p .1) in
+          (a, omega arith, (w .0, omega (arith, w .1)), u .0, omega (arith, u .1))
+      go false false true e =
+          let p = both-true (leb X t) (within 1 v rules) e in
+          let u = within-true 1 v rules (p .1) in
+          (a, omega arith, omega (arith, leb-true X t (p .0)), u .0, omega (arith, u .1))
+      go false false false e = (a, omega arith, omega (arith, leb-true X t e), omega arith, m)
+
+  pub fine-formed : {l : List ActionLine} {letter : ℕ} (ns : List ℕ) → ActionFine t n rules states l letter ns → Formed (L (getD ns 0 0) (getD ns 1 0) (actionOf letter (getD ns 2 0)))
+  fine-formed {letter = letter} ns f = formed letter (getD ns 0 0) (getD ns 1 0) (getD ns 2 0) (f .state-in .0) (f .state-in .1) (third ns (f .small)) (f .declared)
+    where
+      third : (ns : List ℕ) → allAtMost 65535 ns ≡ true → getD ns 2 0 ≤ 65535
+      third [] e = omega arith
+      third (x ∷ []) e = omega arith
+      third (x ∷ y ∷ []) e = omega arith
+      third (x ∷ y ∷ z ∷ l) e =
+          leb-true z 65535 (both-true (leb z 65535) (allAtMost 65535 l) (both-true (leb y 65535) (allAtMost 65535 (z ∷ l)) (both-true (leb x 65535) (allAtMost 65535 (y ∷ z ∷ l)) e .1) .1) .0)

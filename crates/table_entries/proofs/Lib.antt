@@ -1,0 +1,5 @@
+pub mod StringLaws
+pub mod RowLaws
+pub mod JudgeLaws
+pub mod MemoryLaws
+pub mod NextLaws

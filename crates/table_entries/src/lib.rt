@@ -1,0 +1,176 @@
+// Entry lines of table books, and their strings and states in memory.
+use range::in_range;
+use reply::Kind;
+use reply::Refusal;
+use symbol::Symbol;
+use table_lines::Block;
+use table_lines::Judgement;
+use table_lines::Line;
+use table_lines::Step;
+use table_lines::Tally;
+
+ghost use mathlib.Core.Path.{_≡_};
+ghost use mathlib.Core.List.{List, []};
+ghost use Prim.Native.Nat.{ℕ, _+_, _*_, _≤_, _<_};
+ghost use lib.ListN.{length, getD, take, drop, set};
+ghost use lib.Seq.{sets};
+ghost use Rattle.items.specs.Layout.{entryRow, EntryIn, Shaped};
+ghost use Rattle.leftcorner.specs.Table.{EntryLine, sameString, entryFrom};
+ghost use Rattle.table_lines.specs.Block.{Numbers, Held, Comes, Reads};
+ghost use Rattle.table_entries.specs.Entries.{allDeclared, judgeEntry, entryNext, entriesFrom};
+ghost use Rattle.table_entries.specs.Memory.{Rows, HoldsEntries, Empty, EntryMemory};
+
+// Whether item i's string is that of the numbers from the second on.
+fn same_string(m: &[u8], items: usize, i: usize, numbers: &[usize], count: usize) -> bool
+    requires { ⌜ Shaped (now m) items ⌝ }
+    requires { ⌜ i ≤ items ⌝ }
+    requires { ⌜ (1 ≤ count) × (length (now numbers) ≡ 67) ⌝ }
+    ensures { λ r. ⌜ ((γ ns : List ℕ) → EntryIn (now (m .entry)) i γ → Numbers ns count (now (numbers .entry)) → r ≡ sameString γ (drop 1 ns)) ⌝ }
+{
+    let len = items::length_of(m, items, i);
+    if len + 1 != count {
+        return false;
+    }
+    let mut k = 0;
+    while k < len {
+        if items::symbol_of(m, items, i, k) != numbers[k + 1] {
+            return false;
+        }
+        k += 1;
+    }
+    true
+}
+
+// The number of the entry whose string is that of the numbers from the second on, 0 where there is none. It looks at
+// each entry, of which there are at most 127.
+pub fn find_entry(m: &[u8], rules: usize, entries: usize, numbers: &[usize], count: usize) -> usize
+    requires { ⌜ Shaped (now m) (rules + entries) ⌝ }
+    requires { ⌜ (rules + entries < 256) × (1 ≤ count) × (length (now numbers) ≡ 67) ⌝ }
+    ensures { λ r. ⌜ ((l : List EntryLine) (ns : List ℕ) → length l ≡ entries → Rows (now (m .entry)) rules l → Numbers ns count (now (numbers .entry)) → r ≡ entryFrom 1 l (drop 1 ns)) ⌝ }
+{
+    let mut k = 0;
+    while k < entries {
+        if same_string(m, rules + entries, rules + k + 1, numbers, count) {
+            return k + 1;
+        }
+        k += 1;
+    }
+    0
+}
+
+// Whether each of the numbers from the second on is a terminal or a nonterminal.
+fn all_declared(t: usize, n: usize, numbers: &[usize], count: usize) -> bool
+    requires { ⌜ (n ≤ 64) × (1 ≤ count) × (count ≤ length (now numbers)) ⌝ }
+    ensures { λ r. ⌜ r ≡ allDeclared t n (drop 1 (take count (now (numbers .entry)))) ⌝ }
+{
+    let mut k = 1;
+    while k < count {
+        let symbol = Symbol { code: numbers[k] };
+        if !symbol.is_declared(t, n) {
+            return false;
+        }
+        k += 1;
+    }
+    true
+}
+
+fn judge_entry(t: usize, n: usize, states: usize, rules: usize, entries: usize, letter: u8, p: Tally, numbers: &[usize], m: &[u8]) -> Judgement
+    requires { ⌜ (n ≤ 64) × (rules + entries < 256) × (length (now numbers) ≡ 67) ⌝ }
+    requires { ⌜ Shaped (now m) (rules + entries) ⌝ }
+    ensures { λ r. ⌜ ((l : List EntryLine) (ns : List ℕ) → length l ≡ entries → Rows (now (m .entry)) rules l → Held ns p (now (numbers .entry)) → r ≡ judgeEntry t n states l letter ns) ⌝ }
+{
+    if letter != b'E' {
+        return Judgement::Faulty(Kind::Malformed);
+    }
+    if p.count < 2 {
+        return Judgement::Faulty(Kind::Malformed);
+    }
+    if find_entry(m, rules, entries, numbers, p.count) != 0 {
+        return Judgement::Faulty(Kind::Malformed);
+    }
+    if 65535 < p.largest {
+        return Judgement::Faulty(Kind::LimitExceeded);
+    }
+    if 16 < p.count {
+        return Judgement::Faulty(Kind::LimitExceeded);
+    }
+    if !in_range(1, numbers[0], states) {
+        return Judgement::Faulty(Kind::Undeclared);
+    }
+    if !all_declared(t, n, numbers, p.count) {
+        return Judgement::Faulty(Kind::Undeclared);
+    }
+    Judgement::Fine
+}
+
+// The row at `base`, all zeros so far, becomes that of the string of the numbers from the second on.
+fn store_row(items: &mut [u8], base: usize, numbers: &[usize], count: usize)
+    requires { ⌜ (1 ≤ count) × (count ≤ 16) × (length (now numbers) ≡ 67) × (base ≤ 16384) ⌝ }
+    requires { ⌜ ((k : ℕ) → k < count → getD (now numbers) k 0 < 256) ⌝ }
+    requires { ⌜ ((j : ℕ) → base ≤ j → j < base + 64 → getD (now items) j 0 ≡ 0) ⌝ }
+    ensures { λ r. ⌜ now (items .exit) ≡ sets (now (items .entry)) base (entryRow (drop 1 (take count (now (numbers .entry))))) ⌝ }
+{
+    let mut k = 0;
+    while k + 1 < count {
+        table_lines::put(items, base + 16 + k, numbers[k + 1]);
+        k += 1;
+    }
+    table_lines::put(items, base, 0);
+    table_lines::put(items, base + 1, k);
+    table_lines::put(items, base + 2, 255);
+    table_lines::put(items, base + 3, 0);
+}
+
+// The entry line at `at`, after so many others.
+fn read_entry(s: &[u8], at: usize, t: usize, n: usize, states: usize, rules: usize, entries: usize, items: &mut [u8], entry_states: &mut [u8], named: &mut [u8]) -> Step
+    requires { ⌜ (length (now s) < 65537) × (t ≤ 63) × (n ≤ 64) × (states ≤ 255) × (rules + entries < 254) ⌝ }
+    requires { ⌜ (rules + entries) * 64 + 128 ≤ length (now items) ⌝ }
+    requires { ⌜ Shaped (now items) (rules + entries) ⌝ }
+    requires { ⌜ Empty (now items) (rules + entries + 1) ⌝ }
+    requires { ⌜ HoldsEntries (now items) rules entries ⌝ }
+    ensures { λ r. ⌜ ((m : List ℕ) (a b : ℕ) (l : List EntryLine) → length l ≡ entries → EntryMemory m rules a b l (now (items .entry)) (now («entry_states» .entry)) (now (named .entry))
+        → Comes l (λ k. EntryMemory m rules a b k (now (items .exit)) (now («entry_states» .exit)) (now (named .exit))) (entryNext (now (s .entry)) t n states at l) r) ⌝ }
+{
+    let mut numbers = [0usize; 67];
+    let Line::Whole(letter, p, next) = table_lines::read_line(s, at, &mut numbers) else {
+        return Step::Refused(Refusal {
+            kind: Kind::Malformed,
+            place: at,
+        });
+    };
+    let judgement = judge_entry(t, n, states, rules, entries, letter, p, &numbers, items);
+    if let Judgement::Faulty(kind) = judgement {
+        return Step::Refused(Refusal { kind, place: at });
+    }
+    let state = numbers[0];
+    store_row(items, (rules + entries + 1) * 64, &numbers, p.count);
+    table_lines::put(entry_states, entries + 1, state);
+    table_lines::put(named, state, 1);
+    Step::Taken(next)
+}
+
+// `count` entry lines from `first` on.
+pub fn read_entries(s: &[u8], first: usize, t: usize, n: usize, states: usize, rules: usize, count: usize, items: &mut [u8], entry_states: &mut [u8], named: &mut [u8]) -> Block
+    requires { ⌜ (length (now s) < 65537) × (t ≤ 63) × (n ≤ 64) × (states ≤ 255) × (rules + count < 255) ⌝ }
+    requires { ⌜ (rules + count) * 64 + 64 ≤ length (now items) ⌝ }
+    requires { ⌜ EntryMemory (now items) rules (length (now «entry_states»)) (length (now named)) [] (now items) (now «entry_states») (now named) ⌝ }
+    ensures { λ r. ⌜ Reads (λ l. EntryMemory (now (items .entry)) rules (length (now («entry_states» .entry))) (length (now (named .entry))) l (now (items .exit)) (now («entry_states» .exit)) (now (named .exit))) (entriesFrom count (now (s .entry)) t n states first) r ⌝ }
+{
+    let mut at = first;
+    let mut k = 0;
+    while k < count {
+        match read_entry(s, at, t, n, states, rules, k, items, entry_states, named) {
+            Step::Taken(next) => {
+                at = next;
+                k += 1;
+            }
+            Step::Stopped => {
+                return Block::Read(k, at);
+            }
+            Step::Refused(why) => {
+                return Block::Refused(why);
+            }
+        }
+    }
+    Block::Read(k, at)
+}

@@ -1,0 +1,3 @@
+pub mod TripleLaws
+pub mod MemoryLaws
+pub mod NextLaws

@@ -1,0 +1,2 @@
+pub mod Kernels
+pub mod Memory

@@ -1,0 +1,6 @@
+pub mod TallyLaws
+pub mod LineLaws
+pub mod ImageLaws
+pub mod BlockLaws
+pub mod HeldLaws
+pub mod ListLaws

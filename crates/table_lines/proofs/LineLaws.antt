@@ -1,0 +1,93 @@
+-- How the numbers of a line go on.
+use Prim.Native.Nat.{ℕ, zero, suc, _+_, _-_, _≤_, _<_}
+use mathlib.Core.Path.{_≡_, refl, sym, ap, subst, _∙_}
+use mathlib.Core.List.{List, [], _∷_, _++_}
+use mathlib.Core.Bool.{Bool, true, false, cond}
+use native.Mathlib.Omega.{arith}
+use lib.ListN.{length, set}
+use lib.Seq.{sets}
+use Rattle.text.specs.declared.Cursor.{Cursor}
+use Rattle.text.specs.declared.Field.the-variants as field
+use Rattle.text.specs.Field.{fieldAt, onNumber, onLetter}
+use Rattle.items.proofs.StoreLaws.{sets-snoc}
+use Rattle.table_lines.specs.declared.Tally.{Tally}
+use Rattle.table_lines.specs.declared.Line.{Line}
+use Rattle.table_lines.specs.declared.Line.the-variants as line
+use Rattle.table_lines.specs.Line.{TextLine, whole, broken, numbersFrom, lineAt, Stores}
+use Rattle.table_lines.specs.Tally.{addNumber, tally, lineOf}
+use Rattle.table_lines.proofs.TallyLaws.{tally-none, tally-snoc, count-is}
+
+-- of `all` there is left what numbersFrom says of k, c and the numbers that p and memory m hold; m₀ is what it held at first
+pub record Going (all : TextLine) (s : List ℕ) (letter : ℕ) (m₀ : List ℕ) (k : ℕ) (c : Cursor) (p : Tally) (m : List ℕ) : Type 0 where
+  pub numbers : List ℕ
+  pub same : all ≡ numbersFrom k s letter c numbers
+  pub tally-is : p ≡ tally numbers
+  pub stored : m ≡ sets m₀ 0 numbers
+
+pub going-start : (s : List ℕ) (letter : ℕ) (m : List ℕ) (k : ℕ) (c : Cursor) (p : Tally) → p ≡ tally [] → Going (numbersFrom k s letter c []) s letter m k c p m
+going-start s letter m k c p e = record { numbers = []; same = refl; tally-is = e; stored = refl }
+
+abbrev pub Answers : TextLine → Line → List ℕ → List ℕ → Type 0
+Answers all r m₀ m = (r ≡ lineOf all) × Stores all m₀ m
+
+answers : {all : TextLine} (x : TextLine) (r : Line) (m₀ m : List ℕ) → all ≡ x → Answers x r m₀ m → Answers all r m₀ m
+answers x r m₀ m e a = subst (λ (y : TextLine). Answers y r m₀ m) (sym e) a
+
+module _ {all : TextLine} {s : List ℕ} {letter : ℕ} {m₀ : List ℕ} {k : ℕ} {c : Cursor} {p : Tally} {m : List ℕ} (g : Going all s letter m₀ k c p m) where
+  pub going-none : k ≤ 0 → Answers all line.Broken m₀ m
+  unfolding numbersFrom
+  going-none h = go k (g .same) h
+    where
+      go : (n : ℕ) → all ≡ numbersFrom n s letter c (g .numbers) → n ≤ 0 → Answers all line.Broken m₀ m
+      go zero e h = answers broken line.Broken m₀ m e (refl, tt)
+      go (suc n) e h = absurd (omega arith)
+
+  pub going-over : 0 < k → c .ended ≡ true → Answers all (line.Whole letter p (c .at)) m₀ m
+  unfolding numbersFrom
+  going-over h q = go k (g .same) h
+    where
+      go : (n : ℕ) → all ≡ numbersFrom n s letter c (g .numbers) → 0 < n → Answers all (line.Whole letter p (c .at)) m₀ m
+      go zero e h = absurd (omega arith)
+      go (suc n) e h = answers (whole letter (g .numbers) (c .at)) (line.Whole letter p (c .at)) m₀ m (e ∙ simp q) (ap (λ (t : Tally). line.Whole letter t (c .at)) (g .tally-is), g .stored)
+
+  module _ (h : 0 < k) (q : c .ended ≡ false) where
+    pub going-broken : ((x : ℕ → Cursor → TextLine) (y : TextLine) → onNumber (fieldAt s c) x y ≡ y) → Answers all line.Broken m₀ m
+    unfolding numbersFrom
+    going-broken o = go k (g .same) h
+      where
+        go : (n : ℕ) → all ≡ numbersFrom n s letter c (g .numbers) → 0 < n → Answers all line.Broken m₀ m
+        go zero e h = absurd (omega arith)
+        go (suc n) e h = answers broken line.Broken m₀ m (e ∙ simp (q, o)) (refl, tt)
+
+    pub going-on : {v : ℕ} {d : Cursor} → fieldAt s c ≡ field.Number v d → {r : Tally} {after : List ℕ} → r ≡ addNumber p v → after ≡ set m (p .count) v
+        → Going all s letter m₀ (k - 1) d r after
+    unfolding numbersFrom
+    going-on {v} {d} f {r} {after} e i =
+        record {
+          numbers = g .numbers ++ v ∷ [];
+          same = go k (g .same) h;
+          tally-is = e ∙ ap (λ (t : Tally). addNumber t v) (g .tally-is) ∙ tally-snoc (g .numbers) v;
+          stored = i ∙ (ap (λ (n : ℕ). set m n v) (ap (λ (t : Tally). t .count) (g .tally-is) ∙ count-is (g .numbers))
+              ∙ (ap (λ (l : List ℕ). set l (length (g .numbers)) v) (g .stored) ∙ (ap (λ (n : ℕ). set (sets m₀ 0 (g .numbers)) n v) (zero-plus (length (g .numbers))) ∙ sets-snoc m₀ (g .numbers) 0 v)));
+        }
+      where
+        zero-plus : (n : ℕ) → n ≡ 0 + n
+        zero-plus n = omega arith
+
+        one-less : (n : ℕ) → suc n - 1 ≡ n
+        one-less n = omega arith
+
+        go : (n : ℕ) → all ≡ numbersFrom n s letter c (g .numbers) → 0 < n → all ≡ numbersFrom (n - 1) s letter d (g .numbers ++ v ∷ [])
+        go zero e h = absurd (omega arith)
+        go (suc n) e h = e ∙ simp (q, f, one-less n)
+
+-- ---- a whole line
+module _ (s : List ℕ) (at : ℕ) (m₀ m : List ℕ) where
+  pub line-none : ((x : ℕ → Cursor → TextLine) (y : TextLine) → onLetter (fieldAt s (record { at = at; ended = false })) x y ≡ y) → Answers (lineAt s at) line.Broken m₀ m
+  unfolding lineAt
+  line-none o = answers {all = lineAt s at} broken line.Broken m₀ m (simp o) (refl, tt)
+
+  pub line-letter : {letter : ℕ} {c : Cursor} {r : Line} → fieldAt s (record { at = at; ended = false }) ≡ field.Letter letter c
+      → Answers (numbersFrom (length s) s letter c []) r m₀ m → Answers (lineAt s at) r m₀ m
+  unfolding lineAt
+  line-letter {letter} {c} {r} e a = answers {all = lineAt s at} (numbersFrom (length s) s letter c []) r m₀ m (simp e) a

@@ -1,0 +1,4 @@
+pub mod Line
+pub mod Tally
+pub mod Image
+pub mod Block

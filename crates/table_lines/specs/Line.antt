@@ -1,0 +1,51 @@
+-- A line of a table book: a letter, then numbers. Document 01, 'Books': "A book is ASCII lines, each ended by LF, its fields in
+-- fixed order parted by commas". No line of a table book has a mark.
+use Prim.Native.Nat.{ℕ, zero, suc}
+use mathlib.Core.Path.{_≡_}
+use mathlib.Core.List.{List, [], _∷_, _++_}
+use mathlib.Core.Bool.{Bool, true, false, cond, _&&_, _||_}
+use lib.Dec.{ltb, leb}
+use lib.ListN.{length}
+use lib.Seq.{sets}
+use Rattle.text.specs.declared.Cursor.{Cursor}
+use Rattle.text.specs.Field.{fieldAt, onNumber, onLetter}
+
+-- a line's letter, its numbers, and the position past its LF. 65536 stands for every number above 65535.
+pub data TextLine : Type 0 where
+  whole : ℕ → List ℕ → ℕ → TextLine
+  broken : TextLine
+
+-- the numbers from c on to the line's end, after those already read; a line has fewer fields than its book has bytes
+unfoldable pub numbersFrom : ℕ → List ℕ → ℕ → Cursor → List ℕ → TextLine
+numbersFrom zero s letter c ns = broken
+numbersFrom (suc k) s letter c ns =
+    cond (c .ended) (whole letter ns (c .at)) (onNumber (fieldAt s c) (λ v d. numbersFrom k s letter d (ns ++ v ∷ [])) broken)
+
+-- the line that begins at `at`
+unfoldable pub lineAt : List ℕ → ℕ → TextLine
+lineAt s at = onLetter (fieldAt s (record { at = at; ended = false })) (λ letter c. numbersFrom (length s) s letter c []) broken
+
+abbrev pub onLine : {A : Type 0} → TextLine → (ℕ → List ℕ → ℕ → A) → A → A
+onLine (whole letter ns next) f y = f letter ns next
+onLine broken f y = y
+
+-- the numbers of a whole line stand in memory from its beginning on, as many as there is room for
+abbrev pub Stores : TextLine → List ℕ → List ℕ → Type 0
+Stores (whole letter ns next) before after = after ≡ sets before 0 ns
+Stores broken before after = Unit {0}
+
+-- ---- tests of a line's numbers
+
+-- "a number | 0 | 65,535"
+abbrev pub allAtMost : ℕ → List ℕ → Bool
+allAtMost m [] = true
+allAtMost m (v ∷ l) = leb v m && allAtMost m l
+
+-- "Codes are [..] rising": each above the one before it; of two numbers above 65535 it is not told which is larger
+abbrev pub risingFrom : ℕ → List ℕ → Bool
+risingFrom u [] = true
+risingFrom u (v ∷ l) = (ltb 65535 v || ltb u v) && risingFrom v l
+
+abbrev pub rising : List ℕ → Bool
+rising [] = true
+rising (v ∷ l) = risingFrom v l
