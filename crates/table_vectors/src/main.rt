@@ -1,5 +1,5 @@
-// Reads each pair of a grammar book and a table book that two arguments name, and writes a line for each: the table book's
-// name, `number,place`.
+// Reads each pair of a grammar book and a table book that two arguments name, and prints a line for each: the table book's name,
+// and the reply's number and place.
 use libc::STDOUT_FILENO;
 
 fn show(grammar: &[u8], book: &[u8]) {
@@ -23,8 +23,8 @@ fn show(grammar: &[u8], book: &[u8]) {
         &mut gotos,
         &mut named,
     );
-    console::print_reply(table::as_reply(answer));
-    io::write_all(STDOUT_FILENO, b"\n");
+    let reply = table::as_reply(answer);
+    program::print_pair(reply::number(reply), reply::place(reply) as u64);
 }
 
 fn print_argument(i: usize) {
@@ -34,36 +34,39 @@ fn print_argument(i: usize) {
     io::write_all(STDOUT_FILENO, b" ");
 }
 
-fn show_files(grammar_file: i32, table_file: i32) {
+fn run(i: usize, next: usize) {
+    let usage = b"usage: table_vectors (GRAMMAR TABLE)..\n";
     let mut grammar = [0u8; 65537];
+    let first = program::read_argument(i, b"GRAMMAR", usage, &mut grammar);
+    if first.failed {
+        return;
+    }
     let mut book = [0u8; 65537];
-    let n = io::read_full(grammar_file, &mut grammar);
-    let m = io::read_full(table_file, &mut book);
+    let second = program::read_argument(next, b"TABLE", usage, &mut book);
+    if second.failed {
+        return;
+    }
+    print_argument(next);
+    let n = first.size;
+    let m = second.size;
     show(&grammar[..n], &book[..m]);
 }
 
-fn run(i: usize) {
-    let usage = b"usage: table_vectors (GRAMMAR TABLE)..\n";
-    let grammar_file = console::open_argument(i, b"GRAMMAR", usage);
-    if grammar_file < 0 {
-        return;
+// Runs on the arguments `before` and i, and answers 0; where `before` is 0, i is a grammar book's, and is the answer.
+fn take(before: usize, i: usize) -> usize {
+    if before == 0 {
+        return i;
     }
-    let table_file = console::open_argument(i + 1, b"TABLE", usage);
-    if table_file < 0 {
-        libc::close(grammar_file);
-        return;
-    }
-    print_argument(i + 1);
-    show_files(grammar_file, table_file);
-    libc::close(grammar_file);
-    libc::close(table_file);
+    run(before, i);
+    0
 }
 
 fn main() {
     let count = os::arg_count();
+    let mut before = 0;
     let mut i = 1;
-    while i + 1 < count {
-        run(i);
-        i += 2;
+    while i < count {
+        before = take(before, i);
+        i += 1;
     }
 }
