@@ -1,0 +1,5 @@
+pub mod Lines
+pub mod Blocks
+pub mod Entries
+pub mod Kernels
+pub mod Actions
