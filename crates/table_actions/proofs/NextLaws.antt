@@ -1,6 +1,6 @@
 -- What comes of a place where an action line may stand; and what a line that is taken tells.
-use Prim.Native.Nat.{ℕ, zero, suc, _+_, _≤_, _<_}
-use mathlib.Core.Path.{_≡_, refl, sym, ap, _∙_}
+use Prim.Native.Nat.{ℕ, _+_, _≤_, _<_}
+use mathlib.Core.Path.{_≡_, refl}
 use mathlib.Core.List.{List, [], _∷_}
 use mathlib.Core.Bool.{Bool, true, false, cond, _&&_}
 use mathlib.Core.Option.{Option, some, none}
@@ -15,8 +15,8 @@ use Rattle.reply.specs.declared.Kind.the-variants as kind
 use Rattle.symbol.specs.Symbol.{isTerminal, isNonterminal}
 use Rattle.leftcorner.specs.Table.{Action, S, N, A, P, ActionLine, L, actionFor}
 use Rattle.table_lines.specs.declared.Judgement.the-variants.{Fine, Faulty}
-use Rattle.table_lines.specs.Line.{TextLine, whole, broken, lineAt, allAtMost}
-use Rattle.table_lines.specs.Block.{Outcome, takes, stops, fault}
+use Rattle.table_lines.specs.Line.{whole, broken, lineAt, allAtMost}
+use Rattle.table_lines.specs.Block.{takes, stops, fault}
 use Rattle.table_lines.proofs.BlockLaws.{judge-fine}
 use Rattle.table_lines.proofs.ListLaws.{both-true}
 use Rattle.table_actions.specs.Actions.{isAction, actionOf, actionDeclared, isNone, judgeAction, actionNext}
@@ -58,16 +58,17 @@ pub action-fine : (t n rules states : ℕ) (l : List ActionLine) (letter : ℕ) 
 unfolding judgeAction
 action-fine t n rules states l letter ns e =
     let j = judge-fine (isAction letter && (eqb (length ns) 3 && isNone (actionFor l (getD ns 0 0) (getD ns 1 0)))) (allAtMost 65535 ns)
-        (within 1 (getD ns 0 0) states && actionDeclared t n rules states letter (getD ns 1 0) (getD ns 2 0)) e in
+    (within 1 (getD ns 0 0) states && actionDeclared t n rules states letter (getD ns 1 0) (getD ns 2 0)) e in
     let f = both-true (isAction letter) (eqb (length ns) 3 && isNone (actionFor l (getD ns 0 0) (getD ns 1 0))) (j .0) in
     let g = both-true (eqb (length ns) 3) (isNone (actionFor l (getD ns 0 0) (getD ns 1 0))) (f .1) in
     let d = both-true (within 1 (getD ns 0 0) states) (actionDeclared t n rules states letter (getD ns 1 0) (getD ns 2 0)) (j .2) in
-    record
-    { three = eqb-true (length ns) 3 (g .0)
-    ; new = none-is (actionFor l (getD ns 0 0) (getD ns 1 0)) (g .1)
-    ; small = j .1
-    ; state-in = within-true 1 (getD ns 0 0) states (d .0)
-    ; declared = d .1 }
+    record {
+      three = eqb-true (length ns) 3 (g .0);
+      new = none-is (actionFor l (getD ns 0 0) (getD ns 1 0)) (g .1);
+      small = j .1;
+      state-in = within-true 1 (getD ns 0 0) states (d .0);
+      declared = d .1;
+    }
 
 -- what holds of each kind of line holds of a declared one
 module _ (Q : Action → Type 0) (t n rules states letter X v : ℕ) where

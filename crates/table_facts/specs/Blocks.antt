@@ -3,14 +3,14 @@ use Prim.Native.Nat.{ℕ, zero, suc, _+_, _≤_, _<_}
 use mathlib.Core.Path.{_≡_, refl, sym, ap, subst, _∙_}
 use mathlib.Core.Logic.{_⊎_, inl, inr}
 use mathlib.Core.List.{List, [], _∷_, _++_}
-use mathlib.Core.Option.{Option, some}
+use mathlib.Core.Option.{some}
 use native.Mathlib.Decide.{ℕ-discrete}
 use native.Mathlib.Omega.{arith}
 use lib.ListN.{length, length-append}
 use Rattle.language.specs.Grammar.{at}
 use Rattle.language.specs.Sentence.{In, here, there}
 use Rattle.leftcorner.specs.ReadOff.{clash}
-use Rattle.table_lines.specs.Block.{Outcome, takes, stops, refuses, Lines, read, refused, onOutcome, linesFrom}
+use Rattle.table_lines.specs.Block.{Outcome, takes, stops, refuses, read, refused, onOutcome, linesFrom}
 use Rattle.table_lines.proofs.ListLaws.{at-last, at-front}
 
 -- ---- how a block ends: by its number of lines, or where there is no line of it

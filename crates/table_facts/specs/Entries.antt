@@ -1,26 +1,26 @@
 -- Entry lines that are read: as many as the book's first line says, their states and symbols declared, no string twice.
-use Prim.Native.Nat.{ℕ, zero, suc, _+_, _≤_, _<_}
-use mathlib.Core.Path.{_≡_, refl, sym, ap, subst, _∙_}
+use Prim.Native.Nat.{ℕ, _≤_}
+use mathlib.Core.Path.{_≡_, ap, subst, _∙_}
 use mathlib.Core.Logic.{_⊎_, ⊎-elim}
 use mathlib.Core.List.{List, [], _∷_, _++_}
-use mathlib.Core.Bool.{true, _&&_}
+use mathlib.Core.Bool.{true}
 use mathlib.Core.Option.{some}
 use native.Mathlib.Omega.{arith}
 use lib.ListN.{length, getD, drop, length-drop}
 use Rattle.language.specs.Grammar.{Grammar, at, IsTerminal, IsNonterminal}
 use Rattle.language.specs.Sentence.{In, here, there}
-use Rattle.reply.specs.declared.Kind.the-variants as kind
 use Rattle.symbol.specs.Symbol.{isDeclared}
 use Rattle.symbol.proofs.KindLaws.{is-declared}
 use Rattle.leftcorner.specs.Table.{EntryLine, E, stringOf, entryFrom}
 use Rattle.leftcorner.specs.ReadOff.{clash, entry-found}
+use Rattle.table_lines.specs.declared.Judgement.{Judgement}
 use Rattle.table_lines.specs.Line.{lineAt}
 use Rattle.table_lines.specs.Block.{Outcome, takes, stops, read}
 use Rattle.table_lines.proofs.BlockLaws.{lines-keep}
 use Rattle.table_lines.proofs.ListLaws.{both-true}
 use Rattle.table_entries.specs.Entries.{allDeclared, judgeEntry, entryNext, entriesFrom}
 use Rattle.table_entries.proofs.NextLaws.{EntryFine, entry-fine}
-use Rattle.table_facts.specs.Lines.{line-ends, all-line, judged-goes, Came, judged-came}
+use Rattle.table_facts.specs.Lines.{all-line, judged-goes, Came, judged-came, came-onward}
 use Rattle.table_facts.specs.Blocks.{block-ends, Each, each-none, each-more, Once, once-none, once-more}
 
 abbrev pub entryString : EntryLine → List ℕ
@@ -41,11 +41,12 @@ module _ (g : Grammar) (states : ℕ) where
   declared-in e (there {y = Y} {l = γ} m) = declared-in (both-true (isDeclared (g .terminals) (g .nonterminals) Y) (allDeclared (g .terminals) (g .nonterminals) γ) e .1) m
 
   fine-declared : (l : List EntryLine) (ns : List ℕ) → EntryFine (g .terminals) (g .nonterminals) states l ns → EntryDeclared (getD ns 0 0) (drop 1 ns)
-  fine-declared l ns f = record
-      { state-in = (f .some-state, f .few-states)
-      ; some-symbol = omega (arith, f .long, length-drop 1 ns)
-      ; few-symbols = omega (arith, f .short, length-drop 1 ns)
-      ; symbols-in = λ X m. declared-in (f .declared) m }
+  fine-declared l ns f = record {
+    state-in = (f .some-state, f .few-states);
+    some-symbol = omega (arith, f .long, length-drop 1 ns);
+    few-symbols = omega (arith, f .short, length-drop 1 ns);
+    symbols-in = λ X m. declared-in (f .declared) m;
+  }
 
 -- no earlier entry has the string
 new-string : (l : List EntryLine) (γ : List ℕ) → entryFrom 1 l γ ≡ 0 → Each (λ y. entryString y ≡ γ → ⊥) l
@@ -58,22 +59,21 @@ module _ (g : Grammar) (s : List ℕ) (states : ℕ) where
   abbrev next : ℕ → List EntryLine → Outcome EntryLine
   next = entryNext s (g .terminals) (g .nonterminals) states
 
-  abbrev CameEntry : ℕ → List EntryLine → EntryLine → ℕ → Type 0
-  CameEntry at l x past = Came s at (judgeEntry (g .terminals) (g .nonterminals) states l) (λ letter ns. E (getD ns 0 0) (drop 1 ns)) x past
+  abbrev judged-as : List EntryLine → ℕ → List ℕ → Judgement
+  judged-as = judgeEntry (g .terminals) (g .nonterminals) states
 
-  entry-came : (at : ℕ) (l : List EntryLine) (x : EntryLine) (past : ℕ) → next at l ≡ takes x past → CameEntry at l x past
+  abbrev made-of : ℕ → List ℕ → EntryLine
+  made-of letter ns = E (getD ns 0 0) (drop 1 ns)
+
+  entry-came : (at : ℕ) (l : List EntryLine) (x : EntryLine) (past : ℕ) → next at l ≡ takes x past → Came s at (judged-as l) made-of x past
   unfolding entryNext
   entry-came at l x past =
-      all-line (λ o. o ≡ takes x past → CameEntry at l x past) (lineAt s at)
-      (judged-came s at (judgeEntry (g .terminals) (g .nonterminals) states l) (λ letter ns. E (getD ns 0 0) (drop 1 ns)))
-      (λ q. clash cc)
+      all-line (λ o. o ≡ takes x past → Came s at (judged-as l) made-of x past) (lineAt s at) (judged-came s at (judged-as l) made-of) (λ q. clash cc)
 
   entry-goes : (at : ℕ) (l : List EntryLine) → next at l ≡ stops → ⊥
   unfolding entryNext
   entry-goes at l =
-      all-line (λ o. o ≡ stops → ⊥) (lineAt s at)
-      (λ letter ns past e. judged-goes (judgeEntry (g .terminals) (g .nonterminals) states l letter ns) at (E (getD ns 0 0) (drop 1 ns)) past)
-      (λ q. clash cc)
+      all-line (λ o. o ≡ stops → ⊥) (lineAt s at) (λ letter ns past e. judged-goes (judged-as l letter ns) at (made-of letter ns) past) (λ q. clash cc)
 
   abbrev Kept : List EntryLine → Type 0
   Kept l = Each (Declared g states) l × Once entryString l
@@ -86,10 +86,16 @@ module _ (g : Grammar) (s : List ℕ) (states : ℕ) where
       (each-more (Declared g states) (h .0) (fine-declared g states l (c .numbers) f), once-more entryString (h .1) (new-string l (drop 1 (c .numbers)) (f .new)))
 
   module _ (count at : ℕ) {es : List EntryLine} {end : ℕ} (e : entriesFrom count s (g .terminals) (g .nonterminals) states at ≡ read es end) where
-    pub entries-kept : Each (Declared g states) es × Once entryString es
-    entries-kept = lines-keep Kept next entry-kept count at [] (each-none (Declared g states), once-none entryString) es end e
+    kept : Kept es
+    kept = lines-keep Kept next entry-kept count at [] (each-none (Declared g states), once-none entryString) es end e
+
+    pub entries-declared : Each (Declared g states) es
+    entries-declared = kept .0
+
+    pub entries-once : Once entryString es
+    entries-once = kept .1
 
     pub entries-counted : length es ≡ count
     entries-counted =
         ⊎-elim (λ h. omega (arith, h .0)) (λ q. absurd (entry-goes end es q))
-        (block-ends next (λ at l x past q. line-ends s at (entry-came at l x past q .line-is) .0) count at [] e)
+        (block-ends next (λ at l x past q. came-onward (entry-came at l x past q)) count at [] e)

@@ -1,9 +1,8 @@
 -- Kernel lines that are read: one at least and at most 1,023, each with a code, their states, items, dots and codes declared.
-use Prim.Native.Nat.{ℕ, suc, _+_, _≤_, _<_}
-use mathlib.Core.Path.{_≡_, ap, subst}
+use Prim.Native.Nat.{ℕ, _≤_}
+use mathlib.Core.Path.{_≡_, subst}
 use mathlib.Core.Logic.{⊎-elim}
 use mathlib.Core.List.{List, [], _∷_, _++_}
-use mathlib.Core.Bool.{true, cond}
 use native.Mathlib.Omega.{arith}
 use lib.Dec.{eqb}
 use lib.ListN.{length, getD, drop, length-drop, length-append}
@@ -18,7 +17,7 @@ use Rattle.table_lines.specs.Block.{Outcome, takes, stops, read}
 use Rattle.table_lines.proofs.BlockLaws.{lines-keep}
 use Rattle.table_kernels.specs.Kernels.{judgeKernel, noKernel, kernelNext, kernelsFrom}
 use Rattle.table_kernels.proofs.NextLaws.{KernelFine, kernel-fine, at-most}
-use Rattle.table_facts.specs.Lines.{line-ends, all-line, judged-goes, Came, judged-came}
+use Rattle.table_facts.specs.Lines.{all-line, judged-goes, Came, judged-came, came-onward}
 use Rattle.table_facts.specs.Blocks.{block-ends, Each, each-none, each-more}
 
 module _ (terminals states items : ℕ) (lens : ℕ → ℕ) where
@@ -33,12 +32,13 @@ module _ (terminals states items : ℕ) (lens : ℕ → ℕ) where
   Declared (K q i k σ) = KernelDeclared q i k σ
 
   fine-declared : (l : List KernelLine) (ns : List ℕ) → KernelFine terminals states items lens l ns → KernelDeclared (getD ns 0 0) (getD ns 1 0) (getD ns 2 0) (drop 3 ns)
-  fine-declared l ns f = record
-      { state-in = f .state-in
-      ; item-in = f .item-in
-      ; dot-in = f .dot-in
-      ; some-code = (getD (drop 3 ns) 0 0, in-string (drop 3 ns) 0 (omega (arith, f .long, length-drop 3 ns)))
-      ; codes-in = λ d m. let i = in-index m in omega (arith, at-most terminals (drop 3 ns) (f .codes-in) (i .0), i .2) }
+  fine-declared l ns f = record {
+    state-in = f .state-in;
+    item-in = f .item-in;
+    dot-in = f .dot-in;
+    some-code = (getD (drop 3 ns) 0 0, in-string (drop 3 ns) 0 (omega (arith, f .long, length-drop 3 ns)));
+    codes-in = λ d m. let i = in-index m in omega (arith, at-most terminals (drop 3 ns) (f .codes-in) (i .0), i .2);
+  }
 
 -- where no kernel line stands, none is taken, and the block ends only after a line
 none-taken : {B : Type 0} (at : ℕ) (l : List KernelLine) {x : KernelLine} {past : ℕ} → noKernel at l ≡ takes x past → B
@@ -86,19 +86,26 @@ module _ (s : List ℕ) (terminals states items : ℕ) (lens : ℕ → ℕ) wher
   kernel-kept at l x past h e =
       let c = kernel-came at l x past e in
       let f = kernel-fine terminals states items lens l (c .numbers) (c .fine) in
-      subst (λ (y : KernelLine). Kept (l ++ y ∷ [])) (c .made)
-      ( each-more (Declared terminals states items lens) (h .0) (fine-declared terminals states items lens l (c .numbers) f)
-      , omega (arith, f .few, length-append l (made-of 0 (c .numbers) ∷ [])))
+      subst (λ (y : KernelLine). Kept (l ++ y ∷ [])) (c .made) (
+        each-more (Declared terminals states items lens) (h .0) (fine-declared terminals states items lens l (c .numbers) f),
+        omega (arith, f .few, length-append l (made-of 0 (c .numbers) ∷ [])),
+      )
 
   module _ (at : ℕ) {ks : List KernelLine} {end : ℕ} (e : kernelsFrom s terminals states items lens at ≡ read ks end) where
-    pub kernels-kept : Each (Declared terminals states items lens) ks × (length ks ≤ 1023)
-    kernels-kept = lines-keep Kept next kernel-kept 1024 at [] (each-none (Declared terminals states items lens), omega arith) ks end e
+    kept : Kept ks
+    kept = lines-keep Kept next kernel-kept 1024 at [] (each-none (Declared terminals states items lens), omega arith) ks end e
+
+    pub kernels-declared : Each (Declared terminals states items lens) ks
+    kernels-declared = kept .0
+
+    pub kernels-few : length ks ≤ 1023
+    kernels-few = kept .1
 
     -- the block ends where no kernel line stands, never by its number of lines
     pub kernels-ended : kernelNext s terminals states items lens end ks ≡ stops
     kernels-ended =
-        ⊎-elim (λ h. absurd (omega (arith, h .0, kernels-kept .1))) (λ q. q)
-        (block-ends next (λ at l x past q. line-ends s at (kernel-came at l x past q .line-is) .0) 1024 at [] e)
+        ⊎-elim (λ h. absurd (omega (arith, h .0, kernels-few))) (λ q. q)
+        (block-ends next (λ at l x past q. came-onward (kernel-came at l x past q)) 1024 at [] e)
 
     pub kernels-some : 1 ≤ length ks
     kernels-some = kernel-ends end ks kernels-ended

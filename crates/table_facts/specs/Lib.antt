@@ -3,3 +3,4 @@ pub mod Blocks
 pub mod Entries
 pub mod Kernels
 pub mod Actions
+pub mod Sound

@@ -2,7 +2,7 @@
 use Prim.Native.Nat.{ℕ, zero, suc, _≤_, _<_}
 use mathlib.Core.Path.{_≡_, refl, ap, subst, _∙_}
 use mathlib.Core.List.{List, [], _∷_, _++_}
-use mathlib.Core.Bool.{true, false, cond}
+use mathlib.Core.Bool.{false}
 use native.Mathlib.Omega.{arith}
 use lib.ListN.{length}
 use Rattle.range.proofs.TestLaws.{all-cond}
@@ -11,12 +11,11 @@ use Rattle.text.specs.declared.Field.the-variants as field
 use Rattle.text.specs.Field.{fieldAt}
 use Rattle.text.proofs.ElseLaws.{all-number, all-letter}
 use Rattle.text.proofs.OnwardLaws.{Between, onward}
-use Rattle.reply.specs.declared.Kind.{Kind}
 use Rattle.leftcorner.specs.ReadOff.{clash}
 use Rattle.table_lines.specs.declared.Judgement.{Judgement}
 use Rattle.table_lines.specs.declared.Judgement.the-variants.{Fine, Faulty}
 use Rattle.table_lines.specs.Line.{TextLine, whole, broken, numbersFrom, lineAt, onLine}
-use Rattle.table_lines.specs.Block.{Outcome, takes, stops, fault, judged}
+use Rattle.table_lines.specs.Block.{takes, stops, judged}
 
 -- ---- where a line ends
 module _ (s : List ℕ) (at : ℕ) where
@@ -30,7 +29,7 @@ module _ (s : List ℕ) (at : ℕ) where
   numbers-end (suc k) letter c ns b =
       all-cond Ends (c .ended) (λ e. b)
       (λ e. all-number Ends (fieldAt s c)
-        (λ v d f. let o = onward s c (field.Number v d) f in numbers-end k letter d (ns ++ v ∷ []) (omega (arith, b .0, o .0), o .1)) tt)
+      (λ v d f. let o = onward s c (field.Number v d) f in numbers-end k letter d (ns ++ v ∷ []) (omega (arith, b .0, o .0), o .1)) tt)
 
   -- past its beginning, and in the book
   pub line-ends : {letter : ℕ} {ns : List ℕ} {next : ℕ} → lineAt s at ≡ whole letter ns next → (at < next) × (next ≤ length s)
@@ -45,11 +44,6 @@ module _ {A : Type 0} (P : A → Type 0) {f : ℕ → List ℕ → ℕ → A} {y
   pub all-line : (l : TextLine) → ((letter : ℕ) (ns : List ℕ) (next : ℕ) → l ≡ whole letter ns next → P (f letter ns next)) → P y → P (onLine l f y)
   all-line (whole letter ns next) h k = h letter ns next refl
   all-line broken h k = k
-
-module _ {A : Type 0} (P : Outcome A → Type 0) {at : ℕ} {x : A} {next : ℕ} where
-  pub all-judged : (j : Judgement) → (j ≡ Fine → P (takes x next)) → ((k : Kind) → P (fault k at)) → P (judged j at x next)
-  all-judged Fine h f = h refl
-  all-judged (Faulty k) h f = f k
 
 -- a line that is judged does not end the block
 pub judged-goes : {A B : Type 0} (j : Judgement) (at : ℕ) (x : A) (next : ℕ) → judged j at x next ≡ stops → B
@@ -67,8 +61,14 @@ pub record Came {A : Type 0} (s : List ℕ) (at : ℕ) (J : ℕ → List ℕ →
 module _ {A : Type 0} (s : List ℕ) (at : ℕ) (J : ℕ → List ℕ → Judgement) (make : ℕ → List ℕ → A) where
   pub judged-came : {x : A} {past : ℕ} (letter : ℕ) (ns : List ℕ) (next : ℕ) → lineAt s at ≡ whole letter ns next
       → judged (J letter ns) at (make letter ns) next ≡ takes x past → Came s at J make x past
-  judged-came {x} {past} letter ns next e =
-      all-judged (λ o. o ≡ takes x past → Came s at J make x past) (J letter ns)
-      (λ j q. let n : next ≡ past = cc in let m : make letter ns ≡ x = cc in
-        record { letter = letter; numbers = ns; line-is = e ∙ ap (whole letter ns) n; fine = j; made = m })
-      (λ k q. clash cc)
+  judged-came {x} {past} letter ns next e = go (J letter ns) refl
+    where
+      go : (j : Judgement) → J letter ns ≡ j → judged j at (make letter ns) next ≡ takes x past → Came s at J make x past
+      go Fine f q =
+          let n : next ≡ past = cc in
+          let m : make letter ns ≡ x = cc in
+          record { letter = letter; numbers = ns; line-is = e ∙ ap (whole letter ns) n; fine = f; made = m }
+      go (Faulty k) f q = clash cc
+
+pub came-onward : {A : Type 0} {s : List ℕ} {at : ℕ} {J : ℕ → List ℕ → Judgement} {make : ℕ → List ℕ → A} {x : A} {past : ℕ} → Came s at J make x past → at < past
+came-onward {s = s} {at = at} c = line-ends s at (c .line-is) .0
