@@ -1,2 +1,4 @@
 pub mod Digits
 pub mod Line
+pub mod Block
+pub mod Entries
