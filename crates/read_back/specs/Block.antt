@@ -2,7 +2,7 @@
 use Prim.Native.Nat.{ℕ, zero, suc, _+_, _-_, _≤_}
 use native.Mathlib.Omega.{arith}
 use native.Mathlib.Nat.{add-zero}
-use mathlib.Core.Path.{_≡_, refl, sym, ap, ap₂, _∙_}
+use mathlib.Core.Path.{_≡_, refl, sym, _∙_}
 use mathlib.Core.Bool.{true}
 use mathlib.Core.List.{List, [], _∷_, _++_, map, append-assoc, append-nil}
 use borrow.Author.Tests.{le-leb}
@@ -11,7 +11,7 @@ use lib.Seq.{append-snoc}
 use Rattle.language.specs.Grammar.{concat}
 use Rattle.language.specs.Sentence.{In, here, there}
 use Rattle.table_lines.specs.Line.{allAtMost}
-use Rattle.table_lines.specs.Block.{Outcome, takes, stops, Lines, read, linesFrom}
+use Rattle.table_lines.specs.Block.{Outcome, takes, stops, read, linesFrom}
 use Rattle.read_back.specs.Line.{Rest, rest-past, rest-same, rest-as}
 
 pub all-at-most : (m : ℕ) (l : List ℕ) → ((v : ℕ) → In v l → v ≤ m) → allAtMost m l ≡ true
@@ -27,9 +27,9 @@ module _ {A : Type 0} (s : List ℕ) (text : A → List ℕ) (next : ℕ → Lis
   lines-on [] earlier n k at w c e r q = rw (c ∙ add-zero k, rest-same r q, e ∙ append-nil earlier)
   lines-on (x ∷ later) earlier zero k at w c e r q = absurd (omega arith)
   lines-on (x ∷ later) earlier (suc n) k at w c e r q =
-      let here = rest-as (append-assoc (text x) (concat (map text later)) w) r in
-      let past = rest-past s (text x) here in
-      simp (taken earlier x later e at (at + length (text x)) (concat (map text later) ++ w) here past)
+      let first = rest-as (append-assoc (text x) (concat (map text later)) w) r in
+      let past = rest-past s (text x) first in
+      simp (taken earlier x later e at (at + length (text x)) (concat (map text later) ++ w) first past)
       (lines-on later (earlier ++ x ∷ []) n k (at + length (text x)) w (omega arith) (e ∙ sym (append-snoc earlier x later)) past q)
 
   module _ {at end : ℕ} (w : List ℕ) (r : Rest s at (concat (map text all) ++ w)) (q : Rest s end w) where

@@ -1,13 +1,13 @@
 -- The digits that a number is written with are read as that number.
-use Prim.Native.Nat.{ℕ, zero, suc, _+_, _-_, _*_, _/_, _%_, _≤_, _<_, min}
+use Prim.Native.Nat.{ℕ, _+_, _/_, _%_, _≤_, _<_}
 use native.Mathlib.Omega.{arith}
-use mathlib.Core.Path.{_≡_, refl, sym, ap, _∙_}
+use mathlib.Core.Path.{_≡_, refl, ap, _∙_}
 use mathlib.Core.Bool.{Bool, true, false, cond}
-use mathlib.Core.List.{List, [], _∷_, _++_, append-assoc}
-use borrow.Author.Tests.{ltb-true, ltb-false}
+use mathlib.Core.List.{List, [], _∷_, _++_}
+use borrow.Author.Tests.{ltb-true}
 use lib.Dec.{ltb}
 use lib.ListN.{length, length-append}
-use Rattle.text.specs.Field.{classOf, addDigit, digitsFrom, fieldOf}
+use Rattle.text.specs.Field.{addDigit, digitsFrom, fieldOf}
 use Rattle.text.proofs.ClassLaws.{class-digit}
 use Rattle.text.proofs.NumberLaws.{valueFrom, cappedFrom, capped-value}
 use Rattle.lalr.specs.Text.{lead, digits}
@@ -61,10 +61,10 @@ digits-value v h =
 
 -- ---- as the reader reads them
 
-read-digits : (ds : List ℕ) → AllDigits ds → (l : List ℕ) (at n v : ℕ) → n ≡ at + length ds → digitsFrom (ds ++ l) at v ≡ digitsFrom l n (cappedFrom v ds)
+digits-on : (ds : List ℕ) → AllDigits ds → (l : List ℕ) (at n v : ℕ) → n ≡ at + length ds → digitsFrom (ds ++ l) at v ≡ digitsFrom l n (cappedFrom v ds)
 unfolding digitsFrom
-read-digits [] h l at n v e = ap (λ (m : ℕ). digitsFrom l m v) (omega arith)
-read-digits (b ∷ ds) h l at n v e = simp (class-digit b (h .0 .0) (h .0 .1)) (read-digits ds (h .1) l (at + 1) n (addDigit v b) (omega arith))
+digits-on [] h l at n v e = ap (λ (m : ℕ). digitsFrom l m v) (omega arith)
+digits-on (b ∷ ds) h l at n v e = simp (class-digit b (h .0 .0) (h .0 .1)) (digits-on ds (h .1) l (at + 1) n (addDigit v b) (omega arith))
 
 by-digits : (ds : List ℕ) → AllDigits ds → 1 ≤ length ds → (l : List ℕ) (at : ℕ) → fieldOf (ds ++ l) at ≡ digitsFrom (ds ++ l) at 0
 by-digits [] h k l at = absurd (omega arith)
@@ -73,5 +73,5 @@ by-digits (b ∷ ds) h k l at = simp (class-digit b (h .0 .0) (h .0 .1))
 pub digits-read : (v : ℕ) → v ≤ 65535 → (l : List ℕ) (at n : ℕ) → n ≡ at + length (digits v) → fieldOf (digits v ++ l) at ≡ digitsFrom l n v
 digits-read v h l at n e =
     by-digits (digits v) (all-digits v) (some-digit v) l at
-      ∙ (read-digits (digits v) (all-digits v) l at n 0 e
+      ∙ (digits-on (digits v) (all-digits v) l at n 0 e
       ∙ ap (digitsFrom l n) (capped-value (digits v) 0 0 refl ∙ omega (arith, digits-value v h)))

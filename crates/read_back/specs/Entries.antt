@@ -5,10 +5,11 @@ use mathlib.Core.Path.{_≡_, refl, sym, ap, subst}
 use mathlib.Core.Logic.{_⊎_, inl, inr}
 use mathlib.Core.Bool.{Bool, true, false, or-true}
 use mathlib.Core.List.{List, [], _∷_, _++_, map}
+use borrow.Author.Tests.{le-leb}
 use lib.ListN.{length}
 use Rattle.language.specs.Grammar.{Grammar, concat, IsTerminal, IsNonterminal}
 use Rattle.language.specs.Sentence.{In, here, there}
-use Rattle.language.specs.Member.{in-cons, in-right}
+use Rattle.language.specs.Member.{in-right}
 use Rattle.language.specs.Strings.{AllDeclared}
 use Rattle.language.specs.WellFormed as grammar
 use Rattle.range.proofs.RangeLaws.{true-within}
@@ -16,17 +17,18 @@ use Rattle.symbol.specs.Symbol.{isDeclared}
 use Rattle.symbol.proofs.KindLaws.{terminal-is, nonterminal-is}
 use Rattle.leftcorner.specs.Table.{EntryLine, E, Table, sameString, entryFrom}
 use Rattle.leftcorner.specs.ReadOff.{same-string}
+use Rattle.table_lines.specs.Line.{allAtMost}
 use Rattle.table_lines.specs.Block.{takes, read}
 use Rattle.table_entries.specs.Entries.{allDeclared, entryNext, entriesFrom}
 use Rattle.table_entries.proofs.JudgeLaws.{fine}
-use Rattle.table_entries.proofs.NextLaws as next
+use Rattle.table_entries.proofs.NextLaws.{entry-taken}
 use Rattle.lalr.specs.Text.{line, entryText}
 use Rattle.lalr.specs.Once.{Once, once-before, SameEntry}
-use Rattle.lalr.specs.Readable.{Readable}
+use Rattle.lalr.specs.Readable.{EntryForm, Readable}
 use Rattle.read_back.specs.Line.{Rest, rest-as, line-read}
 use Rattle.read_back.specs.Block.{all-at-most, lines-full}
 
-pub unless : (b : Bool) → (b ≡ true → ⊥) → b ≡ false
+unless : (b : Bool) → (b ≡ true → ⊥) → b ≡ false
 unless true f = absurd (f refl)
 unless false f = refl
 
@@ -55,31 +57,27 @@ text-is [] = refl
 text-is (E s γ ∷ l) = ap (λ (z : List ℕ). line 69 (s ∷ γ) ++ z) (text-is l)
 
 module _ (g : Grammar) (t : Table) (W : grammar.WellFormed g) (R : Readable g t) (s : List ℕ) where
-  low : (u : ℕ) (γ : List ℕ) → In (E u γ) (t .entries) → (v : ℕ) → In v (u ∷ γ) → v ≤ 65535
-  low u γ m v n = go (in-cons n)
-    where
-      of-symbol : IsTerminal g v ⊎ IsNonterminal g v → v ≤ 65535
-      of-symbol (inl h) = omega (arith, h .1, W .few-terminals)
-      of-symbol (inr h) = omega (arith, h .1, W .few-nonterminals)
+  symbol-low : (X : ℕ) → IsTerminal g X ⊎ IsNonterminal g X → X ≤ 65535
+  symbol-low X (inl h) = omega (arith, h .1, W .few-terminals)
+  symbol-low X (inr h) = omega (arith, h .1, W .few-nonterminals)
 
-      go : (v ≡ u) ⊎ In v γ → v ≤ 65535
-      go (inl e) = omega (arith, e, R .entry u γ m .state .1, R .few-states)
-      go (inr n) = of-symbol (R .entry u γ m .symbols v n)
+  -- every number of a line is a number
+  numbers-low : (u : ℕ) (γ : List ℕ) → EntryForm g t u γ → allAtMost 65535 (u ∷ γ) ≡ true
+  numbers-low u γ f = simp (le-leb u 65535 (omega (arith, f .state .1, R .few-states)), all-at-most 65535 γ (λ X n. symbol-low X (f .symbols X n)))
 
-  entry-taken : (earlier : List EntryLine) (x : EntryLine) (later : List EntryLine) → t .entries ≡ earlier ++ x ∷ later → (at past : ℕ) (w : List ℕ) → Rest s at (lineOf x ++ w) → Rest s past w
+  line-taken : (earlier : List EntryLine) (x : EntryLine) (later : List EntryLine) → t .entries ≡ earlier ++ x ∷ later → (at past : ℕ) (w : List ℕ) → Rest s at (lineOf x ++ w) → Rest s past w
       → entryNext s (g .terminals) (g .nonterminals) (t .states) at earlier ≡ takes x past
-  entry-taken earlier (E u γ) later e at past w r q =
-      let m : In (E u γ) (t .entries) = subst (In (E u γ)) (sym e) (in-right earlier here) in
-      let f = R .entry u γ m in
-      let a = all-at-most 65535 (u ∷ γ) (low u γ m) in
+  line-taken earlier (E u γ) later e at past w r n =
+      let f = R .entry u γ (subst (In (E u γ)) (sym e) (in-right earlier here)) in
       let o = once-before SameEntry earlier (E u γ) later (subst (Once SameEntry) e (R .entries-once)) in
-      next.entry-taken s (g .terminals) (g .nonterminals) (t .states) at earlier
-      (line-read s 69 (u ∷ γ) w (omega arith) (omega arith) a r q)
+      let a = numbers-low u γ f in
+      entry-taken s (g .terminals) (g .nonterminals) (t .states) at earlier
+      (line-read s 69 (u ∷ γ) w (omega arith) (omega arith) a r n)
       (sym (fine (g .terminals) (g .nonterminals) (t .states) earlier 69 (u ∷ γ) refl (omega (arith, f .some-symbol))
         (no-entry earlier u γ 1 o) a (omega (arith, f .short)) (true-within 1 u (t .states) (f .state .0) (f .state .1)) (all-declared g γ (f .symbols))))
 
   pub entries-read : {at end : ℕ} (w : List ℕ) → Rest s at (entryText (t .entries) ++ w) → Rest s end w
       → entriesFrom (length (t .entries)) s (g .terminals) (g .nonterminals) (t .states) at ≡ read (t .entries) end
-  entries-read w r q =
-      lines-full s lineOf (entryNext s (g .terminals) (g .nonterminals) (t .states)) (t .entries) entry-taken w
-      (rest-as (ap (λ (z : List ℕ). z ++ w) (text-is (t .entries))) r) q
+  entries-read w r n =
+      lines-full s lineOf (entryNext s (g .terminals) (g .nonterminals) (t .states)) (t .entries) line-taken w
+      (rest-as (ap (λ (z : List ℕ). z ++ w) (text-is (t .entries))) r) n

@@ -2,20 +2,18 @@
 use Prim.Native.Nat.{ℕ, zero, suc, _+_, _≤_, _<_}
 use native.Mathlib.Omega.{arith}
 use mathlib.Core.Path.{_≡_, refl, sym, ap, ap₂, subst, _∙_}
-use mathlib.Core.Bool.{Bool, true, false, cond, _&&_}
+use mathlib.Core.Bool.{Bool, true, false}
 use mathlib.Core.List.{List, [], _∷_, _++_, append-assoc, append-nil}
 use borrow.Author.Tests.{leb-true}
 use lib.Dec.{leb}
 use lib.ListN.{length, drop, length-append}
-use lib.Seq.{append-snoc, drop-drop, drop-append-seam}
+use lib.Seq.{drop-length, append-snoc, drop-drop, drop-append-seam}
 use Rattle.range.specs.Range.{within}
-use Rattle.text.specs.declared.Cursor.{Cursor}
-use Rattle.text.specs.declared.End.{End}
-use Rattle.text.specs.declared.End.the-variants.{Past, Missing}
+use Rattle.text.specs.declared.End.the-variants.{Past}
 use Rattle.text.specs.declared.Field.the-variants as field
 use Rattle.text.specs.Field.{classOf, endOf, digitsFrom, fieldOf, fieldAt}
 use Rattle.text.proofs.ClassLaws.{class-letter}
-use Rattle.table_lines.specs.Line.{TextLine, whole, broken, numbersFrom, lineAt, allAtMost}
+use Rattle.table_lines.specs.Line.{whole, broken, numbersFrom, lineAt, allAtMost}
 use Rattle.table_lines.proofs.ListLaws.{both-true}
 use Rattle.lalr.specs.Text.{digits, fields, line}
 use Rattle.read_back.specs.Digits.{digits-read}
@@ -27,6 +25,9 @@ pub record Rest (s : List ℕ) (at : ℕ) (w : List ℕ) : Type 0 where
 
 pub rest-all : (s : List ℕ) → Rest s 0 s
 rest-all s = record { bytes = refl; place = omega arith }
+
+pub rest-none : (s : List ℕ) → Rest s (length s) []
+rest-none s = record { bytes = drop-length s; place = omega arith }
 
 pub rest-past : (s : List ℕ) {at : ℕ} (a : List ℕ) {w : List ℕ} → Rest s at (a ++ w) → Rest s (at + length a) w
 rest-past s {at} a {w} r = record {
@@ -50,20 +51,20 @@ abbrev behind : List ℕ → List ℕ → List ℕ
 behind [] l = l
 behind (v ∷ vs) l = digits v ++ (fields vs ++ 10 ∷ l)
 
-abbrev part : List ℕ → ℕ
-part [] = 10
-part (v ∷ vs) = 44
+abbrev separator : List ℕ → ℕ
+separator [] = 10
+separator (v ∷ vs) = 44
 
-parted : (vs l : List ℕ) → fields vs ++ 10 ∷ l ≡ part vs ∷ behind vs l
+parted : (vs l : List ℕ) → fields vs ++ 10 ∷ l ≡ separator vs ∷ behind vs l
 parted [] l = refl
 parted (v ∷ vs) l = ap (λ (z : List ℕ). 44 ∷ z) (append-assoc (digits v) (fields vs) (10 ∷ l))
 
-ends : (vs l : List ℕ) (at : ℕ) → endOf (part vs ∷ behind vs l) at ≡ Past (record { at = at + 1; ended = over vs })
+ends : (vs l : List ℕ) (at : ℕ) → endOf (separator vs ∷ behind vs l) at ≡ Past (record { at = at + 1; ended = over vs })
 unfolding endOf
 ends [] l at = refl
 ends (v ∷ vs) l at = refl
 
-number-ends : (vs l : List ℕ) (at v : ℕ) → digitsFrom (part vs ∷ behind vs l) at v ≡ field.Number v (record { at = at + 1; ended = over vs })
+number-ends : (vs l : List ℕ) (at v : ℕ) → digitsFrom (separator vs ∷ behind vs l) at v ≡ field.Number v (record { at = at + 1; ended = over vs })
 unfolding digitsFrom endOf classOf within
 number-ends [] l at v = refl
 number-ends (w ∷ vs) l at v = refl
@@ -75,12 +76,12 @@ module _ (s : List ℕ) where
   unfolding fieldAt
   number-read v vs l at h r =
       ap (λ (w : List ℕ). fieldOf w at) (r .bytes ∙ ap (λ (w : List ℕ). digits v ++ w) (parted vs l))
-        ∙ (digits-read v h (part vs ∷ behind vs l) at (at + length (digits v)) refl ∙ number-ends vs l (at + length (digits v)) v)
+        ∙ (digits-read v h (separator vs ∷ behind vs l) at (at + length (digits v)) refl ∙ number-ends vs l (at + length (digits v)) v)
 
   number-past : (v : ℕ) (vs l : List ℕ) {at : ℕ} → Rest s at (behind (v ∷ vs) l) → Rest s (at + length (digits v) + 1) (behind vs l)
-  number-past v vs l r = rest-past s (part vs ∷ []) (rest-as (parted vs l) (rest-past s (digits v) r))
+  number-past v vs l r = rest-past s (separator vs ∷ []) (rest-as (parted vs l) (rest-past s (digits v) r))
 
-  letter-read : (letter : ℕ) (vs l : List ℕ) (at : ℕ) → 65 ≤ letter → letter ≤ 90 → Rest s at (letter ∷ part vs ∷ behind vs l)
+  letter-read : (letter : ℕ) (vs l : List ℕ) (at : ℕ) → 65 ≤ letter → letter ≤ 90 → Rest s at (letter ∷ separator vs ∷ behind vs l)
       → fieldAt s (record { at = at; ended = false }) ≡ field.Letter letter (record { at = at + 1 + 1; ended = over vs })
   unfolding fieldAt
   letter-read letter vs l at a b r = simp (r .bytes, class-letter letter a b, ends vs l (at + 1))
@@ -103,7 +104,7 @@ module _ (s : List ℕ) where
   unfolding lineAt
   line-read letter vs l {at} a b h r q =
       let w = rest-as (ap (λ (z : List ℕ). letter ∷ z) (append-snoc (fields vs) 10 l ∙ parted vs l)) r in
-      let p = rest-past s (part vs ∷ []) (rest-past s (letter ∷ []) w) in
+      let p = rest-past s (separator vs ∷ []) (rest-past s (letter ∷ []) w) in
       simp (letter-read letter vs l at a b w) (numbers-read letter (length s) vs l [] (at + 1 + 1) (omega (arith, p .place)) h p q)
 
   -- there is no line at the book's end
