@@ -132,7 +132,7 @@ module _ (g : Grammar) (t : Table) (W : grammar.WellFormed g) (R : Readable g t)
       let m : In (L q X x) (t .actions) = subst (In (L q X x)) (sym e) (in-right earlier here) in
       action-taken s (g .terminals) (g .nonterminals) (length (g .rules)) (t .states) at earlier
       (omega (arith, r .place, length-append (actionBytes q X x) w, line-long (L q X x))) (action-read q X x m w r n) (fine earlier q X x later e m)
-        ∙ ap (λ (y : Action). takes (L q X y) past) (action-back x)
+      ∙ ap (λ (y : Action). takes (L q X y) past) (action-back x)
 
   pub actions-read : {at : ℕ} → Rest s at (actionText (t .actions))
       → actionsFrom s (g .terminals) (g .nonterminals) (length (g .rules)) (t .states) at ≡ read (t .actions) (length s)

@@ -20,7 +20,7 @@ all-at-most m (v ∷ l) h = simp (le-leb v m (h v here), all-at-most m l (λ w n
 
 module _ {A : Type 0} (s : List ℕ) (text : A → List ℕ) (next : ℕ → List A → Outcome A) (all : List A)
     (taken : (earlier : List A) (x : A) (later : List A) → all ≡ earlier ++ x ∷ later → (at past : ℕ) (w : List ℕ) → Rest s at (text x ++ w) → Rest s past w
-      → next at earlier ≡ takes x past) where
+    → next at earlier ≡ takes x past) where
   lines-on : (later earlier : List A) (n k at : ℕ) (w : List ℕ) {end : ℕ} → n ≡ k + length later → all ≡ earlier ++ later → Rest s at (concat (map text later) ++ w) → Rest s end w
       → linesFrom n next at earlier ≡ linesFrom k next end all
   unfolding linesFrom

@@ -25,9 +25,12 @@ module _ (g : Grammar) (t : Table) (W : WellFormed g) (R : Readable g t) where
       → headOf s ≡ head.Read (t .states) (length (t .entries)) end
   unfolding headOf
   head-read s w r n =
-      simp (line-read s 84 (t .states ∷ length (t .entries) ∷ []) w (omega arith) (omega arith)
-        (simp (le-leb (t .states) 65535 (omega (arith, R .few-states)), le-leb (length (t .entries)) 65535 (omega (arith, R .few-entries)))) r n,
-        true-within 1 (t .states) 255 (R .some-state) (R .few-states), true-within 1 (length (t .entries)) 127 (R .some-entry) (R .few-entries))
+      simp (
+        line-read s 84 (t .states ∷ length (t .entries) ∷ []) w (omega arith) (omega arith)
+            (simp (le-leb (t .states) 65535 (omega (arith, R .few-states)), le-leb (length (t .entries)) 65535 (omega (arith, R .few-entries)))) r n,
+        true-within 1 (t .states) 255 (R .some-state) (R .few-states),
+        true-within 1 (length (t .entries)) 127 (R .some-entry) (R .few-entries),
+      )
 
   -- the blocks, one after the other
   blocks-read : (s : List ℕ) → Rest s 0 (line 84 (t .states ∷ length (t .entries) ∷ []) ++ (entryText (t .entries) ++ (kernelText (t .kernels) ++ actionText (t .actions)))) → tableOf g s ≡ whole g t
@@ -36,10 +39,12 @@ module _ (g : Grammar) (t : Table) (W : WellFormed g) (R : Readable g t) where
       let entries = rest-past s (line 84 (t .states ∷ length (t .entries) ∷ [])) r in
       let kernels = rest-past s (entryText (t .entries)) entries in
       let actions = rest-past s (kernelText (t .kernels)) kernels in
-      simp (head-read s (entryText (t .entries) ++ (kernelText (t .kernels) ++ actionText (t .actions))) r entries,
+      simp (
+        head-read s (entryText (t .entries) ++ (kernelText (t .kernels) ++ actionText (t .actions))) r entries,
         entries-read g t W R s (kernelText (t .kernels) ++ actionText (t .actions)) entries kernels,
         kernels-read g t W R s (actionText (t .actions)) kernels actions (no-kernel-line g t W R s _ _ _ actions (t .kernels)),
-        actions-read g t W R s actions)
+        actions-read g t W R s actions,
+      )
 
 pub text-reads : (g : Grammar) (t : Table) → WellFormed g → Readable g t → tableOf g (tableText t) ≡ whole g t
 unfolding tableText

@@ -57,7 +57,7 @@ digits-value : (v : ℕ) → v ≤ 65535 → valueFrom 0 (digits v) ≡ v
 unfolding digits
 digits-value v h =
     lead-value 10000 v 0 _ (omega arith) (λ l. omega arith) ∙ (lead-value 1000 v _ _ (omega arith) (λ l. omega arith)
-      ∙ (lead-value 100 v _ _ (omega arith) (λ l. omega arith) ∙ (lead-value 10 v _ _ (omega arith) (λ l. omega arith) ∙ omega arith)))
+    ∙ (lead-value 100 v _ _ (omega arith) (λ l. omega arith) ∙ (lead-value 10 v _ _ (omega arith) (λ l. omega arith) ∙ omega arith)))
 
 -- ---- as the reader reads them
 
@@ -73,5 +73,5 @@ by-digits (b ∷ ds) h k l at = simp (class-digit b (h .0 .0) (h .0 .1))
 pub digits-read : (v : ℕ) → v ≤ 65535 → (l : List ℕ) (at n : ℕ) → n ≡ at + length (digits v) → fieldOf (digits v ++ l) at ≡ digitsFrom l n v
 digits-read v h l at n e =
     by-digits (digits v) (all-digits v) (some-digit v) l at
-      ∙ (digits-on (digits v) (all-digits v) l at n 0 e
-      ∙ ap (digitsFrom l n) (capped-value (digits v) 0 0 refl ∙ omega (arith, digits-value v h)))
+    ∙ (digits-on (digits v) (all-digits v) l at n 0 e
+    ∙ ap (digitsFrom l n) (capped-value (digits v) 0 0 refl ∙ omega (arith, digits-value v h)))

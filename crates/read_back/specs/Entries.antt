@@ -74,7 +74,7 @@ module _ (g : Grammar) (t : Table) (W : grammar.WellFormed g) (R : Readable g t)
       entry-taken s (g .terminals) (g .nonterminals) (t .states) at earlier
       (line-read s 69 (u ∷ γ) w (omega arith) (omega arith) a r n)
       (sym (fine (g .terminals) (g .nonterminals) (t .states) earlier 69 (u ∷ γ) refl (omega (arith, f .some-symbol))
-        (no-entry earlier u γ 1 o) a (omega (arith, f .short)) (true-within 1 u (t .states) (f .state .0) (f .state .1)) (all-declared g γ (f .symbols))))
+      (no-entry earlier u γ 1 o) a (omega (arith, f .short)) (true-within 1 u (t .states) (f .state .0) (f .state .1)) (all-declared g γ (f .symbols))))
 
   pub entries-read : {at end : ℕ} (w : List ℕ) → Rest s at (entryText (t .entries) ++ w) → Rest s end w
       → entriesFrom (length (t .entries)) s (g .terminals) (g .nonterminals) (t .states) at ≡ read (t .entries) end

@@ -64,8 +64,12 @@ module _ (g : Grammar) (t : Table) (W : grammar.WellFormed g) (R : Readable g t)
   -- every number of a line is a number
   numbers-low : (q i k : ℕ) (σ : List ℕ) → KernelForm g t q i k σ → allAtMost 65535 (q ∷ i ∷ k ∷ σ) ≡ true
   numbers-low q i k σ f =
-      simp (le-leb q 65535 (omega (arith, f .state .1, R .few-states)), le-leb i 65535 (omega (arith, f .item .1, W .few-rules, R .few-entries)),
-        le-leb k 65535 (omega (arith, f .small)), all-at-most 65535 σ (λ d n. omega (arith, f .codes-low d n, W .few-terminals)))
+      simp (
+        le-leb q 65535 (omega (arith, f .state .1, R .few-states)),
+        le-leb i 65535 (omega (arith, f .item .1, W .few-rules, R .few-entries)),
+        le-leb k 65535 (omega (arith, f .small)),
+        all-at-most 65535 σ (λ d n. omega (arith, f .codes-low d n, W .few-terminals)),
+      )
 
   fine : (earlier : List KernelLine) (q i k : ℕ) (σ : List ℕ) (later : List KernelLine) → t .kernels ≡ earlier ++ K q i k σ ∷ later → KernelForm g t q i k σ
       → judgeKernel (g .terminals) (t .states) items lengths earlier (q ∷ i ∷ k ∷ σ) ≡ Fine
@@ -73,10 +77,17 @@ module _ (g : Grammar) (t : Table) (W : grammar.WellFormed g) (R : Readable g t)
   fine earlier q i k σ later e f =
       let o = once-before SameItem earlier (K q i k σ) later (subst (Once SameItem) e (R .kernels-once)) in
       let n = ap length (symbols-over g t (tableWith 0 (t .entries) [] []) refl i) in
-      simp (le-leb 4 (length (q ∷ i ∷ k ∷ σ)) (omega (arith, has-line (f .some-code .1))), rising-is σ (f .rising), no-triple earlier q i k σ o, numbers-low q i k σ f,
+      simp (
+        le-leb 4 (length (q ∷ i ∷ k ∷ σ)) (omega (arith, has-line (f .some-code .1))),
+        rising-is σ (f .rising),
+        no-triple earlier q i k σ o,
+        numbers-low q i k σ f,
         lt-ltb (length earlier) 1023 (omega (arith, R .few-kernels, ap length e, length-append earlier (K q i k σ ∷ later))),
-        true-within 1 q (t .states) (f .state .0) (f .state .1), true-within 1 i items (f .item .0) (f .item .1), le-leb k (lengths i) (omega (arith, f .dot, n)),
-        all-at-most (g .terminals) σ (f .codes-low))
+        true-within 1 q (t .states) (f .state .0) (f .state .1),
+        true-within 1 i items (f .item .0) (f .item .1),
+        le-leb k (lengths i) (omega (arith, f .dot, n)),
+        all-at-most (g .terminals) σ (f .codes-low),
+      )
 
   line-taken : (earlier : List KernelLine) (x : KernelLine) (later : List KernelLine) → t .kernels ≡ earlier ++ x ∷ later → (at past : ℕ) (w : List ℕ) → Rest s at (lineOf x ++ w) → Rest s past w
       → kernelNext s (g .terminals) (t .states) items lengths at earlier ≡ takes x past

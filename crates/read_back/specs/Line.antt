@@ -31,9 +31,9 @@ rest-none s = record { bytes = drop-length s; place = omega arith }
 
 pub rest-past : (s : List ℕ) {at : ℕ} (a : List ℕ) {w : List ℕ} → Rest s at (a ++ w) → Rest s (at + length a) w
 rest-past s {at} a {w} r = record {
-    bytes = sym (drop-drop (length a) at s) ∙ (ap (drop (length a)) (r .bytes) ∙ drop-append-seam a w);
-    place = omega (arith, r .place, length-append a w);
-  }
+  bytes = sym (drop-drop (length a) at s) ∙ (ap (drop (length a)) (r .bytes) ∙ drop-append-seam a w);
+  place = omega (arith, r .place, length-append a w);
+}
 
 pub rest-same : {s w : List ℕ} {at end : ℕ} → Rest s at w → Rest s end w → at ≡ end
 rest-same r q = omega (arith, r .place, q .place)
@@ -76,7 +76,7 @@ module _ (s : List ℕ) where
   unfolding fieldAt
   number-read v vs l at h r =
       ap (λ (w : List ℕ). fieldOf w at) (r .bytes ∙ ap (λ (w : List ℕ). digits v ++ w) (parted vs l))
-        ∙ (digits-read v h (separator vs ∷ behind vs l) at (at + length (digits v)) refl ∙ number-ends vs l (at + length (digits v)) v)
+      ∙ (digits-read v h (separator vs ∷ behind vs l) at (at + length (digits v)) refl ∙ number-ends vs l (at + length (digits v)) v)
 
   number-past : (v : ℕ) (vs l : List ℕ) {at : ℕ} → Rest s at (behind (v ∷ vs) l) → Rest s (at + length (digits v) + 1) (behind vs l)
   number-past v vs l r = rest-past s (separator vs ∷ []) (rest-as (parted vs l) (rest-past s (digits v) r))
@@ -97,7 +97,7 @@ module _ (s : List ℕ) where
       let p = number-past v vs l r in
       simp (number-read v vs l at (leb-true v 65535 (b .0)) r)
       (numbers-read letter k vs l (ns ++ v ∷ []) (at + length (digits v) + 1) (omega (arith, h, r .place, p .place)) (b .1) p q
-        ∙ ap (λ (z : List ℕ). whole letter z end) (append-snoc ns v vs))
+      ∙ ap (λ (z : List ℕ). whole letter z end) (append-snoc ns v vs))
 
   pub line-read : (letter : ℕ) (vs l : List ℕ) {at end : ℕ} → 65 ≤ letter → letter ≤ 90 → allAtMost 65535 vs ≡ true → Rest s at (line letter vs ++ l) → Rest s end l
       → lineAt s at ≡ whole letter vs end
