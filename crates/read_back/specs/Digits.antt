@@ -53,7 +53,7 @@ some-digit : (v : ℕ) → 1 ≤ length (digits v)
 unfolding digits
 some-digit v = simp length-append (omega arith)
 
-digits-value : (v : ℕ) → v ≤ 65535 → valueFrom 0 (digits v) ≡ v
+digits-value : (v : ℕ) → v ≤ 99999 → valueFrom 0 (digits v) ≡ v
 unfolding digits
 digits-value v h =
     lead-value 10000 v 0 _ (omega arith) (λ l. omega arith) ∙ (lead-value 1000 v _ _ (omega arith) (λ l. omega arith)
@@ -74,4 +74,4 @@ pub digits-read : (v : ℕ) → v ≤ 65535 → (l : List ℕ) (at n : ℕ) → 
 digits-read v h l at n e =
     by-digits (digits v) (all-digits v) (some-digit v) l at
     ∙ (digits-on (digits v) (all-digits v) l at n 0 e
-    ∙ ap (digitsFrom l n) (capped-value (digits v) 0 0 refl ∙ omega (arith, digits-value v h)))
+    ∙ ap (digitsFrom l n) (capped-value (digits v) 0 0 refl ∙ omega (arith, digits-value v (omega arith))))
