@@ -22,7 +22,7 @@ same p Y q X = eqb p q && eqb Y X
 same-eq : (p Y q X : ℕ) → same p Y q X ≡ true → (p ≡ q) × (Y ≡ X)
 same-eq p Y q X e = let a = both-true (eqb p q) (eqb Y X) e in (eqb-true p q (a .0), eqb-true Y X (a .1))
 
-same-no : (p Y q X : ℕ) → ((p ≡ q) × (Y ≡ X) → ⊥) → same p Y q X ≡ false
+pub same-no : (p Y q X : ℕ) → ((p ≡ q) × (Y ≡ X) → ⊥) → same p Y q X ≡ false
 same-no p Y q X f = go (same p Y q X) refl
   where
     go : (b : Bool) → same p Y q X ≡ b → same p Y q X ≡ false
