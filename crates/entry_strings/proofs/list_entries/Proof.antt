@@ -57,13 +57,13 @@ loop-less c = search needs
 loop-again : tie.Need-loop-again Inv-loop μ-loop
 loop-again c = let o = c .before .before .before .before .before .before .loop in
     let a = c .before .before .add-groups .ensures in
-    (a .0 .0, a .0 .1, search needs, λ g size h. listing-more (o .inv .3 g size h) (c .before .before .before .before .if1 .left) (c .before .before .before .before .before .loop-test .taken) (λ l r. a .1 g l size r))
+    (a .0 .0, a .0 .1, search needs, λ g size h. listing-more (o .inv .3 g size h) (c .before .before .before .before .if1 .left) (omega (arith, c .before .before .before .before .before .loop-test .taken)) (λ l r. a .1 g l size r))
 
 same-length-2 : tie.Need-same-length-2 Inv-loop μ-loop
 same-length-2 c = search needs
 
 returns-2 : tie.Need-returns-2 Inv-loop μ-loop
-returns-2 c = let o = c .before .loop in (search needs, λ g b. listed (o .inv .3 g _ (first (c .before .before) g b)) (o .inv .1) (λ f. c .loop-test .left))
+returns-2 c = let o = c .before .loop in (search needs, λ g b. listed (o .inv .3 g _ (first (c .before .before) g b)) (o .inv .1) (λ f. omega (arith, c .loop-test .left)))
 
 pub list-entries-spec : {M : Type 1} → statement M
 list-entries-spec =
