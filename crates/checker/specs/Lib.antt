@@ -1,3 +1,1 @@
-pub mod Accepts
-pub mod Faults
-pub mod Given
+pub mod Checked

@@ -2,9 +2,9 @@ use mathlib.Core.Path.{refl, _∙_}
 use borrow.Author.Tests.{not-true, not-false}
 use borrow.Author.Needs.{needs}
 use Rattle.entry_list.specs.Uses.{strings-of}
-use Rattle.checker.proofs.VerdictLaws.{list-verdict}
-use Rattle.checker.proofs.judge.Statement.{statement}
-use Rattle.checker.proofs.judge.Tie as tie
+use Rattle.judge.proofs.VerdictLaws.{list-verdict}
+use Rattle.judge.proofs.judge.Statement.{statement}
+use Rattle.judge.proofs.judge.Tie as tie
 
 slice-aggregate-entries-meet : tie.Need-slice-aggregate-entries-meet
 slice-aggregate-entries-meet c = search needs

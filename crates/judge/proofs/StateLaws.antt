@@ -23,8 +23,8 @@ use Rattle.reply.specs.declared.Kind.the-variants.{ItemMismatch, MissingLookahe
 use Rattle.reply.specs.declared.Reply.{Reply}
 use Rattle.reply.specs.declared.Reply.the-variants.{Accepted}
 use Rattle.verdict.specs.Verdict.{refused}
-use Rattle.checker.specs.Faults.{Fault, noted, answerOf}
-use Rattle.checker.specs.Given.{Sized, Computed, Given}
+use Rattle.judge.specs.Faults.{Fault, noted, answerOf}
+use Rattle.judge.specs.Given.{Sized, Computed, Given}
 
 pub within : (a b : ℕ) → a ≤ a + b
 within a b = omega arith

@@ -1,8 +1,8 @@
 use mathlib.Core.Path.{_∙_}
-use Rattle.checker.proofs.StateLaws.{answer-items, answer-narrow, answer-agree, answer-cells, answer-none}
+use Rattle.judge.proofs.StateLaws.{answer-items, answer-narrow, answer-agree, answer-cells, answer-none}
 use borrow.Author.Needs.{needs}
-use Rattle.checker.proofs.answer.Statement.{statement}
-use Rattle.checker.proofs.answer.Tie as tie
+use Rattle.judge.proofs.answer.Statement.{statement}
+use Rattle.judge.proofs.answer.Tie as tie
 
 refuse-requires : tie.Need-refuse-requires
 refuse-requires c κs = search needs

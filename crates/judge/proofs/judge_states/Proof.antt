@@ -8,12 +8,12 @@ use Rattle.leftcorner.specs.Table.{Table}
 use Rattle.closure.specs.FirstBy.{FirstBy}
 use Rattle.entry_list.specs.Uses.{HoldsUses}
 use Rattle.entry_list.proofs.ListLaws.{zeros-of}
-use Rattle.checker.specs.Faults.{Found}
-use Rattle.checker.specs.Given.{Given}
-use Rattle.checker.proofs.FaultLaws.{found-start}
-use Rattle.checker.proofs.PassLaws.{low-state, found-noted, found-end}
-use Rattle.checker.proofs.judge_states.Statement.{statement}
-use Rattle.checker.proofs.judge_states.Tie as tie
+use Rattle.judge.specs.Faults.{Found}
+use Rattle.judge.specs.Given.{Given}
+use Rattle.judge.proofs.FaultLaws.{found-start}
+use Rattle.judge.proofs.PassLaws.{low-state, found-noted, found-end}
+use Rattle.judge.proofs.judge_states.Statement.{statement}
+use Rattle.judge.proofs.judge_states.Tie as tie
 
 abbrev Inv-loop : tie.InvT-loop
 Inv-loop items entries kernels links lookaheads kinds values gotos named uses nul fst starts through rules strings lines codes states narrow₀ wrong₀ clash₀ other₀ q₀ narrow wrong clash other q =

@@ -13,7 +13,7 @@ use Rattle.leftcorner.specs.Construction.{WellFormed, LookaheadsMeet}
 use Rattle.fixpoint.specs.Flags.{On, Off, Decides}
 use Rattle.lookaheads.specs.Narrow.{Narrowing, Narrows}
 use Rattle.lookaheads.specs.Sources.{GoalMeets, LookaheadsFrom, lookaheads-all, lookaheads-from, lookaheads-goal}
-use Rattle.checker.specs.Faults.{Fault, noted, StateJudged, Found}
+use Rattle.judge.specs.Faults.{Fault, noted, StateJudged, Found}
 
 pub fault-start : {Φ : ℕ → Type 0} → Fault Φ 1 0
 fault-start = record { low = omega arith; none = λ e k a b. absurd (omega (arith, a, b)); before = λ k a b. absurd (omega (arith, b)); fails = λ a. absurd (omega (arith, a)) }

@@ -2,9 +2,9 @@ use mathlib.Core.Path.{refl}
 use native.Mathlib.Omega.{arith}
 use borrow.Author.Needs.{needs}
 use Rattle.moves.specs.Flags.{present-of}
-use Rattle.checker.proofs.StateLaws.{within, in-room, few-items, readable-of, ready-of, marked-of, memory-of, held-at}
-use Rattle.checker.proofs.judge_state.Statement.{statement}
-use Rattle.checker.proofs.judge_state.Tie as tie
+use Rattle.judge.proofs.StateLaws.{within, in-room, few-items, readable-of, ready-of, marked-of, memory-of, held-at}
+use Rattle.judge.proofs.judge_state.Statement.{statement}
+use Rattle.judge.proofs.judge_state.Tie as tie
 
 add-count : tie.Need-add-count
 add-count c = search needs

@@ -1,10 +1,10 @@
 use native.Mathlib.Omega.{arith}
 use mathlib.Core.Path.{refl, _∙_}
 use borrow.Author.Needs.{needs}
-use Rattle.checker.proofs.StateLaws.{within}
-use Rattle.checker.proofs.PassLaws.{few-codes-of, two-of, shaped-less, holds-of, terminals-are, pass-verdict}
-use Rattle.checker.proofs.judge_entered.Statement.{statement}
-use Rattle.checker.proofs.judge_entered.Tie as tie
+use Rattle.judge.proofs.StateLaws.{within}
+use Rattle.judge.proofs.PassLaws.{few-codes-of, two-of, shaped-less, holds-of, terminals-are, pass-verdict}
+use Rattle.judge.proofs.judge_entered.Statement.{statement}
+use Rattle.judge.proofs.judge_entered.Tie as tie
 
 add-count : tie.Need-add-count
 add-count c = search needs

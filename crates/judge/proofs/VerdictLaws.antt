@@ -22,10 +22,10 @@ use Rattle.verdict.specs.EntriesDecided.{entries?}
 use Rattle.verdict.specs.LookaheadsDecided.{lookaheads?}
 use Rattle.verdict.specs.CellsDecided.{agree?, cells?}
 use Rattle.verdict.specs.Verdict.{refused, verdict, Outside, off-items, off-lookaheads, off-agree, off-cells, All, Fails, is-list, is-seven, is-eight, is-nine, is-ten, is-zero}
-use Rattle.checker.specs.Accepts.{codes, code-in, tableVerdict}
-use Rattle.checker.specs.Faults.{Fault, answerOf, Found}
-use Rattle.checker.proofs.FirstLaws.{first-flags}
-use Rattle.checker.proofs.FaultLaws.{fault-map, Flags}
+use Rattle.judge.specs.Accepts.{codes, code-in, tableVerdict}
+use Rattle.judge.specs.Faults.{Fault, answerOf, Found}
+use Rattle.judge.proofs.FirstLaws.{first-flags}
+use Rattle.judge.proofs.FaultLaws.{fault-map, Flags}
 
 module _ (g : Grammar) (t : Table) (F : List ℕ → ℕ → ℕ → Type 0) (e? : Dec (EntriesMeet g t)) (i? : (q : ℕ) → Dec (ItemsMeet g t q))
     (l? : (q : ℕ) → Dec (LookaheadsMeet g t F q)) (a? : (q : ℕ) → Dec (CellsAgree g t F q)) (c? : (q : ℕ) → Dec (CellsMeet g t F q))

@@ -2,9 +2,9 @@ use Prim.Native.Nat.{ℕ, _+_, _-_, _≤_, _<_}
 use native.Mathlib.Omega.{arith}
 use borrow.Author.Needs.{needs}
 use Rattle.fixpoint.specs.Flags.{Off}
-use Rattle.checker.proofs.StateLaws.{set-at, set-nowhere, off-more}
-use Rattle.checker.proofs.lowest_set.Statement.{statement}
-use Rattle.checker.proofs.lowest_set.Tie as tie
+use Rattle.judge.proofs.StateLaws.{set-at, set-nowhere, off-more}
+use Rattle.judge.proofs.lowest_set.Statement.{statement}
+use Rattle.judge.proofs.lowest_set.Tie as tie
 
 abbrev Inv-loop : tie.InvT-loop
 Inv-loop flags states q₀ q = (1 ≤ q) × (q ≤ states + 1) × ((k : ℕ) → 1 ≤ k → k < q → Off flags k)

@@ -11,7 +11,7 @@ use Rattle.fixpoint.specs.Rows.{to-row, from-row}
 use Rattle.analysis.specs.ByRules.{BeginsByRules, FirstByRules}
 use Rattle.analysis.specs.InMemory.{SetsOf}
 use Rattle.closure.specs.FirstBy.{FirstBy, follows, begins, skips}
-use Rattle.checker.specs.Accepts.{begins-terminal}
+use Rattle.judge.specs.Accepts.{begins-terminal}
 
 module _ (g : Grammar) (few : g .terminals ≤ 63) {codes : ℕ} (count : codes ≡ suc (g .terminals)) {nul fst : List ℕ} (S : SetsOf g nul fst) where
   to-rules : {β : List ℕ} {d c : ℕ} → FirstBy codes nul fst β d c → FirstByRules g β d c

@@ -14,11 +14,11 @@ use Rattle.closure.specs.FirstBy.{FirstBy}
 use Rattle.lookaheads.specs.Narrow.{Narrows}
 use Rattle.lookaheads.specs.Sources.{GoalMeets}
 use Rattle.memory.specs.Held.{Held}
-use Rattle.checker.specs.Accepts.{tableVerdict}
-use Rattle.checker.specs.Faults.{Fault, noted, answerOf, StateJudged, Found}
-use Rattle.checker.specs.Given.{Given}
-use Rattle.checker.proofs.FaultLaws.{found-more, Flags, flags-all}
-use Rattle.checker.proofs.VerdictLaws.{found-verdict}
+use Rattle.judge.specs.Accepts.{tableVerdict}
+use Rattle.judge.specs.Faults.{Fault, noted, answerOf, StateJudged, Found}
+use Rattle.judge.specs.Given.{Given}
+use Rattle.judge.proofs.FaultLaws.{found-more, Flags, flags-all}
+use Rattle.judge.proofs.VerdictLaws.{found-verdict}
 
 pub low-state : {q n : ℕ} → q ≤ n → n ≤ 255 → q < 256
 low-state a b = omega (arith, a, b)

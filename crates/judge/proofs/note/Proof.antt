@@ -1,6 +1,6 @@
-use Rattle.checker.proofs.StateLaws.{noted-some, noted-fine, noted-fault}
-use Rattle.checker.proofs.note.Statement.{statement}
-use Rattle.checker.proofs.note.Tie as tie
+use Rattle.judge.proofs.StateLaws.{noted-some, noted-fine, noted-fault}
+use Rattle.judge.proofs.note.Statement.{statement}
+use Rattle.judge.proofs.note.Tie as tie
 
 returns : tie.Need-returns
 returns c = noted-some _ _ _ (c .if1 .taken)

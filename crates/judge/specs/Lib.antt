@@ -1,0 +1,3 @@
+pub mod Accepts
+pub mod Faults
+pub mod Given

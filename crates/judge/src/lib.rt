@@ -1,0 +1,393 @@
+// The verdict on tables in memory.
+use reply::Kind;
+use reply::Reply;
+ghost use mathlib.Core.Path.{_≡_};
+ghost use mathlib.Core.List.{List};
+ghost use Prim.Native.Nat.{ℕ, suc, _+_, _<_, _≤_};
+ghost use lib.ListN.{length, replicate};
+ghost use Rattle.language.specs.Grammar.{Grammar};
+ghost use Rattle.leftcorner.specs.Table.{Table};
+ghost use Rattle.leftcorner.specs.Construction.{EntriesMeet};
+ghost use Rattle.fixpoint.specs.Flags.{On, Off};
+ghost use Rattle.closure.specs.FirstBy.{FirstBy};
+ghost use Rattle.entry_list.specs.Uses.{HoldsUses};
+ghost use Rattle.judge.specs.Accepts.{tableVerdict};
+ghost use Rattle.judge.specs.Faults.{Fault, noted, answerOf, StateJudged, Found};
+ghost use Rattle.judge.specs.Given.{Sized, Computed, Given};
+
+// What is told of one state: whether its items and its cells are those of the construction, and whether its items agree on the cells.
+struct State {
+    items: bool,
+    agree: bool,
+    cells: bool,
+}
+
+// Tells of state q, and flags the states that do not have the lookaheads that its items ask.
+fn judge_state(
+    items: &[u8],
+    entries: &[u8],
+    kernels: &[u8],
+    links: &[usize],
+    lookaheads: &[u8],
+    kinds: &[u8],
+    values: &[u8],
+    gotos: &[u8],
+    named: &[u8],
+    uses: &[u8],
+    nul: &[u8],
+    fst: &[u8],
+    starts: &[u8],
+    through: &[u8],
+    rules: usize,
+    strings: usize,
+    lines: usize,
+    codes: usize,
+    q: usize,
+    narrow: &mut [u8],
+) -> State
+    requires { ⌜ Sized (now items) (now entries) (now kernels) (now lookaheads) (now kinds) (now values) (now gotos) (now named) rules strings lines ⌝ }
+    requires { ⌜ Computed (now items) (now kernels) (now links) (now uses) (now nul) (now fst) (now starts) (now through) rules lines codes ⌝ }
+    requires { ⌜ (1 ≤ q) × (q < 256) × (length (now narrow) ≡ 256) ⌝ }
+    ensures { λ s. ⌜ length (now (narrow .exit)) ≡ 256 ⌝ }
+    ensures { λ s. ⌜ ((g : Grammar) (t : Table) (states : ℕ) → Given g t (now (items .entry)) (now (entries .entry)) (now (kernels .entry)) (now (lookaheads .entry)) (now (kinds .entry)) (now (values .entry)) (now (gotos .entry)) (now (named .entry)) rules strings lines states codes → HoldsUses (now (uses .entry)) g t → q ≤ states
+        → StateJudged g t (FirstBy codes (now (nul .entry)) (now (fst .entry))) q (s .items) (s .agree) (s .cells) (now (narrow .entry)) (now (narrow .exit))) ⌝ }
+{
+    let count = rules + strings;
+    let mut present = [0u8; 64];
+    let mut follow = [0u8; 4096];
+    let mut symbols = [0u8; 128];
+    let mut asked = [0usize; 64];
+    closure::close_state(
+        items,
+        count,
+        rules,
+        kernels,
+        lookaheads,
+        lines,
+        q,
+        codes,
+        nul,
+        fst,
+        starts,
+        through,
+        &mut present,
+        &mut follow,
+    );
+    moves::flag_moves(
+        items,
+        kernels,
+        links,
+        &present,
+        count,
+        rules,
+        lines,
+        q,
+        &mut symbols,
+    );
+    let met = conformance::items_meet(
+        items,
+        entries,
+        kernels,
+        links,
+        kinds,
+        values,
+        gotos,
+        named,
+        &present,
+        &symbols,
+        rules,
+        strings,
+        lines,
+        q,
+    );
+    lookaheads::mark_narrow(
+        items,
+        kernels,
+        links,
+        lookaheads,
+        kinds,
+        values,
+        gotos,
+        entries,
+        uses,
+        nul,
+        fst,
+        &present,
+        &follow,
+        count,
+        rules,
+        lines,
+        codes,
+        q,
+        narrow,
+    );
+    let agree = cells::ask_cells(
+        items,
+        kernels,
+        links,
+        lookaheads,
+        &present,
+        &follow,
+        &symbols,
+        nul,
+        fst,
+        count,
+        rules,
+        lines,
+        codes,
+        q,
+        &mut asked,
+    );
+    let filled = cells::cells_meet(&asked, &symbols, kinds, values, gotos, codes, q);
+    State {
+        items: met,
+        agree,
+        cells: filled,
+    }
+}
+
+// The lowest fault so far, where state q is fine or not.
+fn note(at: usize, fine: bool, q: usize) -> usize
+    ensures { λ r. ⌜ r ≡ noted at fine q ⌝ }
+{
+    if at != 0 {
+        return at;
+    }
+    if fine {
+        return 0;
+    }
+    q
+}
+
+// The lowest state whose flag is set; 0 for none.
+fn lowest_set(flags: &[u8], states: usize) -> usize
+    requires { ⌜ (states ≤ 255) × (length (now flags) ≡ 256) ⌝ }
+    ensures { λ r. ⌜ Fault (Off (now (flags .entry))) (states + 1) r ⌝ }
+{
+    let mut q = 1;
+    while q <= states {
+        if flags[q] != 0 {
+            return q;
+        }
+        q += 1;
+    }
+    0
+}
+
+// The reply to the lowest faults.
+fn answer(items: usize, narrow: usize, agree: usize, cells: usize) -> Reply
+    ensures { λ r. ⌜ r ≡ answerOf items narrow agree cells ⌝ }
+{
+    if items != 0 {
+        return reply::refuse(Kind::ItemMismatch, items);
+    }
+    if narrow != 0 {
+        return reply::refuse(Kind::MissingLookahead, narrow);
+    }
+    if agree != 0 {
+        return reply::refuse(Kind::Conflict, agree);
+    }
+    if cells != 0 {
+        return reply::refuse(Kind::CellMismatch, cells);
+    }
+    Reply::Accepted(0)
+}
+
+// The lowest states, 0 for none, whose items or cells are not those of the construction, or whose items do not agree on the cells.
+struct Faults {
+    items: usize,
+    agree: usize,
+    cells: usize,
+}
+
+// Goes over the states, once.
+fn judge_states(
+    items: &[u8],
+    entries: &[u8],
+    kernels: &[u8],
+    links: &[usize],
+    lookaheads: &[u8],
+    kinds: &[u8],
+    values: &[u8],
+    gotos: &[u8],
+    named: &[u8],
+    uses: &[u8],
+    nul: &[u8],
+    fst: &[u8],
+    starts: &[u8],
+    through: &[u8],
+    rules: usize,
+    strings: usize,
+    lines: usize,
+    codes: usize,
+    states: usize,
+    narrow: &mut [u8],
+) -> Faults
+    requires { ⌜ Sized (now items) (now entries) (now kernels) (now lookaheads) (now kinds) (now values) (now gotos) (now named) rules strings lines ⌝ }
+    requires { ⌜ Computed (now items) (now kernels) (now links) (now uses) (now nul) (now fst) (now starts) (now through) rules lines codes ⌝ }
+    requires { ⌜ (states ≤ 255) × (now narrow ≡ replicate 256 0) ⌝ }
+    ensures { λ f. ⌜ length (now (narrow .exit)) ≡ 256 ⌝ }
+    ensures { λ f. ⌜ ((g : Grammar) (t : Table) → Given g t (now (items .entry)) (now (entries .entry)) (now (kernels .entry)) (now (lookaheads .entry)) (now (kinds .entry)) (now (values .entry)) (now (gotos .entry)) (now (named .entry)) rules strings lines states codes → HoldsUses (now (uses .entry)) g t
+        → Found g t (FirstBy codes (now (nul .entry)) (now (fst .entry))) (states + 1) (f .items) (f .agree) (f .cells) (now (narrow .exit))) ⌝ }
+{
+    let mut wrong = 0;
+    let mut clash = 0;
+    let mut other = 0;
+    let mut q = 1;
+    while q <= states {
+        let s = judge_state(
+            items,
+            entries,
+            kernels,
+            links,
+            lookaheads,
+            kinds,
+            values,
+            gotos,
+            named,
+            uses,
+            nul,
+            fst,
+            starts,
+            through,
+            rules,
+            strings,
+            lines,
+            codes,
+            q,
+            narrow,
+        );
+        wrong = note(wrong, s.items, q);
+        clash = note(clash, s.agree, q);
+        other = note(other, s.cells, q);
+        q += 1;
+    }
+    Faults {
+        items: wrong,
+        agree: clash,
+        cells: other,
+    }
+}
+
+// The reply to a table whose entries are those of the construction; `uses` has the entries that groups use.
+fn judge_entered(
+    items: &[u8],
+    entries: &[u8],
+    kernels: &[u8],
+    lookaheads: &[u8],
+    kinds: &[u8],
+    values: &[u8],
+    gotos: &[u8],
+    named: &[u8],
+    uses: &[u8],
+    terminals: usize,
+    rules: usize,
+    strings: usize,
+    lines: usize,
+    states: usize,
+) -> Reply
+    requires { ⌜ Sized (now items) (now entries) (now kernels) (now lookaheads) (now kinds) (now values) (now gotos) (now named) rules strings lines ⌝ }
+    requires { ⌜ (terminals ≤ 63) × (states ≤ 255) × (length (now uses) ≡ 2048) ⌝ }
+    ensures { λ r. ⌜ ((g : Grammar) (t : Table) → Given g t (now (items .entry)) (now (entries .entry)) (now (kernels .entry)) (now (lookaheads .entry)) (now (kinds .entry)) (now (values .entry)) (now (gotos .entry)) (now (named .entry)) rules strings lines states (terminals + 1) → HoldsUses (now (uses .entry)) g t → EntriesMeet g t
+        → r ≡ tableVerdict g t) ⌝ }
+{
+    let count = rules + strings;
+    let codes = terminals + 1;
+    let mut nul = [0u8; 128];
+    let mut fst = [0u8; 8192];
+    let mut starts = [0u8; 8192];
+    let mut through = [0u8; 128];
+    let mut links = [0usize; 1280];
+    let mut narrow = [0u8; 256];
+    analysis::find_sets(items, terminals, rules, &mut nul, &mut fst);
+    closure::prepare_rules(
+        items,
+        count,
+        rules,
+        codes,
+        &nul,
+        &fst,
+        &mut starts,
+        &mut through,
+    );
+    kernel_lines::link_lines(kernels, lines, count, &mut links);
+    let found = judge_states(
+        items,
+        entries,
+        kernels,
+        &links,
+        lookaheads,
+        kinds,
+        values,
+        gotos,
+        named,
+        uses,
+        &nul,
+        &fst,
+        &starts,
+        &through,
+        rules,
+        strings,
+        lines,
+        codes,
+        states,
+        &mut narrow,
+    );
+    lookaheads::mark_goal(
+        kernels,
+        &links,
+        lookaheads,
+        entries,
+        lines,
+        count,
+        rules,
+        strings,
+        &mut narrow,
+    );
+    let low = lowest_set(&narrow, states);
+    answer(found.items, low, found.agree, found.cells)
+}
+
+// The reply to a table in memory.
+pub fn judge(
+    items: &[u8],
+    entries: &[u8],
+    kernels: &[u8],
+    lookaheads: &[u8],
+    kinds: &[u8],
+    values: &[u8],
+    gotos: &[u8],
+    named: &[u8],
+    terminals: usize,
+    goal: usize,
+    rules: usize,
+    strings: usize,
+    lines: usize,
+    states: usize,
+) -> Reply
+    requires { ⌜ Sized (now items) (now entries) (now kernels) (now lookaheads) (now kinds) (now values) (now gotos) (now named) rules strings lines ⌝ }
+    requires { ⌜ (terminals ≤ 63) × (states ≤ 255) ⌝ }
+    ensures { λ r. ⌜ ((g : Grammar) (t : Table) → Given g t (now (items .entry)) (now (entries .entry)) (now (kernels .entry)) (now (lookaheads .entry)) (now (kinds .entry)) (now (values .entry)) (now (gotos .entry)) (now (named .entry)) rules strings lines states (terminals + 1) → g .goal ≡ goal
+        → r ≡ tableVerdict g t) ⌝ }
+{
+    let mut uses = [0u8; 2048];
+    if !entry_list::entries_meet(items, rules, strings, goal, &mut uses) {
+        return reply::refuse(Kind::ItemMismatch, 0);
+    }
+    judge_entered(
+        items,
+        entries,
+        kernels,
+        lookaheads,
+        kinds,
+        values,
+        gotos,
+        named,
+        &uses,
+        terminals,
+        rules,
+        strings,
+        lines,
+        states,
+    )
+}
