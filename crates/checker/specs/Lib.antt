@@ -1,1 +1,3 @@
 pub mod Checked
+pub mod Assumed
+pub mod Exactly
