@@ -155,7 +155,7 @@ pub room-tells : (b : Slices) → hasRoom b ≡ true → Roomy b
 unfolding roomFor
 room-tells b e =
     let a = both-true (leb 16640 (length (b .items))) _ e in
-    let s = both-true (leb 128 (length (b .states))) _ (a .1) in
+    let s = both-true (leb 256 (length (b .states))) _ (a .1) in
     let k = both-true (leb 4096 (length (b .kernels))) _ (s .1) in
     let l = both-true (leb 65536 (length (b .lookaheads))) _ (k .1) in
     let c = both-true (leb 16640 (length (b .kinds))) _ (l .1) in

@@ -82,7 +82,7 @@ slices i s k l c v g n = record { items = i; states = s; kernels = k; lookaheads
 -- each has the bytes that the whole result needs
 unfoldable pub roomFor : (items states kernels lookaheads kinds values gotos named : ℕ) → Bool
 roomFor items states kernels lookaheads kinds values gotos named =
-    leb 16640 items && (leb 128 states && (leb 4096 kernels && (leb 65536 lookaheads && (leb 16640 kinds && (leb 16640 values && (leb 16640 gotos && leb 256 named))))))
+    leb 16640 items && (leb 256 states && (leb 4096 kernels && (leb 65536 lookaheads && (leb 16640 kinds && (leb 16640 values && (leb 16640 gotos && leb 256 named))))))
 
 abbrev pub hasRoom : Slices → Bool
 hasRoom b =
