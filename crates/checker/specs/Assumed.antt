@@ -3,6 +3,7 @@ use Prim.Native.Nat.{ℕ, suc, _≤_}
 use mathlib.Core.Path.{_≡_}
 use mathlib.Core.Bool.{true}
 use mathlib.Core.List.{List}
+use borrow.Author.Tests.{le-leb}
 use lib.ListN.{length}
 use Rattle.language.specs.Grammar.{Grammar, IsNonterminal}
 use Rattle.language.specs.Sentence.{Reachable, AllProductive}
@@ -10,8 +11,25 @@ use Rattle.language.specs.WellFormed.{WellFormed}
 use Rattle.leftcorner.specs.Table.{Table}
 use Rattle.memory.specs.Fits.{Fits}
 use Rattle.table.specs.Book.{Reading, whole, tablesOf}
-use Rattle.table.specs.Memory.{Slices, Holds, hasRoom}
+use Rattle.table.specs.Memory.{Slices, Holds, roomFor, hasRoom}
 use Rattle.judge.specs.Given.{Sized, Given}
+
+pub record Rooms (b : Slices) : Type 0 where
+  pub items-room : 16640 ≤ length (b .items)
+  pub states-room : 256 ≤ length (b .states)
+  pub kernels-room : 4096 ≤ length (b .kernels)
+  pub lookaheads-room : 65536 ≤ length (b .lookaheads)
+  pub kinds-room : 16640 ≤ length (b .kinds)
+  pub values-room : 16640 ≤ length (b .values)
+  pub gotos-room : 16640 ≤ length (b .gotos)
+  pub named-room : 256 ≤ length (b .named)
+
+pub has-room : (b : Slices) → Rooms b → hasRoom b ≡ true
+unfolding roomFor
+has-room b r =
+    simp (le-leb 16640 (length (b .items)) (r .items-room), le-leb 256 (length (b .states)) (r .states-room), le-leb 4096 (length (b .kernels)) (r .kernels-room),
+      le-leb 65536 (length (b .lookaheads)) (r .lookaheads-room), le-leb 16640 (length (b .kinds)) (r .kinds-room), le-leb 16640 (length (b .values)) (r .values-room),
+      le-leb 16640 (length (b .gotos)) (r .gotos-room), le-leb 256 (length (b .named)) (r .named-room))
 
 pub record Sound (g : Grammar) (t : Table) : Type 0 where
   pub formed : WellFormed g

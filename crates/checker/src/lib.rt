@@ -2,8 +2,8 @@
 use reply::Reply;
 use table::TableReply;
 ghost use mathlib.Core.Path.{_≡_};
-ghost use mathlib.Core.Bool.{true};
-ghost use Rattle.table.specs.Memory.{replyOf, slices, hasRoom, Holds};
+ghost use Rattle.table.specs.Memory.{replyOf, slices, Holds};
+ghost use Rattle.checker.specs.Assumed.{Rooms};
 ghost use Rattle.checker.specs.Checked.{checkedOf, verdictOf};
 
 // Reads and judges both books. Tables that are accepted are then in the slices; a refusal leaves zeros.
@@ -19,7 +19,7 @@ pub fn load_tables(
     gotos: &mut [u8],
     named: &mut [u8],
 ) -> TableReply
-    requires { ⌜ hasRoom (slices (now items) (now «entry_states») (now kernels) (now lookaheads) (now kinds) (now values) (now gotos) (now named)) ≡ true ⌝ }
+    requires { ⌜ Rooms (slices (now items) (now «entry_states») (now kernels) (now lookaheads) (now kinds) (now values) (now gotos) (now named)) ⌝ }
     ensures { λ r. ⌜ r ≡ replyOf (checkedOf (now (grammar .entry)) (now (book .entry))) ⌝ }
     ensures { λ r. ⌜ Holds (checkedOf (now (grammar .entry)) (now (book .entry))) (slices (now (items .entry)) (now («entry_states» .entry)) (now (kernels .entry)) (now (lookaheads .entry)) (now (kinds .entry)) (now (values .entry)) (now (gotos .entry)) (now (named .entry))) (slices (now (items .exit)) (now («entry_states» .exit)) (now (kernels .exit)) (now (lookaheads .exit)) (now (kinds .exit)) (now (values .exit)) (now (gotos .exit)) (now (named .exit))) ⌝ }
 {

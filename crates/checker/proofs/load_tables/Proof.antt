@@ -1,10 +1,12 @@
 -- `checker::load_tables` meets its contract. Assumes nothing.
-use mathlib.Core.Path.{_∙_}
+use mathlib.Core.Path.{_≡_, _∙_}
+use mathlib.Core.Bool.{true}
 use Prim.Native.Nat.{_-_}
 use denote.Ref.{now}
 use borrow.Author.Needs.{needs}
-use Rattle.table.specs.Memory.{Slices, slices}
+use Rattle.table.specs.Memory.{Slices, slices, hasRoom}
 use Rattle.table.proofs.IntoLaws.{Alike, holds-alike, AllZero, holds-zero}
+use Rattle.checker.specs.Assumed.{has-room}
 use Rattle.checker.proofs.LoadLaws.{Loaded, loaded, not-loaded, loaded-sized, loaded-given, loaded-low, loaded-goal, loaded-refused, loaded-accepted}
 use Rattle.checker.proofs.load_tables.Statement.{statement}
 use Rattle.checker.proofs.load_tables.Tie as tie
@@ -45,11 +47,14 @@ zero : (c : tie.After-clear-all) → AllZero (filled (books-of (told-of (judge-o
 zero c = record { items-zero = c .clear-all .ensures .0; states-zero = c .clear-all .ensures .1 .0; kernels-zero = c .clear-all .ensures .1 .1 .0; lookaheads-zero = c .clear-all .ensures .1 .1 .1 .0; kinds-zero = c .clear-all .ensures .1 .1 .1 .1 .0; values-zero = c .clear-all .ensures .1 .1 .1 .1 .1 .0; gotos-zero = c .clear-all .ensures .1 .1 .1 .1 .1 .1 .0; named-zero = c .clear-all .ensures .1 .1 .1 .1 .1 .1 .1 }
 
 -- ---- both books were read
+room : (c : tie.Start) → hasRoom (lent c) ≡ true
+room c = has-room (lent c) (c .pre)
+
 load : (c : tie.After-known-told) → Loaded (now (start-of (books-of c) .args .grammar)) (now (start-of (books-of c) .args .book)) (lent (start-of (books-of c))) (filled (books-of c))
     (c .before .answer .given .0 .0)
 load c =
     let r = books-of c in
-    loaded (now (start-of r .args .grammar)) (now (start-of r .args .book)) (start-of r .pre) (r .read-tables .ensures) (c .before .answer .given .1)
+    loaded (now (start-of r .args .grammar)) (now (start-of r .args .book)) (room (start-of r)) (r .read-tables .ensures) (c .before .answer .given .1)
 
 read-tables-requires : tie.Need-read-tables-requires
 read-tables-requires c κs = search needs
@@ -85,10 +90,10 @@ same-length-8 : tie.Need-same-length-8
 same-length-8 c = search needs
 
 returns : tie.Need-returns
-returns c = let r = read-of (c .before .before) in let a = start-of r .args in not-loaded (now (a .grammar)) (now (a .book)) (start-of r .pre) (r .read-tables .ensures) (c .enum-told .given .1)
+returns c = let r = read-of (c .before .before) in let a = start-of r .args in not-loaded (now (a .grammar)) (now (a .book)) (room (start-of r)) (r .read-tables .ensures) (c .enum-told .given .1)
 
 judge-requires : tie.Need-judge-requires
-judge-requires c κs = let k : tie.After-known-told = c .before .before .before .before .before .before .before .before .before in (loaded-sized (load k) (start-of (books-of k) .pre), loaded-low (load k))
+judge-requires c κs = let k : tie.After-known-told = c .before .before .before .before .before .before .before .before .before in (loaded-sized (load k) (room (start-of (books-of k))), loaded-low (load k))
 
 enum-known-verdict : tie.Need-enum-known-verdict
 enum-known-verdict c = search needs
@@ -123,7 +128,7 @@ same-length-16 c = let k = cleared-of c in k .clear-all .kept .1 .1 .1 .1 .1 .1 
 returns-2 : tie.Need-returns-2
 returns-2 c = let k = cleared-of c in let j = judge-of k in let l = load (told-of j) in
     let r = books-of (told-of j) in
-    let v = j .judge .ensures (l .grammar) (l .table) (loaded-given l (start-of r .pre)) (loaded-goal l) in
+    let v = j .judge .ensures (l .grammar) (l .table) (loaded-given l (room (start-of r))) (loaded-goal l) in
     let h = holds-zero (loaded-refused l v (k .before .before .before .before .before .before .before .before .before .before .verdict .given .1)) (zero k) in
     (h .0, holds-alike (alike r) (h .1))
 
@@ -156,7 +161,7 @@ same-length-24 c = alike (books-of (told-of (c .before .before))) .named-same
 
 returns-3 : tie.Need-returns-3
 returns-3 c = let j : tie.After-judge = c .before .before in let l = load (told-of j) in
-    let v = j .judge .ensures (l .grammar) (l .table) (loaded-given l (start-of (books-of (told-of j)) .pre)) (loaded-goal l) in
+    let v = j .judge .ensures (l .grammar) (l .table) (loaded-given l (room (start-of (books-of (told-of j))))) (loaded-goal l) in
     loaded-accepted l v (c .enum-told2 .given .1)
 
 pub load-tables-spec : {M : Type 1} → statement M
