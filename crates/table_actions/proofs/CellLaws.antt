@@ -11,8 +11,7 @@ use lib.Dec.{eqb}
 use lib.ListN.{length, getD, set}
 use Rattle.leftcorner.specs.Table.{Action, S, N, A, P, ActionLine, L, actionFor, gotoState}
 use Rattle.memory.specs.Memory.{kindOf}
-use Rattle.table_lines.specs.Image.{image, flag}
-use Rattle.table_lines.proofs.ImageLaws.{image-at, image-set, image-same, image-length}
+use Rattle.table_lines.proofs.ImageLaws.{image-long, image-read}
 use Rattle.table_lines.proofs.ListLaws.{both-true}
 use Rattle.table_actions.specs.Actions.{isNone}
 use Rattle.table_actions.specs.Memory.{cellAt, kindAt, gotoAt, Formed, AllFormed, Cells}
@@ -126,13 +125,11 @@ module _ (q X : ℕ) (few : q ≤ 255) where
   module _ {a b c : ℕ} {l : List ActionLine} {kinds values gotos : List ℕ} (h : Cells a b c l kinds values gotos) where
     kind-read : X < 64 → q * 64 + X < length kinds → getD kinds (q * 64 + X) 0 ≡ kindOf (actionFor l q X)
     kind-read s r =
-        ap (λ (m : List ℕ). getD m (q * 64 + X) 0) (h .kinds-are)
-          ∙ (image-at a (kindAt l) (q * 64 + X) (omega (arith, r, ap length (h .kinds-are), image-length a (kindAt l))) ∙ cell-back kindOf l s)
+        image-read a (kindAt l) (h .kinds-are) (q * 64 + X) (omega (arith, r, image-long a (kindAt l) (h .kinds-are))) ∙ cell-back kindOf l s
 
     goto-read : 64 ≤ X → X < 128 → q * 64 + (X - 64) < length gotos → getD gotos (q * 64 + (X - 64)) 0 ≡ gotoState (actionFor l q X)
     goto-read s t r =
-        ap (λ (m : List ℕ). getD m (q * 64 + (X - 64)) 0) (h .gotos-are)
-          ∙ (image-at c (gotoAt l) (q * 64 + (X - 64)) (omega (arith, r, ap length (h .gotos-are), image-length c (gotoAt l))) ∙ goto-back l s t)
+        image-read c (gotoAt l) (h .gotos-are) (q * 64 + (X - 64)) (omega (arith, r, image-long c (gotoAt l) (h .gotos-are))) ∙ goto-back l s t
 
     pub cell-free : X < 64 → 16640 ≤ length kinds → getD kinds (q * 64 + X) 0 ≡ 0 → false ≡ not (isNone (actionFor l q X))
     cell-free s r e = kind-none l (h .formed) q X s (sym (kind-read s (omega arith)) ∙ e)
