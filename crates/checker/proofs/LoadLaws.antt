@@ -15,10 +15,11 @@ use Rattle.table.specs.declared.TableReply.{TableReply}
 use Rattle.table.specs.declared.TableReply.the-variants as reply
 use Rattle.table.specs.Book.{Reading, whole, rejected, tablesOf, readOf}
 use Rattle.table.specs.Memory.{countsOf, replyOf, Slices, hasRoom, Holds}
+use Rattle.table_facts.specs.Sound.{Sound, tables-sound}
+use Rattle.table_views.specs.Views.{sized, given}
 use Rattle.judge.specs.Accepts.{tableVerdict}
 use Rattle.judge.specs.Given.{Sized, Given}
 use Rattle.checker.specs.Checked.{byReply, judged, checkedOf}
-use Rattle.checker.specs.Assumed.{Sound, tables-sound, sized, given}
 
 -- a grammar and its table are in the slices, by these figures
 pub record Loaded (gs s : List ℕ) (b a : Slices) (c : Counts) : Type 0 where
@@ -60,7 +61,7 @@ module _ {gs s : List ℕ} {b a : Slices} {c : Counts} (l : Loaded gs s b a c) w
 
     pub loaded-given : Given (l .grammar) (l .table) (a .items) (a .states) (a .kernels) (a .lookaheads) (a .kinds) (a .values) (a .gotos) (a .named) (c .grammar .rules) (c .entries)
         (c .kernels) (c .states) (c .grammar .terminals + 1)
-    loaded-given = let S = loaded-sound in rw (l .counts-are, add-one (l .grammar .terminals)) (given (l .holds) room (S .formed) (S .fits) (S .some-entry))
+    loaded-given = let S = loaded-sound in rw (l .counts-are, add-one (l .grammar .terminals)) (given (l .holds) room (S .formed) (S .fits))
       where
         add-one : (n : ℕ) → n + 1 ≡ suc n
         add-one n = omega arith

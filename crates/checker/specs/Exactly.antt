@@ -14,10 +14,10 @@ use Rattle.reply.specs.declared.Reply.{Reply}
 use Rattle.reply.specs.declared.Reply.the-variants.{Accepted, Refused}
 use Rattle.table.specs.Book.{Reading, whole, rejected, tablesOf}
 use Rattle.table.specs.Memory.{replyOf, asReply}
+use Rattle.table_facts.specs.Sound.{Sound, tables-sound}
 use Rattle.judge.specs.Accepts.{tableVerdict, accepted-zero, accepted-exactly}
 use Rattle.judge.proofs.VerdictLaws.{declared-of}
 use Rattle.checker.specs.Checked.{byReply, judged, checkedOf, verdictOf, Accepts}
-use Rattle.checker.specs.Assumed.{Sound, tables-sound}
 
 -- a table that was read is accepted exactly when it meets the construction
 verdict-exactly : {g : Grammar} {t : Table} → Sound g t → (tableVerdict g t ≡ Accepted 0) ↔ Meets g t

@@ -2,8 +2,7 @@
 use reply::Reply;
 use table::TableReply;
 ghost use mathlib.Core.Path.{_≡_};
-ghost use Rattle.table.specs.Memory.{replyOf, slices, Holds};
-ghost use Rattle.checker.specs.Assumed.{Rooms};
+ghost use Rattle.table.specs.Memory.{replyOf, slices, Rooms, Holds};
 ghost use Rattle.checker.specs.Checked.{checkedOf, verdictOf};
 
 // Reads and judges both books. Tables that are accepted are then in the slices; a refusal leaves zeros.

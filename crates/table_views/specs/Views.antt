@@ -13,7 +13,7 @@ use Rattle.memory.specs.Memory.{HoldsItems}
 use Rattle.memory.specs.Fits.{Fits}
 use Rattle.memory.specs.Held.{Held}
 use Rattle.conformance.specs.Items.{HoldsNamed}
-use Rattle.checker.specs.Given.{Sized, Given}
+use Rattle.judge.specs.Given.{Sized, Given}
 use Rattle.table_lines.proofs.ImageLaws.{image-long}
 use Rattle.table.specs.Book.{whole}
 use Rattle.table.specs.Memory.{Slices, hasRoom, Rooms, Holds}

@@ -5,8 +5,7 @@ use Prim.Native.Nat.{_-_}
 use denote.Ref.{now}
 use borrow.Author.Needs.{needs}
 use Rattle.table.specs.Memory.{Slices, slices, hasRoom}
-use Rattle.table.proofs.IntoLaws.{Alike, holds-alike, AllZero, holds-zero}
-use Rattle.checker.specs.Assumed.{has-room}
+use Rattle.table.proofs.IntoLaws.{has-room, Alike, holds-alike, AllZero, holds-zero}
 use Rattle.checker.proofs.LoadLaws.{Loaded, loaded, not-loaded, loaded-sized, loaded-given, loaded-low, loaded-goal, loaded-refused, loaded-accepted}
 use Rattle.checker.proofs.load_tables.Statement.{statement}
 use Rattle.checker.proofs.load_tables.Tie as tie
@@ -54,7 +53,7 @@ load : (c : tie.After-known-told) → Loaded (now (start-of (books-of c) .args .
     (c .before .answer .given .0 .0)
 load c =
     let r = books-of c in
-    loaded (now (start-of r .args .grammar)) (now (start-of r .args .book)) (room (start-of r)) (r .read-tables .ensures) (c .before .answer .given .1)
+    loaded (now (start-of r .args .grammar)) (now (start-of r .args .book)) {b = lent (start-of r)} {a = filled r} (room (start-of r)) (r .read-tables .ensures) (c .before .answer .given .1)
 
 read-tables-requires : tie.Need-read-tables-requires
 read-tables-requires c κs = search needs
@@ -90,7 +89,7 @@ same-length-8 : tie.Need-same-length-8
 same-length-8 c = search needs
 
 returns : tie.Need-returns
-returns c = let r = read-of (c .before .before) in let a = start-of r .args in not-loaded (now (a .grammar)) (now (a .book)) (room (start-of r)) (r .read-tables .ensures) (c .enum-told .given .1)
+returns c = let r = read-of (c .before .before) in let a = start-of r .args in not-loaded (now (a .grammar)) (now (a .book)) {b = lent (start-of r)} {a = filled r} (room (start-of r)) (r .read-tables .ensures) (c .enum-told .given .1)
 
 judge-requires : tie.Need-judge-requires
 judge-requires c κs = let k : tie.After-known-told = c .before .before .before .before .before .before .before .before .before in (loaded-sized (load k) (room (start-of (books-of k))), loaded-low (load k))
