@@ -24,7 +24,7 @@ use Rattle.walker.specs.Memory as memory
 use Rattle.walker.specs.Walked.{memoryWalk}
 use Rattle.walker.proofs.MemoryLaws.{rule-is}
 use Rattle.walker.proofs.AgreeLaws.{CodeOf, walk-agree, units-agree}
-use Rattle.session.specs.Linked.{Linked}
+use Rattle.linked_rules.specs.Linked.{Linked}
 
 -- every state of a stack fits a byte
 abbrev pub AllLow : List ℕ → Type 0
