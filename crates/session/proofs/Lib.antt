@@ -1,1 +1,3 @@
 pub mod AgreeLaws
+pub mod StrayLaws
+pub mod TableLaws
