@@ -1,1 +1,4 @@
 pub mod Session
+pub mod SessionLaws
+pub mod Assumed
+pub mod Demand3
