@@ -4,6 +4,7 @@ use range::in_range;
 use reply::Kind;
 use reply::Refusal;
 use reply::clear;
+use table::TableReply;
 use walker::Walked;
 ghost use mathlib.Core.Path.{_≡_};
 ghost use Prim.Native.Nat.{_+_, _<_, _≤_};
@@ -14,7 +15,10 @@ ghost use Rattle.leftcorner.specs.Construction.{Meets};
 ghost use Rattle.items.specs.Layout.{Shaped};
 ghost use Rattle.memory.specs.Memory.{HoldsEntries, HoldsActions};
 ghost use Rattle.entry_list.specs.Uses.{HoldsStrings};
-ghost use Rattle.session.specs.Session.{strayFrom, refusedBy, tableSession, Tells};
+ghost use Rattle.table.specs.Memory.{replyOf, slices, Holds};
+ghost use Rattle.checker.specs.Checked.{checkedOf};
+ghost use Rattle.session.specs.Assumed.{Rooms};
+ghost use Rattle.session.specs.Session.{strayFrom, refusedBy, tableSession, afterBooks, session, Tells};
 
 // Accepted, with the tokens read, the rules listed and the units among them; or refused.
 pub type SessionReply = Walked;
@@ -86,4 +90,107 @@ fn walk_table(
     linked_rules::link_rules(items, rules, strings, entries, &uses, &mut rows);
     let start = entries[1];
     walker::walk_tokens(kinds, values, gotos, &rows, start, tokens, stack, listing)
+}
+
+// STUB
+pub fn load_tables(
+    grammar: &[u8],
+    book: &[u8],
+    items: &mut [u8],
+    entry_states: &mut [u8],
+    kernels: &mut [u8],
+    lookaheads: &mut [u8],
+    kinds: &mut [u8],
+    values: &mut [u8],
+    gotos: &mut [u8],
+    named: &mut [u8],
+) -> TableReply
+    requires { ⌜ Rooms (slices (now items) (now «entry_states») (now kernels) (now lookaheads) (now kinds) (now values) (now gotos) (now named)) ⌝ }
+    ensures { λ r. ⌜ r ≡ replyOf (checkedOf (now (grammar .entry)) (now (book .entry))) ⌝ }
+    ensures { λ r. ⌜ Holds (checkedOf (now (grammar .entry)) (now (book .entry))) (slices (now (items .entry)) (now («entry_states» .entry)) (now (kernels .entry)) (now (lookaheads .entry)) (now (kinds .entry)) (now (values .entry)) (now (gotos .entry)) (now (named .entry))) (slices (now (items .exit)) (now («entry_states» .exit)) (now (kernels .exit)) (now (lookaheads .exit)) (now (kinds .exit)) (now (values .exit)) (now (gotos .exit)) (now (named .exit))) ⌝ }
+{
+    TableReply::Refused(Refusal {
+        kind: Kind::Undeclared,
+        place: 0,
+    })
+}
+// END STUB
+
+// Reads and checks both books, and walks the tokens where they are accepted.
+fn walk_books(
+    grammar: &[u8],
+    tables: &[u8],
+    tokens: &[u8],
+    stack: &mut [u8],
+    listing: &mut [u8],
+) -> SessionReply
+    ensures { λ r. ⌜ Tells (afterBooks (length (now (stack .entry))) (length (now (listing .entry))) (checkedOf (now (grammar .entry)) (now (tables .entry))) (now (tokens .entry))) r (now (stack .exit)) (now (listing .exit)) ⌝ }
+{
+    let mut items = [0u8; table::ITEMS];
+    let mut entry_states = [0u8; 256];
+    let mut kernels = [0u8; table::KERNELS];
+    let mut lookaheads = [0u8; table::LOOKAHEADS];
+    let mut kinds = [0u8; table::CELLS];
+    let mut values = [0u8; table::CELLS];
+    let mut gotos = [0u8; table::CELLS];
+    let mut named = [0u8; table::NAMED];
+    let answer = load_tables(
+        grammar,
+        tables,
+        &mut items,
+        &mut entry_states,
+        &mut kernels,
+        &mut lookaheads,
+        &mut kinds,
+        &mut values,
+        &mut gotos,
+        &mut named,
+    );
+    match answer {
+        TableReply::Refused(why) => refuse(why, stack, listing),
+        TableReply::Read(counts) => {
+            let heading = counts.grammar;
+            walk_table(
+                &items,
+                &entry_states,
+                &kinds,
+                &values,
+                &gotos,
+                heading.terminals,
+                heading.goal,
+                heading.rules,
+                counts.entries,
+                tokens,
+                stack,
+                listing,
+            )
+        }
+    }
+}
+
+// A session: reads and checks both books, then walks the tokens. Accepted ("whole"), the listing slice has the rules in the order of
+// the walk, then zeros; a refusal leaves zeros. The stack slice is lent for the walk, and is zeros after.
+// What is promised of the session for books that are accepted is `demand3` (specs/Demand3.antt).
+pub fn run_session(
+    grammar: &[u8],
+    tables: &[u8],
+    tokens: &[u8],
+    stack: &mut [u8],
+    listing: &mut [u8],
+) -> SessionReply
+    ensures replied { λ r. ⌜ r ≡ session (now (grammar .entry)) (now (tables .entry)) (now (tokens .entry)) (length (now (stack .entry))) (length (now (listing .entry))) .reply ⌝ }
+    ensures listed { λ r. ⌜ now (listing .exit) ≡ session (now (grammar .entry)) (now (tables .entry)) (now (tokens .entry)) (length (now (stack .entry))) (length (now (listing .entry))) .listing ⌝ }
+    ensures cleared { λ r. ⌜ now (stack .exit) ≡ session (now (grammar .entry)) (now (tables .entry)) (now (tokens .entry)) (length (now (stack .entry))) (length (now (listing .entry))) .stack ⌝ }
+{
+    if 65535 < tokens.len() {
+        return refuse(
+            Refusal {
+                kind: Kind::LimitExceeded,
+                place: 0,
+            },
+            stack,
+            listing,
+        );
+    }
+    walk_books(grammar, tables, tokens, stack, listing)
 }
