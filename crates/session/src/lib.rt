@@ -44,7 +44,7 @@ fn find_stray(tokens: &[u8], terminals: usize) -> Found
 }
 
 // Refuses, with zeros in both slices.
-fn refuse(why: Refusal, stack: &mut [u8], listing: &mut [u8]) -> SessionReply
+pub fn refuse(why: Refusal, stack: &mut [u8], listing: &mut [u8]) -> SessionReply
     ensures { λ r. ⌜ Tells (refusedBy (length (now (stack .entry))) (length (now (listing .entry))) why) r (now (stack .exit)) (now (listing .exit)) ⌝ }
 {
     clear(stack);
