@@ -13,6 +13,34 @@ CRATE = os.path.join(os.path.dirname(os.path.abspath(__file__)), '..', 'crates',
 LINE = re.compile(rb'([A-Z]),([!-+\--~]{1,30})')
 HOUSE = {b'D': 1, b'G': 2, b'P': 3, b'E': 5, b'T': 6, b'F': 7}
 ROOM = 65536
+# files by name, read with room for all tokens
+PLAIN = {
+    'comma-in-text': b'D,x,y\n',
+    'comma-at-end': b'D,x,\n',
+    'two-commas': b'D,,x\n',
+    'no-comma': b'D\n',
+    'colon': b'D:x\n',
+    'letter-alone': b'D',
+    'letter-comma': b'D,',
+    'empty-line': b'\n',
+    'empty-line-last': b'D,x\n\n',
+    'no-lf': b'D,x',
+    'no-lf-repeat': b'D,x\nD,x',
+    'no-lf-of-31': b'D,x\nD,' + b'x' * 31,
+    'cr': b'D,x\r\n',
+    'stray-no-lf': b'B,x',
+    'stray-malformed': b'D,x\nB,\n',
+    'stray-then-malformed': b'B,x\nD,\n',
+    'stray-repeated': b'D,x\nB,x\nB,x\n',
+    'repeat-of-repeat': b'D,x\nD,x\nD,x\nD,x\n',
+    'repeat-each-letter': b''.join(bytes([c]) + b',z\n' for c in b'DDGGPPEETTFF'),
+    'repeat-not-next': b'D,x\nG,x\nD,x\n',
+    'same-letter': b'D,x\nD,y\nD,x\nD,y\n',
+    'same-text': b'D,x\nG,x\nP,x\n',
+    'longer-text': b'D,x\nD,xx\nD,x\nD,x\n',
+    'first-byte-of-text': b'D,xab\nD,yab\n',
+    'last-byte-of-30': b'T,' + b'x' * 30 + b'\nT,' + b'x' * 29 + b'y\nT,' + b'x' * 29 + b'y\n',
+}
 
 
 def read(scans, room):
@@ -52,31 +80,8 @@ def own():
         yield f'text-of-{n}', b'E,q\nT,' + b'x' * n + b'\n', ROOM
     for c in range(65, 91):
         yield f'letter-{chr(c)}', b'F,1\n' + bytes([c]) + b',1\n', ROOM
-    yield 'comma-in-text', b'D,x,y\n', ROOM
-    yield 'comma-at-end', b'D,x,\n', ROOM
-    yield 'two-commas', b'D,,x\n', ROOM
-    yield 'no-comma', b'D\n', ROOM
-    yield 'colon', b'D:x\n', ROOM
-    yield 'letter-alone', b'D', ROOM
-    yield 'letter-comma', b'D,', ROOM
-    yield 'empty-line', b'\n', ROOM
-    yield 'empty-line-last', b'D,x\n\n', ROOM
-    yield 'no-lf', b'D,x', ROOM
-    yield 'no-lf-repeat', b'D,x\nD,x', ROOM
-    yield 'no-lf-of-31', b'D,x\nD,' + b'x' * 31, ROOM
-    yield 'cr', b'D,x\r\n', ROOM
-    yield 'stray-no-lf', b'B,x', ROOM
-    yield 'stray-malformed', b'D,x\nB,\n', ROOM
-    yield 'stray-then-malformed', b'B,x\nD,\n', ROOM
-    yield 'stray-repeated', b'D,x\nB,x\nB,x\n', ROOM
-    yield 'repeat-of-repeat', b'D,x\nD,x\nD,x\nD,x\n', ROOM
-    yield 'repeat-each-letter', b''.join(bytes([c]) + b',z\n' for c in b'DDGGPPEETTFF'), ROOM
-    yield 'repeat-not-next', b'D,x\nG,x\nD,x\n', ROOM
-    yield 'same-letter', b'D,x\nD,y\nD,x\nD,y\n', ROOM
-    yield 'same-text', b'D,x\nG,x\nP,x\n', ROOM
-    yield 'longer-text', b'D,x\nD,xx\nD,x\nD,x\n', ROOM
-    yield 'first-byte-of-text', b'D,xab\nD,yab\n', ROOM
-    yield 'last-byte-of-30', b'T,' + b'x' * 30 + b'\nT,' + b'x' * 29 + b'y\nT,' + b'x' * 29 + b'y\n', ROOM
+    for name, scans in PLAIN.items():
+        yield name, scans, ROOM
     for room in (ROOM, 16385, 16384, 16383, 0):
         yield 'bytes-65536', full, room
     yield 'bytes-65536-stray-last', full[:-4] + b'A,b\n', ROOM

@@ -11,6 +11,7 @@ use lib.ListN.{length, getD, replicate, length-replicate, List·getD-eq-default}
 use lib.Seq.{sets, length-sets}
 use Rattle.language.specs.Grammar.{Grammar, Rule, right, at, ruleAt, IsTerminal, IsNonterminal}
 use Rattle.language.specs.Listing.{unitOf}
+use Rattle.language.specs.Sentence.{In}
 use Rattle.language.specs.GrammarLaws.{not-there, at-below, in-string}
 use Rattle.language.specs.WellFormed.{WellFormed}
 use Rattle.items.specs.Layout.{body, row, startsOf, itemTable, layout, leftAt, lengthAt, symbolAt, RowIs, RuleIn, EntryIn, Holds, Shaped}
@@ -129,12 +130,15 @@ declared-below g w X (inl h) = omega (arith, h .1, w .few-terminals)
 declared-below g w X (inr h) = omega (arith, h .1, w .few-nonterminals)
 
 module _ (g : Grammar) (w : WellFormed g) where
-  rule-fits : (k : ℕ) (r : Rule) → at (g .rules) k ≡ some r → (r .left < 128) × Fits (right r)
-  rule-fits k r e = let f = w .formed (suc k) e in (declared-below g w (r .left) (inr (f .left-declared)), (f .short, λ j. go j (decLt j (length (right r)))))
+  pub declared-fits : (α : List ℕ) → length α ≤ 15 → ((X : ℕ) → In X α → IsTerminal g X ⊎ IsNonterminal g X) → Fits α
+  declared-fits α s d = (s, λ j. go j (decLt j (length α)))
     where
-      go : (j : ℕ) → Dec (j < length (right r)) → getD (right r) j 0 < 128
-      go j (yes l) = declared-below g w (getD (right r) j 0) (w .formed (suc k) e .declared (getD (right r) j 0) (in-string (right r) j l))
-      go j (no n) = omega (arith, List·getD-eq-default (right r) 0 {n = j} (omega arith))
+      go : (j : ℕ) → Dec (j < length α) → getD α j 0 < 128
+      go j (yes l) = declared-below g w (getD α j 0) (d (getD α j 0) (in-string α j l))
+      go j (no n) = omega (arith, List·getD-eq-default α 0 {n = j} (omega arith))
+
+  pub rule-fits : (k : ℕ) (r : Rule) → at (g .rules) k ≡ some r → (r .left < 128) × Fits (right r)
+  rule-fits k r e = let f = w .formed (suc k) e in (declared-below g w (r .left) (inr (f .left-declared)), declared-fits (right r) (f .short) (f .declared))
 
   module _ (size : ℕ) (room : suc (length (g .rules)) * 64 ≤ size) where
     pub layout-holds : Holds (layout g size) (length (g .rules)) g

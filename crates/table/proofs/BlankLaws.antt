@@ -20,7 +20,8 @@ use Rattle.table_lines.specs.Image.{image, flag}
 use Rattle.table_lines.proofs.ImageLaws.{image-zeros}
 use Rattle.table_entries.specs.Memory.{stringsOf, stateAt, isEntryState, withEntries, Rows, EntryMemory}
 use Rattle.table_kernels.specs.Memory.{figureAt, lookaheadAt, KernelImage}
-use Rattle.table_actions.specs.Memory.{kindOf, valueOf, cellAt, gotoAt, isNamed, Cells, ActionMemory}
+use Rattle.memory.specs.Memory.{kindOf, valueOf}
+use Rattle.table_actions.specs.Memory.{cellAt, gotoAt, isNamed, Cells, ActionMemory}
 use Rattle.table.specs.Book.{whole, tableWith}
 use Rattle.table.specs.Memory.{Slices, Zero, Cleared, Blank, Roomy, Holds}
 

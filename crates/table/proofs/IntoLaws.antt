@@ -4,7 +4,7 @@ use mathlib.Core.Path.{_≡_, refl, sym, ap, subst, _∙_}
 use mathlib.Core.List.{List}
 use mathlib.Core.Bool.{Bool, true, false, cond, _&&_}
 use native.Mathlib.Omega.{arith}
-use borrow.Author.Tests.{lt-ltb, le-ltb, leb-true}
+use borrow.Author.Tests.{lt-ltb, le-ltb, le-leb, leb-true}
 use lib.Dec.{leb}
 use lib.ListN.{length, replicate}
 use Rattle.language.specs.Grammar.{Grammar}
@@ -23,7 +23,7 @@ use Rattle.table.specs.declared.TableReply.{TableReply}
 use Rattle.table.specs.declared.TableReply.the-variants as reply
 use Rattle.table.specs.declared.Counts.{Counts}
 use Rattle.table.specs.Book.{Reading, whole, rejected, rejectedAt, tableOf, tablesOf, readOf}
-use Rattle.table.specs.Memory.{replyOf, Slices, slices, roomFor, hasRoom, Roomy, Zero, Cleared, Wiped, Blank, Holds, Fills, filled-with, denied}
+use Rattle.table.specs.Memory.{replyOf, Slices, slices, roomFor, hasRoom, Rooms, Roomy, Zero, Cleared, Wiped, Blank, Holds, Fills, filled-with, denied}
 
 module _ (gs s : List ℕ) where
   pub too-long : 65536 < length s → tablesOf gs s ≡ rejectedAt kind.LimitExceeded 0
@@ -151,14 +151,32 @@ room-holds x {b} {a} {r} e h = rw (e, same x) h
     same (whole g t) = refl
     same (rejected why) = refl
 
-pub room-tells : (b : Slices) → hasRoom b ≡ true → Roomy b
+pub rooms-tell : (b : Slices) → hasRoom b ≡ true → Rooms b
 unfolding roomFor
-room-tells b e =
+rooms-tell b e =
     let a = both-true (leb 16640 (length (b .items))) _ e in
-    let s = both-true (leb 128 (length (b .states))) _ (a .1) in
+    let s = both-true (leb 256 (length (b .states))) _ (a .1) in
     let k = both-true (leb 4096 (length (b .kernels))) _ (s .1) in
     let l = both-true (leb 65536 (length (b .lookaheads))) _ (k .1) in
     let c = both-true (leb 16640 (length (b .kinds))) _ (l .1) in
     let v = both-true (leb 16640 (length (b .values))) _ (c .1) in
     let g = both-true (leb 16640 (length (b .gotos))) _ (v .1) in
-    record { items-room = leb-true 16640 (length (b .items)) (a .0); kinds-room = leb-true 16640 (length (b .kinds)) (c .0); gotos-room = leb-true 16640 (length (b .gotos)) (g .0) }
+    record
+    { items-room = leb-true 16640 (length (b .items)) (a .0)
+    ; states-room = leb-true 256 (length (b .states)) (s .0)
+    ; kernels-room = leb-true 4096 (length (b .kernels)) (k .0)
+    ; lookaheads-room = leb-true 65536 (length (b .lookaheads)) (l .0)
+    ; kinds-room = leb-true 16640 (length (b .kinds)) (c .0)
+    ; values-room = leb-true 16640 (length (b .values)) (v .0)
+    ; gotos-room = leb-true 16640 (length (b .gotos)) (g .0)
+    ; named-room = leb-true 256 (length (b .named)) (g .1) }
+
+pub has-room : (b : Slices) → Rooms b → hasRoom b ≡ true
+unfolding roomFor
+has-room b r =
+    simp (le-leb 16640 (length (b .items)) (r .items-room), le-leb 256 (length (b .states)) (r .states-room), le-leb 4096 (length (b .kernels)) (r .kernels-room),
+      le-leb 65536 (length (b .lookaheads)) (r .lookaheads-room), le-leb 16640 (length (b .kinds)) (r .kinds-room), le-leb 16640 (length (b .values)) (r .values-room),
+      le-leb 16640 (length (b .gotos)) (r .gotos-room), le-leb 256 (length (b .named)) (r .named-room))
+
+pub room-tells : (b : Slices) → hasRoom b ≡ true → Roomy b
+room-tells b e = let r = rooms-tell b e in record { items-room = r .items-room; kinds-room = r .kinds-room; gotos-room = r .gotos-room }

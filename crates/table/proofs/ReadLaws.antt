@@ -1,6 +1,6 @@
 -- What comes of a book, block by block. h is the heading of the grammar g.
 use Prim.Native.Nat.{ℕ, zero, suc, _+_, _≤_}
-use mathlib.Core.Path.{_≡_, refl, sym, ap, subst, _∙_}
+use mathlib.Core.Path.{_≡_, refl, ap, subst}
 use mathlib.Core.List.{List, [], _∷_, _++_}
 use mathlib.Core.Bool.{Bool, true, false, cond, _&&_}
 use native.Mathlib.Omega.{arith}
@@ -92,24 +92,27 @@ module _ (g : Grammar) (s : List ℕ) where
   unfolding tableOf
   head-read e = simp e
 
-pub head-low : (s : List ℕ) {states entries first : ℕ} → headOf s ≡ head.Read states entries first → (states ≤ 255) × (entries ≤ 127)
+pub head-within : (s : List ℕ) {states entries first : ℕ} → headOf s ≡ head.Read states entries first → ((1 ≤ states) × (states ≤ 255)) × ((1 ≤ entries) × (entries ≤ 127))
 unfolding headOf
-head-low s {states} {entries} {first} e = go (lineAt s 0) e
+head-within s {states} {entries} {first} e = go (lineAt s 0) e
   where
     figures : (letter : ℕ) (ns : List ℕ) (next : ℕ) (x y : Bool) → within 1 (getD ns 0 0) 255 && within 1 (getD ns 1 0) 127 ≡ y
         → cond x (cond y (head.Read (getD ns 0 0) (getD ns 1 0) next) (headAt kind.LimitExceeded)) (headAt kind.Malformed) ≡ head.Read states entries first
-        → (states ≤ 255) × (entries ≤ 127)
+        → ((1 ≤ states) × (states ≤ 255)) × ((1 ≤ entries) × (entries ≤ 127))
     figures letter ns next true true p e =
         let w = both-true (within 1 (getD ns 0 0) 255) (within 1 (getD ns 1 0) 127) p in
         let a : getD ns 0 0 ≡ states = cc in
-        let b : getD ns 1 0 ≡ entries = cc in
-        (omega (arith, a, within-true 1 (getD ns 0 0) 255 (w .0) .1), omega (arith, b, within-true 1 (getD ns 1 0) 127 (w .1) .1))
+        let b : getD ns 1 0 ≡ entries = cc in (
+          subst (λ (v : ℕ). (1 ≤ v) × (v ≤ 255)) a (within-true 1 (getD ns 0 0) 255 (w .0)),
+          subst (λ (v : ℕ). (1 ≤ v) × (v ≤ 127)) b (within-true 1 (getD ns 1 0) 127 (w .1)),
+        )
     figures letter ns next true false p e = let z : _≡_ {A = ℕ} 0 1 = cc in absurd (omega arith)
     figures letter ns next false y p e = let z : _≡_ {A = ℕ} 0 1 = cc in absurd (omega arith)
+
     go : (x : TextLine)
         → onLine x (λ letter ns next. cond (eqb letter 84 && eqb (length ns) 2)
-          (cond (within 1 (getD ns 0 0) 255 && within 1 (getD ns 1 0) 127) (head.Read (getD ns 0 0) (getD ns 1 0) next) (headAt kind.LimitExceeded)) (headAt kind.Malformed)) (headAt kind.Malformed)
-          ≡ head.Read states entries first
-        → (states ≤ 255) × (entries ≤ 127)
+        (cond (within 1 (getD ns 0 0) 255 && within 1 (getD ns 1 0) 127) (head.Read (getD ns 0 0) (getD ns 1 0) next) (headAt kind.LimitExceeded)) (headAt kind.Malformed)) (headAt kind.Malformed)
+        ≡ head.Read states entries first
+        → ((1 ≤ states) × (states ≤ 255)) × ((1 ≤ entries) × (entries ≤ 127))
     go (line.whole letter ns next) e = figures letter ns next (eqb letter 84 && eqb (length ns) 2) (within 1 (getD ns 0 0) 255 && within 1 (getD ns 1 0) 127) refl e
     go line.broken e = let z : _≡_ {A = ℕ} 0 1 = cc in absurd (omega arith)

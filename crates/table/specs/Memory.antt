@@ -82,13 +82,24 @@ slices i s k l c v g n = record { items = i; states = s; kernels = k; lookaheads
 -- each has the bytes that the whole result needs
 unfoldable pub roomFor : (items states kernels lookaheads kinds values gotos named : ℕ) → Bool
 roomFor items states kernels lookaheads kinds values gotos named =
-    leb 16640 items && (leb 128 states && (leb 4096 kernels && (leb 65536 lookaheads && (leb 16640 kinds && (leb 16640 values && (leb 16640 gotos && leb 256 named))))))
+    leb 16640 items && (leb 256 states && (leb 4096 kernels && (leb 65536 lookaheads && (leb 16640 kinds && (leb 16640 values && (leb 16640 gotos && leb 256 named))))))
 
 abbrev pub hasRoom : Slices → Bool
 hasRoom b =
     roomFor (length (b .items)) (length (b .states)) (length (b .kernels)) (length (b .lookaheads)) (length (b .kinds)) (length (b .values)) (length (b .gotos))
     (length (b .named))
 
+pub record Rooms (b : Slices) : Type 0 where
+  pub items-room : 16640 ≤ length (b .items)
+  pub states-room : 256 ≤ length (b .states)
+  pub kernels-room : 4096 ≤ length (b .kernels)
+  pub lookaheads-room : 65536 ≤ length (b .lookaheads)
+  pub kinds-room : 16640 ≤ length (b .kinds)
+  pub values-room : 16640 ≤ length (b .values)
+  pub gotos-room : 16640 ≤ length (b .gotos)
+  pub named-room : 256 ≤ length (b .named)
+
+-- what the reader's indices need of it
 pub record Roomy (b : Slices) : Type 0 where
   pub items-room : 16640 ≤ length (b .items)
   pub kinds-room : 16640 ≤ length (b .kinds)

@@ -22,7 +22,7 @@ ghost use Rattle.table.specs.Memory.{asReply, replyOf, slices, roomFor, 
 
 // The bytes that each slice must have at least.
 pub const ITEMS: usize = 16640;
-pub const ENTRY_STATES: usize = 128;
+pub const ENTRY_STATES: usize = 256;
 pub const KERNELS: usize = 4096;
 pub const LOOKAHEADS: usize = 65536;
 pub const CELLS: usize = 16640;
@@ -145,7 +145,8 @@ fn read_book(
     }
 }
 
-fn clear_all(
+// Zeros in each slice.
+pub fn clear_all(
     items: &mut [u8],
     entry_states: &mut [u8],
     kernels: &mut [u8],

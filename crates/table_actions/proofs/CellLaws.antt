@@ -10,11 +10,11 @@ use borrow.Author.Tests.{eq-eqb, ne-eqb, eqb-true}
 use lib.Dec.{eqb}
 use lib.ListN.{length, getD, set}
 use Rattle.leftcorner.specs.Table.{Action, S, N, A, P, ActionLine, L, actionFor, gotoState}
-use Rattle.table_lines.specs.Image.{image, flag}
-use Rattle.table_lines.proofs.ImageLaws.{image-at, image-set, image-same, image-length}
+use Rattle.memory.specs.Memory.{kindOf}
+use Rattle.table_lines.proofs.ImageLaws.{image-long, image-read}
 use Rattle.table_lines.proofs.ListLaws.{both-true}
 use Rattle.table_actions.specs.Actions.{isNone}
-use Rattle.table_actions.specs.Memory.{kindOf, cellAt, kindAt, gotoAt, Formed, AllFormed, Cells}
+use Rattle.table_actions.specs.Memory.{cellAt, kindAt, gotoAt, Formed, AllFormed, Cells}
 
 abbrev same : ℕ → ℕ → ℕ → ℕ → Bool
 same p Y q X = eqb p q && eqb Y X
@@ -76,16 +76,16 @@ module _ (l : List ActionLine) (h : AllFormed l) (q X : ℕ) where
       go none e = refl
       go (some x) e = let d = found-formed l h q X e in absurd (f (low-state q X x d) (low-symbol q X x d))
 
-  -- the kind of a cell tells whether there is a line
-  kind-none : kindOf (actionFor l q X) ≡ 0 → false ≡ not (isNone (actionFor l q X))
-  kind-none z = go (actionFor l q X) z
+  -- the kind of a cell tells whether there is a line, for a terminal
+  kind-none : X < 64 → kindOf (actionFor l q X) ≡ 0 → false ≡ not (isNone (actionFor l q X))
+  kind-none b z = go (actionFor l q X) refl z
     where
-      go : (o : Option Action) → kindOf o ≡ 0 → false ≡ not (isNone o)
-      go none e = refl
-      go (some (S s)) e = absurd (omega (arith, e))
-      go (some (N s)) e = absurd (omega (arith, e))
-      go (some (A i)) e = absurd (omega (arith, e))
-      go (some (P n)) e = absurd (omega (arith, e))
+      go : (o : Option Action) → actionFor l q X ≡ o → kindOf o ≡ 0 → false ≡ not (isNone o)
+      go none e z = refl
+      go (some (S s)) e z = absurd (omega (arith, z))
+      go (some (N s)) e z = absurd (omega (arith, found-formed l h q X e .2 .0, b))
+      go (some (A i)) e z = absurd (omega (arith, z))
+      go (some (P n)) e z = absurd (omega (arith, z))
 
   kind-some : (kindOf (actionFor l q X) ≡ 0 → ⊥) → true ≡ not (isNone (actionFor l q X))
   kind-some f = go (actionFor l q X) f
@@ -125,16 +125,14 @@ module _ (q X : ℕ) (few : q ≤ 255) where
   module _ {a b c : ℕ} {l : List ActionLine} {kinds values gotos : List ℕ} (h : Cells a b c l kinds values gotos) where
     kind-read : X < 64 → q * 64 + X < length kinds → getD kinds (q * 64 + X) 0 ≡ kindOf (actionFor l q X)
     kind-read s r =
-        ap (λ (m : List ℕ). getD m (q * 64 + X) 0) (h .kinds-are)
-          ∙ (image-at a (kindAt l) (q * 64 + X) (omega (arith, r, ap length (h .kinds-are), image-length a (kindAt l))) ∙ cell-back kindOf l s)
+        image-read a (kindAt l) (h .kinds-are) (q * 64 + X) (omega (arith, r, image-long a (kindAt l) (h .kinds-are))) ∙ cell-back kindOf l s
 
     goto-read : 64 ≤ X → X < 128 → q * 64 + (X - 64) < length gotos → getD gotos (q * 64 + (X - 64)) 0 ≡ gotoState (actionFor l q X)
     goto-read s t r =
-        ap (λ (m : List ℕ). getD m (q * 64 + (X - 64)) 0) (h .gotos-are)
-          ∙ (image-at c (gotoAt l) (q * 64 + (X - 64)) (omega (arith, r, ap length (h .gotos-are), image-length c (gotoAt l))) ∙ goto-back l s t)
+        image-read c (gotoAt l) (h .gotos-are) (q * 64 + (X - 64)) (omega (arith, r, image-long c (gotoAt l) (h .gotos-are))) ∙ goto-back l s t
 
     pub cell-free : X < 64 → 16640 ≤ length kinds → getD kinds (q * 64 + X) 0 ≡ 0 → false ≡ not (isNone (actionFor l q X))
-    cell-free s r e = kind-none l (h .formed) q X (sym (kind-read s (omega arith)) ∙ e)
+    cell-free s r e = kind-none l (h .formed) q X s (sym (kind-read s (omega arith)) ∙ e)
 
     pub cell-full : X < 64 → 16640 ≤ length kinds → (getD kinds (q * 64 + X) 0 ≡ 0 → ⊥) → true ≡ not (isNone (actionFor l q X))
     cell-full s r f = kind-some l (h .formed) q X (λ e. f (kind-read s (omega arith) ∙ e))

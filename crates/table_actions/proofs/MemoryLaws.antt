@@ -9,9 +9,10 @@ use borrow.Author.Tests.{eq-eqb, ne-eqb}
 use lib.Dec.{eqb}
 use lib.ListN.{length, set}
 use Rattle.leftcorner.specs.Table.{Action, S, N, A, P, ActionLine, L, actionFor, gotoState}
+use Rattle.memory.specs.Memory.{kindOf, valueOf}
 use Rattle.table_lines.specs.Image.{image, flag}
 use Rattle.table_lines.proofs.ImageLaws.{image-set, image-same}
-use Rattle.table_actions.specs.Memory.{kindOf, valueOf, cellAt, gotoAt, names, isNamed, Formed, AllFormed, Cells, Stored, ActionMemory}
+use Rattle.table_actions.specs.Memory.{cellAt, gotoAt, names, isNamed, Formed, AllFormed, Cells, Stored, ActionMemory}
 use Rattle.table_actions.proofs.CellLaws.{action-here, action-other, cell-back, goto-back}
 
 module _ (l : List ActionLine) (q X : ℕ) (x : Action) where

@@ -1,6 +1,6 @@
 -- What comes of a place where an action line may stand; and what a line that is taken tells.
-use Prim.Native.Nat.{ℕ, zero, suc, _+_, _≤_, _<_}
-use mathlib.Core.Path.{_≡_, refl, sym, ap, _∙_}
+use Prim.Native.Nat.{ℕ, _+_, _≤_, _<_}
+use mathlib.Core.Path.{_≡_, refl}
 use mathlib.Core.List.{List, [], _∷_}
 use mathlib.Core.Bool.{Bool, true, false, cond, _&&_}
 use mathlib.Core.Option.{Option, some, none}
@@ -15,8 +15,8 @@ use Rattle.reply.specs.declared.Kind.the-variants as kind
 use Rattle.symbol.specs.Symbol.{isTerminal, isNonterminal}
 use Rattle.leftcorner.specs.Table.{Action, S, N, A, P, ActionLine, L, actionFor}
 use Rattle.table_lines.specs.declared.Judgement.the-variants.{Fine, Faulty}
-use Rattle.table_lines.specs.Line.{TextLine, whole, broken, lineAt, allAtMost}
-use Rattle.table_lines.specs.Block.{Outcome, takes, stops, fault}
+use Rattle.table_lines.specs.Line.{whole, broken, lineAt, allAtMost}
+use Rattle.table_lines.specs.Block.{takes, stops, fault}
 use Rattle.table_lines.proofs.BlockLaws.{judge-fine}
 use Rattle.table_lines.proofs.ListLaws.{both-true}
 use Rattle.table_actions.specs.Actions.{isAction, actionOf, actionDeclared, isNone, judgeAction, actionNext}
@@ -58,40 +58,41 @@ pub action-fine : (t n rules states : ℕ) (l : List ActionLine) (letter : ℕ) 
 unfolding judgeAction
 action-fine t n rules states l letter ns e =
     let j = judge-fine (isAction letter && (eqb (length ns) 3 && isNone (actionFor l (getD ns 0 0) (getD ns 1 0)))) (allAtMost 65535 ns)
-        (within 1 (getD ns 0 0) states && actionDeclared t n rules states letter (getD ns 1 0) (getD ns 2 0)) e in
+    (within 1 (getD ns 0 0) states && actionDeclared t n rules states letter (getD ns 1 0) (getD ns 2 0)) e in
     let f = both-true (isAction letter) (eqb (length ns) 3 && isNone (actionFor l (getD ns 0 0) (getD ns 1 0))) (j .0) in
     let g = both-true (eqb (length ns) 3) (isNone (actionFor l (getD ns 0 0) (getD ns 1 0))) (f .1) in
     let d = both-true (within 1 (getD ns 0 0) states) (actionDeclared t n rules states letter (getD ns 1 0) (getD ns 2 0)) (j .2) in
-    record
-    { three = eqb-true (length ns) 3 (g .0)
-    ; new = none-is (actionFor l (getD ns 0 0) (getD ns 1 0)) (g .1)
-    ; small = j .1
-    ; state-in = within-true 1 (getD ns 0 0) states (d .0)
-    ; declared = d .1 }
+    record {
+      three = eqb-true (length ns) 3 (g .0);
+      new = none-is (actionFor l (getD ns 0 0) (getD ns 1 0)) (g .1);
+      small = j .1;
+      state-in = within-true 1 (getD ns 0 0) states (d .0);
+      declared = d .1;
+    }
+
+-- what holds of each kind of line holds of a declared one
+module _ (Q : Action → Type 0) (t n rules states letter X v : ℕ) where
+  pub all-letters : ((1 ≤ X) × (X ≤ t) → (1 ≤ v) × (v ≤ states) → Q (S v)) → ((64 ≤ X) × (X ≤ 63 + n) → (1 ≤ v) × (v ≤ states) → Q (N v))
+      → (X ≤ t → (1 ≤ v) × (v ≤ rules) → Q (A v)) → (X ≤ t → Q (P v)) → actionDeclared t n rules states letter X v ≡ true → Q (actionOf letter v)
+  unfolding actionDeclared actionOf
+  all-letters shift goto announce pop e = go (eqb letter 83) (eqb letter 78) (eqb letter 65) e
+    where
+      go : (x y z : Bool) → cond x (isTerminal t X && within 1 v states) (cond y (isNonterminal n X && within 1 v states) (cond z (leb X t && within 1 v rules) (leb X t))) ≡ true
+          → Q (cond x (S v) (cond y (N v) (cond z (A v) (P v))))
+      go true y z e = let p = both-true (isTerminal t X) (within 1 v states) e in shift (within-true 1 X t (p .0)) (within-true 1 v states (p .1))
+      go false true z e = let p = both-true (isNonterminal n X) (within 1 v states) e in goto (within-true 64 X (63 + n) (p .0)) (within-true 1 v states (p .1))
+      go false false true e = let p = both-true (leb X t) (within 1 v rules) e in announce (leb-true X t (p .0)) (within-true 1 v rules (p .1))
+      go false false false e = pop (leb-true X t e)
 
 -- its line is formed
 module _ (t n rules states : ℕ) (few : t ≤ 63) (small : n ≤ 64) (short : rules ≤ 127) (low : states ≤ 255) where
   formed : (letter q X v : ℕ) → 1 ≤ q → q ≤ states → v ≤ 65535 → actionDeclared t n rules states letter X v ≡ true → Formed (L q X (actionOf letter v))
-  unfolding actionDeclared actionOf
-  formed letter q X v a b m e = go (eqb letter 83) (eqb letter 78) (eqb letter 65) e
-    where
-      go : (x y z : Bool) → cond x (isTerminal t X && within 1 v states) (cond y (isNonterminal n X && within 1 v states) (cond z (leb X t && within 1 v rules) (leb X t))) ≡ true
-          → Formed (L q X (cond x (S v) (cond y (N v) (cond z (A v) (P v)))))
-      go true y z e =
-          let p = both-true (isTerminal t X) (within 1 v states) e in
-          let w = within-true 1 X t (p .0) in
-          let u = within-true 1 v states (p .1) in
-          (a, omega arith, omega (arith, w .1), u .0, omega (arith, u .1))
-      go false true z e =
-          let p = both-true (isNonterminal n X) (within 1 v states) e in
-          let w = within-true 64 X (63 + n) (p .0) in
-          let u = within-true 1 v states (p .1) in
-          (a, omega arith, (w .0, omega (arith, w .1)), u .0, omega (arith, u .1))
-      go false false true e =
-          let p = both-true (leb X t) (within 1 v rules) e in
-          let u = within-true 1 v rules (p .1) in
-          (a, omega arith, omega (arith, leb-true X t (p .0)), u .0, omega (arith, u .1))
-      go false false false e = (a, omega arith, omega (arith, leb-true X t e), omega arith, m)
+  formed letter q X v a b m =
+      all-letters (λ x. Formed (L q X x)) t n rules states letter X v
+      (λ w u. (a, omega arith, omega (arith, w .1), u .0, omega (arith, u .1)))
+      (λ w u. (a, omega arith, (w .0, omega (arith, w .1)), u .0, omega (arith, u .1)))
+      (λ w u. (a, omega arith, omega (arith, w), u .0, omega (arith, u .1)))
+      (λ w. (a, omega arith, omega (arith, w), omega arith, m))
 
   pub fine-formed : {l : List ActionLine} {letter : ℕ} (ns : List ℕ) → ActionFine t n rules states l letter ns → Formed (L (getD ns 0 0) (getD ns 1 0) (actionOf letter (getD ns 2 0)))
   fine-formed {letter = letter} ns f = formed letter (getD ns 0 0) (getD ns 1 0) (getD ns 2 0) (f .state-in .0) (f .state-in .1) (third ns (f .small)) (f .declared)

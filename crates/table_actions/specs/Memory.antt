@@ -2,33 +2,13 @@
 use Prim.Native.Nat.{ℕ, _+_, _*_, _-_, _/_, _%_, _≤_, _<_}
 use mathlib.Core.Path.{_≡_}
 use mathlib.Core.List.{List, [], _∷_}
-use mathlib.Core.Bool.{Bool, true, false, cond, _||_}
-use mathlib.Core.Option.{Option, some, none}
+use mathlib.Core.Bool.{Bool, true, false, _||_}
+use mathlib.Core.Option.{Option}
 use lib.Dec.{eqb}
 use lib.ListN.{length, set}
-use Rattle.range.specs.Range.{within}
 use Rattle.leftcorner.specs.Table.{Action, S, N, A, P, ActionLine, L, actionFor, gotoState}
+use Rattle.memory.specs.Memory.{kindOf, popValue, valueOf}
 use Rattle.table_lines.specs.Image.{image, flag}
-
--- a cell's kind: 0 empty, 1 shift (with N, that never stands in a cell), 2 announce, 3 pop
-abbrev pub kindOf : Option Action → ℕ
-kindOf none = 0
-kindOf (some (S s)) = 1
-kindOf (some (N s)) = 1
-kindOf (some (A i)) = 2
-kindOf (some (P n)) = 3
-
--- a pop's value: one less than its count, and 255 for every count that no entry has
-abbrev pub popValue : ℕ → ℕ
-popValue n = cond (within 1 n 255) (n - 1) 255
-
--- a cell's value: the next state, the rule, or a pop's value
-abbrev pub valueOf : Option Action → ℕ
-valueOf none = 0
-valueOf (some (S s)) = s
-valueOf (some (N s)) = s
-valueOf (some (A i)) = i
-valueOf (some (P n)) = popValue n
 
 -- at state * 64 + code
 unfoldable pub cellAt : (Option Action → ℕ) → List ActionLine → ℕ → ℕ

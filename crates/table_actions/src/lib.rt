@@ -15,10 +15,11 @@ ghost use mathlib.Core.Bool.{Bool, not};
 ghost use Prim.Native.Nat.{ℕ, _+_, _*_, _≤_, _<_};
 ghost use lib.ListN.{length};
 ghost use Rattle.leftcorner.specs.Table.{ActionLine, L, actionFor};
+ghost use Rattle.memory.specs.Memory.{popValue};
 ghost use Rattle.table_lines.specs.Image.{image, flag};
 ghost use Rattle.table_lines.specs.Block.{Held, Comes, Reads};
 ghost use Rattle.table_actions.specs.Actions.{isAction, actionOf, actionDeclared, isNone, judgeAction, actionNext, actionsFrom};
-ghost use Rattle.table_actions.specs.Memory.{popValue, Formed, Cells, HoldsActions, Stored, Flags, ActionMemory};
+ghost use Rattle.table_actions.specs.Memory.{Formed, Cells, HoldsActions, Stored, Flags, ActionMemory};
 
 fn is_action(letter: u8) -> bool
     ensures { λ r. ⌜ r ≡ isAction letter ⌝ }
@@ -118,7 +119,10 @@ fn judge_action(t: usize, n: usize, rules: usize, states: usize, letter: u8, p: 
 fn pop_value(count: usize) -> usize
     ensures { λ r. ⌜ (r ≡ popValue count) × (r < 256) ⌝ }
 {
-    if !in_range(1, count, 255) {
+    if count == 0 {
+        return 255;
+    }
+    if 255 < count {
         return 255;
     }
     count - 1

@@ -1,3 +1,4 @@
 pub mod TripleLaws
 pub mod MemoryLaws
 pub mod NextLaws
+pub mod ReadLaws

@@ -49,3 +49,11 @@ pub image-same : (n : ℕ) (f h : ℕ → ℕ) → ((j : ℕ) → j < n → h j 
 image-same n f h same =
     ext-getD 0 (image n f) (image n h) (image-length n f ∙ sym (image-length n h))
     (λ j l. let b : j < n = omega (arith, l, image-length n f) in image-at n f j b ∙ (sym (same j b) ∙ sym (image-at n h j b)))
+
+-- memory that is known to be such
+module _ {m : List ℕ} (n : ℕ) (f : ℕ → ℕ) (e : m ≡ image n f) where
+  pub image-long : length m ≡ n
+  image-long = ap length e ∙ image-length n f
+
+  pub image-read : (i : ℕ) → i < n → getD m i 0 ≡ f i
+  image-read i h = ap (λ (l : List ℕ). getD l i 0) e ∙ image-at n f i h

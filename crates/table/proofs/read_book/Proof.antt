@@ -1,5 +1,5 @@
 -- `table::read_book` meets its contract. Assumes nothing.
-use Rattle.table.proofs.ReadLaws.{head-refused, head-read, head-low}
+use Rattle.table.proofs.ReadLaws.{head-refused, head-read, head-within}
 use Rattle.table.specs.Memory.{denied}
 use mathlib.Core.Path.{sym, _∙_}
 use Prim.Native.Nat.{_-_}
@@ -18,8 +18,8 @@ enum-known-states c = search needs
 
 read-blocks-requires : tie.Need-read-blocks-requires
 read-blocks-requires c κs = let p = c .before .before .before .before .before .before .before .before .before .before .before .before .before .before .before .before .before .before .before .before .before .pre in
-    let w = head-low _ (sym (c .before .before .before .before .before .before .before .before .before .before .before .read-head .ensures) ∙ c .before .before .before .before .before .before .before .before .before .states .given .1) in
-    ((p .0, w .0, w .1), p .1)
+    let w = head-within _ (sym (c .before .before .before .before .before .before .before .before .before .before .before .read-head .ensures) ∙ c .before .before .before .before .before .before .before .before .before .states .given .1) in
+    ((p .0, w .0 .1, w .1 .1), p .1)
 
 returns : tie.Need-returns
 returns c = λ g k q. rw (head-refused g _ (sym (c .before .before .before .read-head .ensures) ∙ c .before .why .given .1)) denied

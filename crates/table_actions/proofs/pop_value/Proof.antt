@@ -1,24 +1,21 @@
 -- `table_actions::pop_value` meets its contract. Assumes nothing.
-use Rattle.range.proofs.RangeLaws.{within-true}
-use borrow.Author.Tests.{not-true, not-false}
-use mathlib.Core.Path.{sym, _∙_}
-use Prim.Native.Nat.{_-_}
+use borrow.Author.Tests.{le-leb, lt-leb}
 use native.Mathlib.Omega.{arith}
 use borrow.Author.Needs.{needs}
 use Rattle.table_actions.proofs.pop_value.Statement.{statement}
 use Rattle.table_actions.proofs.pop_value.Tie as tie
 
-in-range-requires : tie.Need-in-range-requires
-in-range-requires c κs = search needs
-
 returns : tie.Need-returns
-returns c = (simp (sym (c .before .in-range .ensures) ∙ not-true _ (c .if1 .taken)), search needs)
-
-sub-result : tie.Need-sub-result
-sub-result c = omega (arith, within-true _ _ _ (sym (c .before .in-range .ensures) ∙ not-false _ (c .if1 .left)) .0)
+returns c = (simp (lt-leb 1 (c .before .args .count) (omega (arith, c .if1 .taken))), search needs)
 
 returns-2 : tie.Need-returns-2
-returns-2 c = (simp (sym (c .before .in-range .ensures) ∙ not-false _ (c .if1 .left)), omega (arith, within-true _ _ _ (sym (c .before .in-range .ensures) ∙ not-false _ (c .if1 .left)) .1))
+returns-2 c = (simp (le-leb 1 (c .before .before .args .count) (omega (arith, c .before .if1 .left)), lt-leb _ 255 (c .if2 .taken)), search needs)
+
+sub-result : tie.Need-sub-result
+sub-result c = search needs
+
+returns-3 : tie.Need-returns-3
+returns-3 c = (simp (le-leb 1 (c .before .before .args .count) (omega (arith, c .before .if1 .left)), le-leb (c .before .before .args .count) 255 (omega (arith, c .if2 .left))), search needs)
 
 pub pop-value-spec : {M : Type 1} → statement M
-pop-value-spec = tie.close (tie.spec in-range-requires returns sub-result returns-2)
+pop-value-spec = tie.close (tie.spec returns returns-2 sub-result returns-3)
