@@ -1,6 +1,6 @@
 -- What is known of memory after both books were loaded.
 use Prim.Native.Nat.{ℕ, _+_, _≤_, _<_}
-use mathlib.Core.Path.{_≡_, refl, sym, subst, _∙_}
+use mathlib.Core.Path.{_≡_, refl, sym, subst}
 use mathlib.Core.Bool.{Bool, true, false, cond}
 use mathlib.Core.List.{List}
 use lib.Dec.{ltb}
@@ -20,11 +20,13 @@ use Rattle.table.specs.declared.Counts.{Counts}
 use Rattle.table.specs.declared.TableReply.{TableReply}
 use Rattle.table.specs.declared.TableReply.the-variants as reply
 use Rattle.table.specs.Book.{Reading, whole, rejected}
-use Rattle.table.specs.Memory.{countsOf, replyOf, Slices, slices, Holds}
+use Rattle.table.specs.Memory.{countsOf, replyOf, Slices, slices, Rooms, Holds}
+use Rattle.table.proofs.IntoLaws.{has-room}
+use Rattle.table_views.specs.Views.{held, sized}
 use Rattle.checker.specs.Checked.{checkedOf}
+use Rattle.checker.specs.Exactly.{accepted, accepted-sound}
 use Rattle.walker.specs.declared.Walked.{Walked}
 use Rattle.session.specs.Session.{refusedBy, refusedAt, tableSession, afterBooks, session, Tells}
-use Rattle.session.specs.Assumed.{Rooms, accepted, accepted-sound, held, sized, cells-long}
 
 read-back : (x : Reading) {r : TableReply} {c : Counts} → r ≡ replyOf x → r ≡ reply.Read c → (g : Grammar) × (t : Table) × (x ≡ whole g t) × (c ≡ countsOf g t)
 read-back (whole g t) {c = c} e f = (g, t, refl, (let q : c ≡ countsOf g t = cc in q))
@@ -67,8 +69,8 @@ loaded {gs} {s} {b} {a} {c = c} room e f H =
     from g t q =
         let S = accepted-sound gs s q in
         let W = subst (λ (y : Reading). Holds y b a) q H in
-        let M = held W room (S .formed) (S .fits) in
-        let Z = sized W room (S .formed) (S .fits) (S .some-entry) in
+        let M = held W (has-room b room) (S .formed) (S .fits) in
+        let Z = sized W (has-room b room) (S .formed) (S .fits) (S .some-entry) in
         record {
           grammar = g;
           table = t;

@@ -20,11 +20,11 @@ use Rattle.reply.specs.declared.Kind.the-variants.{BufferTooSmall, SyntaxError}
 use Rattle.reply.specs.declared.Reply.the-variants as reply
 use Rattle.judge.proofs.VerdictLaws.{declared-of}
 use Rattle.checker.specs.Checked.{verdictOf, Accepts}
+use Rattle.checker.specs.Exactly.{accepts, accepted-sound, exactly}
 use Rattle.walker.specs.declared.Walked.the-variants.{Accepted}
 use Rattle.walker.specs.Walked.{asReply, padded}
 use Rattle.session.specs.Session.{Session, refusedAt, endedBy, session}
 use Rattle.session.specs.SessionLaws.{session-walks, ended-short, whole-is, wrong-is, whole-number, wrong-number, wrong-place}
-use Rattle.session.specs.Assumed.{accepts, accepted-sound, exactly}
 
 -- "The walk's two needs are the most states its stack holds [..] and the number of rules it announces until it ends"
 pub record Needs (g : Grammar) (t : Table) (w : List ℕ) (stack rules : ℕ) : Type 0 where
@@ -130,6 +130,10 @@ demand3 gs s e =
     let g = h .0 in
     let t = h .1 in
     let A = h .2 in
-    let books = accepts gs s A in
-    (g, t, A, λ w few tokens.
-    demanded gs s g t w (machine.demand3 g t (declared-of (accepted-sound gs s books .formed)) (A .productive) (A .meets) w tokens) (session-walks gs s books w few tokens))
+    let books = accepts gs s A in (
+      g,
+      t,
+      A,
+      λ w few tokens.
+          demanded gs s g t w (machine.demand3 g t (declared-of (accepted-sound gs s books .formed)) (A .productive) (A .meets) w tokens) (session-walks gs s books w few tokens),
+    )

@@ -15,9 +15,7 @@ ghost use Rattle.leftcorner.specs.Construction.{Meets};
 ghost use Rattle.items.specs.Layout.{Shaped};
 ghost use Rattle.memory.specs.Memory.{HoldsEntries, HoldsActions};
 ghost use Rattle.entry_list.specs.Uses.{HoldsStrings};
-ghost use Rattle.table.specs.Memory.{replyOf, slices, Holds};
 ghost use Rattle.checker.specs.Checked.{checkedOf};
-ghost use Rattle.session.specs.Assumed.{Rooms};
 ghost use Rattle.session.specs.Session.{strayFrom, refusedBy, tableSession, afterBooks, session, Tells};
 
 // Accepted, with the tokens read, the rules listed and the units among them; or refused.
@@ -92,30 +90,6 @@ fn walk_table(
     walker::walk_tokens(kinds, values, gotos, &rows, start, tokens, stack, listing)
 }
 
-// STUB
-pub fn load_tables(
-    grammar: &[u8],
-    book: &[u8],
-    items: &mut [u8],
-    entry_states: &mut [u8],
-    kernels: &mut [u8],
-    lookaheads: &mut [u8],
-    kinds: &mut [u8],
-    values: &mut [u8],
-    gotos: &mut [u8],
-    named: &mut [u8],
-) -> TableReply
-    requires { ⌜ Rooms (slices (now items) (now «entry_states») (now kernels) (now lookaheads) (now kinds) (now values) (now gotos) (now named)) ⌝ }
-    ensures { λ r. ⌜ r ≡ replyOf (checkedOf (now (grammar .entry)) (now (book .entry))) ⌝ }
-    ensures { λ r. ⌜ Holds (checkedOf (now (grammar .entry)) (now (book .entry))) (slices (now (items .entry)) (now («entry_states» .entry)) (now (kernels .entry)) (now (lookaheads .entry)) (now (kinds .entry)) (now (values .entry)) (now (gotos .entry)) (now (named .entry))) (slices (now (items .exit)) (now («entry_states» .exit)) (now (kernels .exit)) (now (lookaheads .exit)) (now (kinds .exit)) (now (values .exit)) (now (gotos .exit)) (now (named .exit))) ⌝ }
-{
-    TableReply::Refused(Refusal {
-        kind: Kind::Undeclared,
-        place: 0,
-    })
-}
-// END STUB
-
 // Reads and checks both books, and walks the tokens where they are accepted.
 fn walk_books(
     grammar: &[u8],
@@ -127,14 +101,14 @@ fn walk_books(
     ensures { λ r. ⌜ Tells (afterBooks (length (now (stack .entry))) (length (now (listing .entry))) (checkedOf (now (grammar .entry)) (now (tables .entry))) (now (tokens .entry))) r (now (stack .exit)) (now (listing .exit)) ⌝ }
 {
     let mut items = [0u8; table::ITEMS];
-    let mut entry_states = [0u8; 256];
+    let mut entry_states = [0u8; table::ENTRY_STATES];
     let mut kernels = [0u8; table::KERNELS];
     let mut lookaheads = [0u8; table::LOOKAHEADS];
     let mut kinds = [0u8; table::CELLS];
     let mut values = [0u8; table::CELLS];
     let mut gotos = [0u8; table::CELLS];
     let mut named = [0u8; table::NAMED];
-    let answer = load_tables(
+    let answer = checker::load_tables(
         grammar,
         tables,
         &mut items,

@@ -44,7 +44,14 @@ fn show_in(grammar: &[u8], tables: &[u8], input: &[u8], scans: usize, n: usize, 
 {
     let mut stack = [7u8; 65536];
     let mut listing = [7u8; 65536];
-    show(grammar, tables, input, scans, &mut stack[..n], &mut listing[..k]);
+    show(
+        grammar,
+        tables,
+        input,
+        scans,
+        &mut stack[..n],
+        &mut listing[..k],
+    );
 }
 
 fn run(i: usize, scans: usize, n: usize, k: usize)

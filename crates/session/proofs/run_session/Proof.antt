@@ -1,17 +1,10 @@
-use mathlib.Core.Path.{_≡_, refl, sym, ap, subst, _∙_}
-use mathlib.Core.Logic.{⊎-elim}
-use Prim.Native.Nat.{ℕ, zero, suc, _+_, _*_, _≤_, _<_, _-_}
+-- The number of tokens, then the books.
 use native.Mathlib.Omega.{arith}
-use borrow.Author.Count.{below-more, below-none}
-use lib.ListN.{length, getD, set, length-set, replicate}
+use lib.ListN.{length}
 use borrow.Author.Needs.{needs}
 use Rattle.session.proofs.BookLaws.{too-many, not-many}
 use Rattle.session.proofs.run_session.Statement.{statement}
 use Rattle.session.proofs.run_session.Tie as tie
-use Rattle.session.proofs.run_session.Reads as reads
-use Rattle.session.proofs.run_session.Lts as lts
-use Rattle.session.proofs.refuse.Reads as refuse-reads
-use Rattle.session.proofs.walk_books.Reads as walk-books-reads
 
 refuse-requires : tie.Need-refuse-requires
 refuse-requires c κs = search needs

@@ -1,19 +1,10 @@
-use mathlib.Core.Path.{_≡_, refl, sym, ap, subst, _∙_}
-use mathlib.Core.Logic.{⊎-elim}
-use Prim.Native.Nat.{ℕ, zero, suc, _+_, _*_, _≤_, _<_, _-_}
-use native.Mathlib.Omega.{arith}
-use borrow.Author.Count.{below-more, below-none}
-use lib.ListN.{length, getD, set, length-set, replicate}
+-- Books that are refused, or loaded and walked.
+use lib.ListN.{length}
 use borrow.Author.Needs.{needs}
 use Rattle.checker.specs.Checked.{checkedOf}
 use Rattle.session.proofs.BookLaws.{books-refused, loaded, lent-rooms, books-walked}
 use Rattle.session.proofs.walk_books.Statement.{statement}
 use Rattle.session.proofs.walk_books.Tie as tie
-use Rattle.session.proofs.walk_books.Reads as reads
-use Rattle.session.proofs.walk_books.Lts as lts
-use Rattle.session.proofs.load_tables.Reads as load-tables-reads
-use Rattle.session.proofs.refuse.Reads as refuse-reads
-use Rattle.session.proofs.walk_table.Reads as walk-table-reads
 
 slice-aggregate-load-tables : tie.Need-slice-aggregate-load-tables
 slice-aggregate-load-tables c = search needs
