@@ -20,6 +20,7 @@ use Rattle.table.specs.Memory.{replyOf, asReply}
 use Rattle.checker.specs.Checked.{checkedOf, verdictOf}
 use Rattle.walker.specs.declared.Walked.{Walked}
 use Rattle.session.specs.Session.{refusedBy, refusedAt, session, Tells}
+use Rattle.session.proofs.BookLaws.{too-long, not-long}
 use Rattle.scan_session.specs.ScanSession.{booksFirst, afterScans, scanSession}
 
 -- ---- a refusal of the scan file, by the verdict on the books
@@ -63,13 +64,10 @@ module _ (n k : ℕ) (gs s file : List ℕ) {r : Reply} (read : r ≡ scansOf fi
 
 -- ---- its length comes first
 module _ (gs s file : List ℕ) (n k : ℕ) {a : Walked} {stack listing : List ℕ} where
-  by-length : {b : Bool} → ltb 65536 (length file) ≡ b
-      → Tells (cond b (refusedAt n k LimitExceeded 0) (afterScans n k gs s (scanned house file))) a stack listing → Tells (scanSession gs s file n k) a stack listing
+  pub file-refused : 65536 < length file → Tells (refusedAt n k LimitExceeded 0) a stack listing → Tells (scanSession gs s file n k) a stack listing
   unfolding scanSession
-  by-length e T = subst (λ (b : Bool). Tells (cond b (refusedAt n k LimitExceeded 0) (afterScans n k gs s (scanned house file))) a stack listing) (sym e) T
+  file-refused h T = too-long 65536 file (refusedAt n k LimitExceeded 0) (afterScans n k gs s (scanned house file)) h T
 
-  pub too-long : 65536 < length file → Tells (refusedAt n k LimitExceeded 0) a stack listing → Tells (scanSession gs s file n k) a stack listing
-  too-long l T = by-length {b = true} (lt-ltb 65536 (length file) l) T
-
-  pub not-long : length file ≤ 65536 → Tells (afterScans n k gs s (scanned house file)) a stack listing → Tells (scanSession gs s file n k) a stack listing
-  not-long l T = by-length {b = false} (le-ltb 65536 (length file) l) T
+  pub file-walked : length file ≤ 65536 → Tells (afterScans n k gs s (scanned house file)) a stack listing → Tells (scanSession gs s file n k) a stack listing
+  unfolding scanSession
+  file-walked h T = not-long 65536 file (refusedAt n k LimitExceeded 0) (afterScans n k gs s (scanned house file)) h T

@@ -26,7 +26,7 @@ use Rattle.table_views.specs.Views.{held, sized}
 use Rattle.checker.specs.Checked.{checkedOf}
 use Rattle.checker.specs.Exactly.{accepted, accepted-sound}
 use Rattle.walker.specs.declared.Walked.{Walked}
-use Rattle.session.specs.Session.{refusedBy, refusedAt, tableSession, afterBooks, session, Tells}
+use Rattle.session.specs.Session.{Session, refusedBy, refusedAt, tableSession, afterBooks, session, Tells}
 
 read-back : (x : Reading) {r : TableReply} {c : Counts} → r ≡ replyOf x → r ≡ reply.Read c → (g : Grammar) × (t : Table) × (x ≡ whole g t) × (c ≡ countsOf g t)
 read-back (whole g t) {c = c} e f = (g, t, refl, (let q : c ≡ countsOf g t = cc in q))
@@ -114,15 +114,23 @@ module _ (n k : ℕ) (w : List ℕ) {gs s items entries kinds values gotos : Lis
       subst (λ (y : Reading). Tells (afterBooks n k y w) a stack listing) (sym (L .books))
       (f (L .grammar) (L .table) (L .holds-strings) (L .holds-entries) (L .holds-actions) (L .terminals-is) (L .goal-is) (L .meets))
 
+-- a length that is too large, or not
+module _ (most : ℕ) (l : List ℕ) (x y : Session) {a : Walked} {stack listing : List ℕ} where
+  by-length : {b : Bool} → ltb most (length l) ≡ b → Tells (cond b x y) a stack listing → Tells (cond (ltb most (length l)) x y) a stack listing
+  by-length e T = subst (λ (b : Bool). Tells (cond b x y) a stack listing) (sym e) T
+
+  pub too-long : most < length l → Tells x a stack listing → Tells (cond (ltb most (length l)) x y) a stack listing
+  too-long h T = by-length {b = true} (lt-ltb most (length l) h) T
+
+  pub not-long : length l ≤ most → Tells y a stack listing → Tells (cond (ltb most (length l)) x y) a stack listing
+  not-long h T = by-length {b = false} (le-ltb most (length l) h) T
+
 -- the number of tokens comes first
 module _ (gs s w : List ℕ) (n k : ℕ) {a : Walked} {stack listing : List ℕ} where
-  by-length : {b : Bool} → ltb 65535 (length w) ≡ b → Tells (cond b (refusedAt n k LimitExceeded 0) (afterBooks n k (checkedOf gs s) w)) a stack listing
-      → Tells (session gs s w n k) a stack listing
-  unfolding session
-  by-length e T = subst (λ (b : Bool). Tells (cond b (refusedAt n k LimitExceeded 0) (afterBooks n k (checkedOf gs s) w)) a stack listing) (sym e) T
-
   pub too-many : 65535 < length w → Tells (refusedAt n k LimitExceeded 0) a stack listing → Tells (session gs s w n k) a stack listing
-  too-many l T = by-length {b = true} (lt-ltb 65535 (length w) l) T
+  unfolding session
+  too-many h T = too-long 65535 w (refusedAt n k LimitExceeded 0) (afterBooks n k (checkedOf gs s) w) h T
 
   pub not-many : length w ≤ 65535 → Tells (afterBooks n k (checkedOf gs s) w) a stack listing → Tells (session gs s w n k) a stack listing
-  not-many l T = by-length {b = false} (le-ltb 65535 (length w) l) T
+  unfolding session
+  not-many h T = not-long 65535 w (refusedAt n k LimitExceeded 0) (afterBooks n k (checkedOf gs s) w) h T
