@@ -2,12 +2,10 @@
 use Prim.Native.Nat.{ℕ, _-_, _≤_, _<_}
 use native.Mathlib.Omega.{arith}
 use mathlib.Core.Path.{_≡_, refl, sym, ap, subst, _∙_}
-use mathlib.Core.Bool.{Bool, true, false, cond}
 use mathlib.Core.List.{List}
-use lib.Dec.{ltb}
 use lib.ListN.{length, take, replicate}
 use lib.Seq.{take-at}
-use borrow.Author.Tests.{lt-ltb, le-ltb, le-leb}
+use borrow.Author.Tests.{le-leb}
 use Rattle.leftcorner.specs.ReadOff.{clash}
 use Rattle.reply.specs.declared.Kind.the-variants.{LimitExceeded}
 use Rattle.reply.specs.declared.Refusal.{Refusal}

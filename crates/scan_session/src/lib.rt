@@ -4,6 +4,7 @@ use reply::Refusal;
 use reply::Reply;
 use session::SessionReply;
 ghost use mathlib.Core.Path.{_≡_};
+ghost use Prim.Native.Nat.{_≤_};
 ghost use lib.ListN.{length};
 ghost use Rattle.scans.specs.File.{scanned, house};
 ghost use Rattle.checker.specs.Checked.{checkedOf};
