@@ -6,9 +6,6 @@
 import os, sys
 import tables
 
-STATES, RULES, BYTES = 255, 127, 65536
-
-
 def grammar(t, n, rules):
     return ''.join(f'{l}\n' for l in [f'G,{t},{n},{len(rules)},64', *(','.join(map(str, r)) for r in rules)]).encode()
 
@@ -22,27 +19,20 @@ def bank(kinds):
     return grammar(2 * kinds + 1, 2 * kinds + 1, rules)
 
 
-def chain(links, strings, length):
+def chain(links, strings):
     """Nonterminals that begin each other, last first, so that each pass of a closure gets one link on; strings that are full of the first."""
-    rules = [['R', 64, '^', 2 + k, *[65] * length] for k in range(strings)]
-    return grammar(1 + strings, 1 + links, rules + [['R', 64 + links, '^', 1], *(['R', 64 + i, 65 + i, '^'] for i in range(links - 1, 0, -1))])
+    rules = [['R', 64, '^', 2 + k, *[65] * 14] for k in range(strings)]
+    return grammar(63, 1 + links, rules + [['R', 64 + links, '^', 1], *(['R', 64 + i, 65 + i, '^'] for i in range(links - 1, 0, -1))])
 
 
-def junk(g, t):
-    """The tables with every code in every context that cells allow: as many bytes as fit."""
-    size = len(tables.write(t))
-    for key, codes in sorted(t.kernels.items()):
-        for c in range(g.t + 1):
-            more = {**t.kernels, key: codes | {c}}
-            if size + 4 < BYTES and c not in codes and tables.judge(g, t._replace(kernels=more))[0] == 0:
-                t = t._replace(kernels=more)
-                codes = more[key]
-                size += 4
-    return t
+def alike(count):
+    """Rules with one beginning, told apart by their last scan: as many kernel lines as a book may have."""
+    rules = [['R', 64, '^'], *(['R', 64, 64, 65 + i, '^'] for i in range(count)), *(['R', 65 + i, *[1] * 14, '^', 2 + i] for i in range(count))]
+    return grammar(1 + count, 1 + count, rules)
 
 
 def unmoved(t):
-    """The tables without lines N but those along the strings: a closure for each state, and almost no cell to read."""
+    """The tables without lines N but those along the strings: a closure for each state, and few cells to read."""
     return t._replace(actions={k: a for k, a in t.actions.items() if a[0] != 'N' or k[1] <= 65})
 
 
@@ -50,8 +40,9 @@ def main():
     books = {}
     for kinds in (2, 4, 8, 16, 31):
         books[f'bank-{kinds}'] = bank(kinds), None
-    books['chain'] = chain(63, 5, 14), None
-    books['chain-refused'] = chain(63, 12, 14), unmoved
+    books['alike'] = alike(56), None
+    books['chain'] = chain(63, 5), None
+    books['chain-refused'] = chain(63, 11), unmoved
     for name, (text, change) in books.items():
         g = tables.read_grammar(text)
         t = tables.build(g)
