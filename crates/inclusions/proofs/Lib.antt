@@ -1,0 +1,5 @@
+pub mod GroupLaws
+pub mod RuleLaws
+pub mod AddingLaws
+pub mod AskLaws
+pub mod IncludeLaws
