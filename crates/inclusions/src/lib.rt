@@ -35,8 +35,8 @@ fn add_line(kernels: &[u8], from: &[u8], lines: usize, count: usize, codes: usiz
     closure::add_codes(from, start, codes, grown, l * 64);
 }
 
-// Asks them of the line for item i, dot k in state s, if there is one.
-fn add_lines(kernels: &[u8], links: &[usize], from: &[u8], lines: usize, count: usize, codes: usize, s: usize, i: usize, k: usize, start: usize, grown: &mut [u8])
+// Asks of the line for item i, dot k in state s, if there is one, the codes that are flagged from `start` on.
+pub fn add_lines(kernels: &[u8], links: &[usize], from: &[u8], lines: usize, count: usize, codes: usize, s: usize, i: usize, k: usize, start: usize, grown: &mut [u8])
     requires { ⌜ Lines (now kernels) lines count ⌝ }
     requires { ⌜ Linked (now kernels) (now links) lines ⌝ }
     requires { ⌜ (s < 256) × (codes ≤ 64) × (start + 64 ≤ length (now from)) × (lines * 64 ≤ length (now grown)) ⌝ }
