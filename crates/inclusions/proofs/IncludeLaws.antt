@@ -31,15 +31,13 @@ use Rattle.inclusions.specs.Groups.{groupBegin}
 use Rattle.inclusions.specs.Asks.{MoveAsks, GroupAsks, GroupsAsk, ItemAsks, StateAsks}
 use Rattle.inclusions.specs.Asks as asks
 use Rattle.inclusions.specs.Included.{Included, by-move, by-group, Leads, Includes, FlagAsked}
+use Rattle.inclusions.proofs.FlagLaws.{flag-map, flag-at}
 use Rattle.inclusions.proofs.RuleLaws.{found-entry, base-low, begin-at, rest-at, use-at, find-group}
 
 -- p goes to q on X
 pub record NextIn (kinds values gotos : List ℕ) (p X q : ℕ) : Type 0 where
   pub some-state : q ≡ 0 → ⊥
   pub is-next : nextAt kinds values gotos p X ≡ q
-
-pub flag-map : {P Q : ℕ → ℕ → ℕ → ℕ → Type 0} {kernels : List ℕ} {lines codes y : ℕ} → ((q i k c : ℕ) → P q i k c → Q q i k c) → FlagAsked P kernels lines codes y → FlagAsked Q kernels lines codes y
-flag-map f h = record { line = h .line; within = h .within; code = h .code; low = h .low; is = h .is; asked = f _ _ _ _ (h .asked) }
 
 -- The table may be any whose items and entries stand in memory, whatever its lines; the kernel lines and next states are read off memory.
 module _ (g : Grammar) (t : Table) {items entries ks ls kd vs gs : List ℕ} {rules strings n : ℕ} (H : Held g t items entries ks ls kd vs gs rules strings n)
@@ -58,17 +56,6 @@ module _ (g : Grammar) (t : Table) {items entries ks ls kd vs gs : List ℕ} {ru
   rule-of : {i : ℕ} → DeclaredItem g t i → i ≤ rules → (r : Rule) × (ruleAt g i ≡ some r)
   rule-of (inl h) l = h
   rule-of (inr (j, s, γ, ei, e)) l = absurd (omega (arith, ei, l, entry-high g t j s γ e, H .rule-count))
-
-  flag-at : {q i k c y : ℕ} (l : ℕ) → LineIs kernels lines q i k l → c < codes → y ≡ l * 64 + c → InMemory q i k c → Flag y
-  flag-at {q} {i} {k} {c} l d low e h = record {
-    line = l;
-    within = d .within;
-    code = c;
-    low = low;
-    is = e;
-    asked = subst (λ (m : ℕ). InMemory m (itemAt kernels l) (dotAt kernels l) c) (sym (d .state))
-        (subst (λ (m : ℕ). InMemory q m (dotAt kernels l) c) (sym (d .item)) (subst (λ (m : ℕ). InMemory q i m c) (sym (d .dot)) h));
-  }
 
   module _ {i k start : ℕ} {from : List ℕ} (R : RowOf items kernels lookaheads present follow rules lines p i k from start) (y : ℕ) where
     move-asked : MoveAsks items kernels kinds values gotos from lines codes p i k start y → Flag y

@@ -22,7 +22,8 @@ use Rattle.moves.specs.Moves.{nextAt}
 use Rattle.carried.specs.Rows.{RowOf}
 use Rattle.carried.proofs.CarryLaws.{Carried, row-item, row-in, in-row}
 use Rattle.inclusions.specs.Included.{Included, by-move, by-group, FlagAsked}
-use Rattle.inclusions.proofs.IncludeLaws.{NextIn, flag-map, asked-included, included-asked}
+use Rattle.inclusions.proofs.IncludeLaws.{NextIn, asked-included, included-asked}
+use Rattle.inclusions.proofs.FlagLaws.{flag-map, flag-at, flag-line}
 use Rattle.lalr.specs.Strings.{entryStrings}
 use Rattle.lalr.specs.EntryLaws.{entry-line, entry-number, found-entry, some-entry}
 use Rattle.lalr.specs.States.{Kernel, itemOf, dotOf, alone, states, kernelOf, goto}
@@ -35,7 +36,7 @@ use Rattle.lalr.specs.Carried.{group-wanted}
 use Rattle.lalr.specs.Live.{in-one}
 use Rattle.least_lookaheads.specs.StatesHeld.{entryTable, LineOf, StatesHeld, HoldsLookaheads}
 use Rattle.least_lookaheads.specs.Passes.{ClosureIs, SomeAsks, StateMet}
-use Rattle.least_lookaheads.proofs.TableLaws.{flag-same, held-entries, flagTable, flagged, flags-held}
+use Rattle.least_lookaheads.proofs.TableLaws.{held-entries, flagTable, flagged, flags-held}
 
 moved-past : {g : Grammar} {t : Table} {q X i n : ℕ} → MovedBy g t q X i n → 1 ≤ n
 moved-past (moved h go) = omega arith
@@ -55,11 +56,7 @@ module _ (g : Grammar) {items entries uses kernels kinds values gotos : List ℕ
 
   -- a flag of a line, and a lookahead of its item
   pub look-at : (l d : ℕ) → l < lines → d < 64 → On fs (l * 64 + d) → Lookahead g (FirstBy codes nul fst) (stateAt kernels l) (itemAt kernels l) (dotAt kernels l) d
-  look-at l d within low on =
-      let h = s .flag (l * 64 + d) on in
-      let e = flag-same l d (h .line) (h .code) low (omega (arith, h .low, few)) (h .is) in
-      subst (λ (c : ℕ). Lookahead g (FirstBy codes nul fst) (stateAt kernels l) (itemAt kernels l) (dotAt kernels l) c) (sym (e .1))
-      (subst (λ (m : ℕ). Lookahead g (FirstBy codes nul fst) (stateAt kernels m) (itemAt kernels m) (dotAt kernels m) (h .code)) (sym (e .0)) (h .asked))
+  look-at l d within low on = flag-line l d few low (s .flag (l * 64 + d) on) .1
 
   at-place : {q i k q′ i′ k′ d : ℕ} → q′ ≡ q → i′ ≡ i → k′ ≡ k → Lookahead g (FirstBy codes nul fst) q′ i′ k′ d → Lookahead g (FirstBy codes nul fst) q i k d
   at-place {q} {i} {k} {q′} {i′} {k′} {d} a b c h =
@@ -147,19 +144,10 @@ module _ (g : Grammar) {items entries uses kernels kinds values gotos : List ℕ
     asked-on : {p q i k c l : ℕ} (m : StateMet items kernels fs kinds values gotos entries uses nul fst rules lines codes fs p) → LineIs kernels lines q i k l → c < codes
         → Included g (entryTable g) (FirstBy codes nul fst) (NextIn kinds values gotos p) (Carried items kernels fs (m .present) (m .follow) rules lines codes p) q i k c
         → On fs (l * 64 + c)
-    asked-on {p} {q} {i} {k} {c} {l} m w low h =
-        let In = Included g (entryTable g) (FirstBy codes nul fst) (NextIn kinds values gotos p) (Carried items kernels fs (m .present) (m .follow) rules lines codes p) in
+    asked-on {p = p} {c = c} {l = l} m w low h =
         m .every (l * 64 + c)
         (included-asked g (entryTable g) (held-entries g S) (S .holds-uses) nul fst codes kernels fs kinds values gotos (m .present) (m .follow) lines p (λ i k start from. row-declared)
-        (record {
-          line = l;
-          within = w .within;
-          code = c;
-          low = low;
-          is = refl;
-          asked = subst (λ (x : ℕ). In x (itemAt kernels l) (dotAt kernels l) c) (sym (w .state))
-              (subst (λ (x : ℕ). In q x (dotAt kernels l) c) (sym (w .item)) (subst (λ (x : ℕ). In q i x c) (sym (w .dot)) h));
-        }))
+        (flag-at l w low refl h))
 
     met-of : {p i k d : ℕ} → Carries g t (FirstBy codes nul fst) p i k d → StateMet items kernels fs kinds values gotos entries uses nul fst rules lines codes fs p
     met-of {p} h = let r = has-state (has-of g t h) in met p (r .0) (omega (arith, r .1, S .state-count))

@@ -19,6 +19,7 @@ use Rattle.memory.specs.Fits.{Fits}
 use Rattle.memory.specs.Held.{Held}
 use Rattle.closure.specs.InMemory.{DeclaredItem, InMemory}
 use Rattle.inclusions.specs.Included.{FlagAsked}
+use Rattle.inclusions.proofs.FlagLaws.{flag-line}
 use Rattle.lalr.specs.Strings.{entryStrings, entryLines}
 use Rattle.lalr.specs.Distinct.{in-at}
 use Rattle.lalr.specs.EntryLaws.{entry-line, one-entry, lines-length}
@@ -72,10 +73,6 @@ line-is kernels fs a (suc n) zero {x} e =
 line-is kernels fs a (suc n) (suc l) e =
     let y : suc a + l ≡ a + suc l = omega arith in
     line-is kernels fs (suc a) n l e ∙ ap (lineIn kernels fs) y
-
--- a flag is that of one line and code
-pub flag-same : (l d m e : ℕ) → d < 64 → e < 64 → l * 64 + d ≡ m * 64 + e → (l ≡ m) × (d ≡ e)
-flag-same l d m e u v h = (omega arith, omega arith)
 
 -- ---- the tables
 module _ (g : Grammar) {items entries uses kernels kinds values gotos : List ℕ} {rules strings lines all codes : ℕ}
@@ -179,9 +176,6 @@ module _ (g : Grammar) {items entries uses kernels kinds values gotos : List ℕ
 
     -- where every flag is that of a code
     module _ {Look : ℕ → ℕ → ℕ → ℕ → Type 0} (few : codes ≤ 64) (sound : (y : ℕ) → On fs y → FlagAsked Look kernels lines codes y) where
-      code-low : (l d : ℕ) → On fs (l * 64 + d) → d < 64 → d < codes
-      code-low l d on low = let h = sound (l * 64 + d) on in let e = flag-same l d (h .line) (h .code) low (omega (arith, h .low)) (h .is) in omega (arith, e .1, h .low)
-
       declared-item : {q i k : ℕ} {σ : List ℕ} → Flagged q i k σ → DeclaredItem g (flagTable fs) i
       declared-item h =
           let l = S .line-of (h .line) (h .within) in
@@ -195,5 +189,5 @@ module _ (g : Grammar) {items entries uses kernels kinds values gotos : List ℕ
         line-count = lines-long kernels fs 0 lines;
         left-kind = λ i e. S .limits .formed .formed i e .left-declared .0;
         item-declared = λ q i k σ m. declared-item (flagged m);
-        code-low = λ q i k d σ m n. let h = flagged m in let c = h .code d n in code-low (h .line) d (c .0) (c .1);
+        code-low = λ q i k d σ m n. let h = flagged m in let c = h .code d n in flag-line (h .line) d few (c .1) (sound (h .line * 64 + d) (c .0)) .0;
       }

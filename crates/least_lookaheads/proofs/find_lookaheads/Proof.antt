@@ -51,7 +51,7 @@ same-length : tie.Need-same-length Inv-passes μ-passes
 same-length c = c .before .before .before .make-pass .ensures .long ∙ (c .before .before .before .before .before .passes .inv .long ∙ (c .before .before .before .before .before .before .before .before .add-lines .ensures .long ∙ zeroed {n = length (c .before .before .before .before .before .before .before .before .before .before .before .before .before .before .before .before .before .before .before .before .before .before .before .before .before .before .before .before .args .lookaheads .now)} (c .before .before .before .before .before .before .before .before .before .before .before .before .before .clear .ensures) refl))
 
 returns : tie.Need-returns Inv-passes μ-passes
-returns c = λ g S. found-all (length (c .before .before .before .before .before .before .before .before .before .before .before .before .before .before .before .before .before .before .before .before .before .before .before .before .before .before .before .before .args .lookaheads .now)) refl (c .before .before .before .before .before .before .before .before .before .before .before .before .before .clear .ensures) (c .before .before .before .before .before .before .before .before .add-lines .ensures) (c .before .before .before .before .before .passes .inv) (c .before .before .before .before .before .before .before .before .before .before .before .before .before .before .before .before .before .before .before .before .before .before .before .before .before .before .before .before .pre .0 .ready .few-codes) (c .before .before .before .make-pass .ensures) (c .if1 .taken) g S
+returns c = λ g S. found-all (length (c .before .before .before .before .before .before .before .before .before .before .before .before .before .before .before .before .before .before .before .before .before .before .before .before .before .before .before .before .args .lookaheads .now)) refl (c .before .before .before .before .before .before .before .before .before .before .before .before .before .clear .ensures) (c .before .before .before .before .before .before .before .before .add-lines .ensures) (c .before .before .before .before .before .passes .inv) (c .before .before .before .before .before .before .before .before .before .before .before .before .before .before .before .before .before .before .before .before .before .before .before .before .before .before .before .before .pre .0 .ready .few-codes) (c .before .before .before .make-pass .ensures) (omega (arith, c .if1 .taken)) g S
 
 pub find-lookaheads-spec : {M : Type 1} → statement M
 find-lookaheads-spec =
