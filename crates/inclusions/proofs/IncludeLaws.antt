@@ -39,6 +39,11 @@ pub record NextIn (kinds values gotos : List ℕ) (p X q : ℕ) : Type 0 where
   pub some-state : q ≡ 0 → ⊥
   pub is-next : nextAt kinds values gotos p X ≡ q
 
+pub included-map : {g : Grammar} {t : Table} {F : List ℕ → ℕ → ℕ → Type 0} {Next : ℕ → ℕ → Type 0} {Has Had : ℕ → ℕ → ℕ → Type 0} {q i k c : ℕ}
+    → ((i k d : ℕ) → Has i k d → Had i k d) → Included g t F Next Has q i k c → Included g t F Next Had q i k c
+included-map f (by-move nx h go) = by-move nx (f _ _ _ h) go
+included-map f (by-group e δs εs ent er split h x) = by-group e δs εs ent er split (f _ _ _ h) x
+
 -- The table may be any whose items and entries stand in memory, whatever its lines; the kernel lines and next states are read off memory.
 module _ (g : Grammar) (t : Table) {items entries ks ls kd vs gs : List ℕ} {rules strings n : ℕ} (H : Held g t items entries ks ls kd vs gs rules strings n)
     {uses : List ℕ} (U : HoldsUses uses g t) (nul fst : List ℕ) (codes : ℕ) (kernels lookaheads kinds values gotos present follow : List ℕ) (lines p : ℕ)
