@@ -1,5 +1,5 @@
 -- What is asked in memory is what the construction includes.
-use Prim.Native.Nat.{ℕ, zero, suc, _+_, _*_, _-_, _≤_, _<_}
+use Prim.Native.Nat.{ℕ, suc, _+_, _*_, _-_, _≤_, _<_}
 use mathlib.Core.Path.{_≡_, refl, sym, ap, subst, _∙_}
 use mathlib.Core.Logic.{inl, inr}
 use mathlib.Core.List.{List, _∷_, _++_}
@@ -7,30 +7,29 @@ use mathlib.Core.Option.{some}
 use native.Mathlib.Numerals.{add-one}
 use native.Mathlib.Omega.{arith}
 use lib.ListN.{length, getD}
-use Rattle.language.specs.Grammar.{Grammar, Rule, ruleAt, concat}
+use Rattle.language.specs.Grammar.{Grammar, Rule, ruleAt}
 use Rattle.language.specs.GrammarLaws.{rule-range}
-use Rattle.leftcorner.specs.Table.{Table, nextState, Goes}
-use Rattle.leftcorner.specs.Construction.{entryItem, EntryAt, Carries}
+use Rattle.leftcorner.specs.Table.{Table}
+use Rattle.leftcorner.specs.Construction.{entryItem}
 use Rattle.leftcorner.specs.ReadOff.{entry-is}
 use Rattle.leftcorner.specs.Sources.{entry-high}
 use Rattle.items.specs.Layout.{lengthAt, markAt}
-use Rattle.memory.specs.Memory.{stateAt, itemAt, dotAt}
 use Rattle.memory.specs.Held.{Held}
 use Rattle.closure.specs.Adds.{Adds}
 use Rattle.closure.specs.FirstBy.{FirstBy, first-low}
 use Rattle.closure.specs.Expansion.{HoldsClosure}
 use Rattle.closure.specs.InMemory.{DeclaredItem, LineIs}
 use Rattle.closure.proofs.AddLaws.{adds-map}
-use Rattle.moves.specs.Moves.{symbolAfter, nextAt}
+use Rattle.moves.specs.Moves.{nextAt}
 use Rattle.moves.proofs.NextLaws.{next-line, line-next}
 use Rattle.moves.proofs.RowLaws.{row-of, symbol-of-goes, goes-of-symbol}
-use Rattle.carried.specs.Rows.{FirstsAt, RowOf}
+use Rattle.carried.specs.Rows.{RowOf}
 use Rattle.carried.proofs.CarryLaws.{Carried, row-declared, row-carries, carries-row}
 use Rattle.entry_list.specs.Uses.{HoldsUses}
 use Rattle.inclusions.specs.Groups.{groupBegin}
 use Rattle.inclusions.specs.Asks.{MoveAsks, GroupAsks, GroupsAsk, ItemAsks, StateAsks}
 use Rattle.inclusions.specs.Asks as asks
-use Rattle.inclusions.specs.Included.{Included, by-move, by-group, Leads, Includes, FlagAsked}
+use Rattle.inclusions.specs.Included.{Included, by-move, by-group, Includes, FlagAsked}
 use Rattle.inclusions.proofs.FlagLaws.{flag-map, flag-at}
 use Rattle.inclusions.proofs.RuleLaws.{found-entry, base-low, begin-at, rest-at, use-at, find-group}
 

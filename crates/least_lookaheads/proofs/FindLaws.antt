@@ -132,4 +132,4 @@ module _ {items entries uses kernels kinds values gotos nul fst : List ℕ} {rul
             holds = record { item = w .item; dot = w .dot; row = record { code = 0; low = omega arith; on = zero-on; is = refl } };
           })))
           (λ p low high. subst (λ (l : List ℕ). Met g S nul fst l fs′ p) (sym (m .merged .still z))
-            (met-within g S nul fst few (met-all g S start p low high) (sound-grown g S start) (λ y u on. m .merged .every y u on)))
+          (met-within g S nul fst few (met-all g S start p low high) (sound-grown g S start) (λ y u on. m .merged .every y u on)))

@@ -27,7 +27,7 @@ use Rattle.inclusions.proofs.IncludeLaws.{NextIn, included-map, asked-included,
 use Rattle.inclusions.proofs.FlagLaws.{flag-map, flag-at, flag-line}
 use Rattle.lalr.specs.Strings.{entryStrings}
 use Rattle.lalr.specs.EntryLaws.{entry-line, entry-number, found-entry, some-entry}
-use Rattle.lalr.specs.States.{Kernel, itemOf, dotOf, alone, states, kernelOf, goto}
+use Rattle.lalr.specs.States.{Kernel, itemOf, alone, states, kernelOf, goto}
 use Rattle.lalr.specs.Over.{goes-over, moved-over}
 use Rattle.lalr.specs.MoveLaws.{item-of, dot-of, line-alone, move-only, in-move, moved-dot}
 use Rattle.lalr.specs.StateLaws.{more-states, entry-kernel, Reached, entry-or, goes-to}
@@ -100,9 +100,11 @@ module _ (g : Grammar) {items entries uses kernels kinds values gotos : List ℕ
   to-alone q i k σ h =
       let f = flagged g S fs h in
       let l = S .line-of (f .line) (f .within) in
-      let w = line-alone g (subst (λ (x : ℕ). In (l .number) (kernelOf g x)) (f .state) (l .stands)) in
-      ([], subst (λ (x : ℕ). KernelAt g (alone g (kernelOf g q)) 1 x k []) (sym (l .item) ∙ f .item)
-          (subst (λ (x : ℕ). KernelAt g (alone g (kernelOf g q)) 1 (itemOf (l .number)) x []) (sym (l .dot) ∙ f .dot) w))
+      let w = line-alone g (subst (λ (x : ℕ). In (l .number) (kernelOf g x)) (f .state) (l .stands)) in (
+        [],
+        subst (λ (x : ℕ). KernelAt g (alone g (kernelOf g q)) 1 x k []) (sym (l .item) ∙ f .item)
+            (subst (λ (x : ℕ). KernelAt g (alone g (kernelOf g q)) 1 (itemOf (l .number)) x []) (sym (l .dot) ∙ f .dot) w),
+      )
 
   moves : {q i k X : ℕ} {β : List ℕ} → Has g t q i k → Goes g t i k X β → MovedBy g (alone g (kernelOf g q)) 1 X i (suc k)
   moves {q = q} h go = moved-over g t (alone g (kernelOf g q)) refl q 1 (to-alone q) (moved h go)
@@ -145,7 +147,7 @@ module _ (g : Grammar) {items entries uses kernels kinds values gotos : List ℕ
   pub sound-asked : {y : ℕ} → SomeAsks items kernels fs kinds values gotos entries uses nul fst rules lines codes all y → FlagAsked (Lookahead g (FirstBy codes nul fst)) kernels lines codes y
   sound-asked a = flag-map (λ q i k c. look-asked (a .closure))
       (asked-included g (entryTable g) (held-entries g S) (S .holds-uses) nul fst codes kernels fs kinds values gotos (a .present) (a .follow) lines (a .state)
-        (λ i k start from. row-declared) (a .asks))
+      (λ i k start from. row-declared) (a .asks))
 
   on-carries : {q i k d l : ℕ} → LineIs kernels lines q i k l → d < 64 → On fs (l * 64 + d) → Carries g t (FirstBy codes nul fst) q i k d
   on-carries {q} {i} {k} {d} {l} w low on =

@@ -1,5 +1,5 @@
 -- Passes over the states, state by state and flag by flag.
-use Prim.Native.Nat.{ℕ, _+_, _*_, _/_, _≤_, _<_}
+use Prim.Native.Nat.{ℕ, _+_, _/_, _≤_, _<_}
 use mathlib.Core.Path.{_≡_, refl, sym, subst, subst₂, _∙_}
 use mathlib.Core.Logic.{_⊎_, inl, inr}
 use mathlib.Core.List.{List}
@@ -7,7 +7,6 @@ use native.Mathlib.Omega.{arith}
 use borrow.Author.Count.{below-more}
 use lib.ListN.{length, set, length-set}
 use Rattle.fixpoint.specs.Flags.{On, Off}
-use Rattle.fixpoint.specs.Pass.{zeros}
 use Rattle.fixpoint.proofs.CountLaws.{zeros-set, on-set, only-set, keep-set}
 use Rattle.fixpoint.proofs.PassLaws.{no-gap, from-more}
 use Rattle.memory.specs.Memory.{stateAt}

@@ -2,14 +2,14 @@
 use Prim.Native.Nat.{ℕ, zero, suc, _+_, _*_, _≤_, _<_}
 use mathlib.Core.Path.{_≡_, refl, sym, ap, subst, _∙_}
 use mathlib.Core.Logic.{_⊎_, inl, inr}
-use mathlib.Core.List.{List, _∷_, _++_}
+use mathlib.Core.List.{List}
 use mathlib.Core.Option.{some}
 use native.Mathlib.Omega.{arith}
-use lib.ListN.{length, getD, set, replicate, length-replicate}
-use Rattle.language.specs.Grammar.{Grammar, Rule, ruleAt, concat}
+use lib.ListN.{getD, set, replicate, length-replicate}
+use Rattle.language.specs.Grammar.{Grammar}
 use Rattle.language.specs.Sentence.{In}
-use Rattle.leftcorner.specs.Table.{EntryLine, E, Table, entryAt, Action, nextState, Goes}
-use Rattle.leftcorner.specs.Construction.{entryItem, EntryAt, KernelAt, ActionAt, Carries}
+use Rattle.leftcorner.specs.Table.{EntryLine, E, Table, entryAt}
+use Rattle.leftcorner.specs.Construction.{entryItem, EntryAt, KernelAt}
 use Rattle.fixpoint.specs.Flags.{On}
 use Rattle.fixpoint.proofs.CountLaws.{on-set}
 use Rattle.fixpoint.proofs.PassLaws.{all-off}

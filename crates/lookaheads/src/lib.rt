@@ -43,7 +43,15 @@ fn covers(grown: &[u8], lookaheads: &[u8], lines: usize, l: usize, codes: usize)
 }
 
 // Flags the states of the lines that are asked for more than they have.
-fn mark_states(kernels: &[u8], grown: &[u8], lookaheads: &[u8], lines: usize, count: usize, codes: usize, narrow: &mut [u8])
+fn mark_states(
+    kernels: &[u8],
+    grown: &[u8],
+    lookaheads: &[u8],
+    lines: usize,
+    count: usize,
+    codes: usize,
+    narrow: &mut [u8],
+)
     requires { ⌜ Lines (now kernels) lines count ⌝ }
     requires { ⌜ (codes ≤ 64) × (lines * 64 ≤ length (now grown)) × (lines * 64 ≤ length (now lookaheads)) × (length (now narrow) ≡ 256) ⌝ }
     ensures { λ _. ⌜ Narrows (StateCovers (now (kernels .entry)) (now (grown .entry)) (now (lookaheads .entry)) lines codes) (now (narrow .entry)) (now (narrow .exit)) ⌝ }
@@ -61,7 +69,27 @@ fn mark_states(kernels: &[u8], grown: &[u8], lookaheads: &[u8], lines: usize, co
 }
 
 // Flags the states whose lookaheads are too few because of p.
-pub fn mark_narrow(items: &[u8], kernels: &[u8], links: &[usize], lookaheads: &[u8], kinds: &[u8], values: &[u8], gotos: &[u8], entries: &[u8], uses: &[u8], nul: &[u8], fst: &[u8], present: &[u8], follow: &[u8], count: usize, rules: usize, lines: usize, codes: usize, p: usize, narrow: &mut [u8])
+pub fn mark_narrow(
+    items: &[u8],
+    kernels: &[u8],
+    links: &[usize],
+    lookaheads: &[u8],
+    kinds: &[u8],
+    values: &[u8],
+    gotos: &[u8],
+    entries: &[u8],
+    uses: &[u8],
+    nul: &[u8],
+    fst: &[u8],
+    present: &[u8],
+    follow: &[u8],
+    count: usize,
+    rules: usize,
+    lines: usize,
+    codes: usize,
+    p: usize,
+    narrow: &mut [u8],
+)
     requires { ⌜ Sourced (now items) (now kernels) (now links) (now entries) (now uses) (now nul) (now fst) count rules lines codes ⌝ }
     requires { ⌜ Cells (now kinds) (now values) (now gotos) ⌝ }
     requires { ⌜ (p < 256) × (length (now present) ≡ 64) × (length (now follow) ≡ 4096) × (lines * 64 ≤ length (now lookaheads)) × (length (now narrow) ≡ 256) ⌝ }
@@ -69,12 +97,42 @@ pub fn mark_narrow(items: &[u8], kernels: &[u8], links: &[usize], lookaheads: &[
     ensures { λ _. ⌜ ((g : Grammar) (t : Table) (strings : ℕ) → Held g t (now (items .entry)) (now (entries .entry)) (now (kernels .entry)) (now (lookaheads .entry)) (now (kinds .entry)) (now (values .entry)) (now (gotos .entry)) rules strings lines → codes ≡ suc (g .terminals) → HoldsClosure g t (FirstBy codes (now (nul .entry)) (now (fst .entry))) p (now (present .entry)) (now (follow .entry)) → HoldsUses (now (uses .entry)) g t → Narrows (LookaheadsFrom g t (FirstBy codes (now (nul .entry)) (now (fst .entry))) p) (now (narrow .entry)) (now (narrow .exit))) ⌝ }
 {
     let mut grown = [0u8; 65536];
-    inclusions::add_inclusions(items, kernels, links, lookaheads, kinds, values, gotos, entries, uses, nul, fst, present, follow, count, rules, lines, codes, p, &mut grown);
+    inclusions::add_inclusions(
+        items,
+        kernels,
+        links,
+        lookaheads,
+        kinds,
+        values,
+        gotos,
+        entries,
+        uses,
+        nul,
+        fst,
+        present,
+        follow,
+        count,
+        rules,
+        lines,
+        codes,
+        p,
+        &mut grown,
+    );
     mark_states(kernels, &grown, lookaheads, lines, count, codes, narrow);
 }
 
 // Flags the state of the goal's entry where it does not have code 0.
-pub fn mark_goal(kernels: &[u8], links: &[usize], lookaheads: &[u8], entries: &[u8], lines: usize, count: usize, rules: usize, strings: usize, narrow: &mut [u8])
+pub fn mark_goal(
+    kernels: &[u8],
+    links: &[usize],
+    lookaheads: &[u8],
+    entries: &[u8],
+    lines: usize,
+    count: usize,
+    rules: usize,
+    strings: usize,
+    narrow: &mut [u8],
+)
     requires { ⌜ Lines (now kernels) lines count ⌝ }
     requires { ⌜ Linked (now kernels) (now links) lines ⌝ }
     requires { ⌜ (rules ≤ 127) × (lines * 64 ≤ length (now lookaheads)) × (2 ≤ length (now entries)) × (length (now narrow) ≡ 256) ⌝ }
@@ -85,6 +143,18 @@ pub fn mark_goal(kernels: &[u8], links: &[usize], lookaheads: &[u8], entries: &[
     row[0] = 1;
     let s = wide(entries[1]);
     let mut grown = [0u8; 65536];
-    inclusions::add_lines(kernels, links, &row, lines, count, 1, s, rules + 1, 0, 0, &mut grown);
+    inclusions::add_lines(
+        kernels,
+        links,
+        &row,
+        lines,
+        count,
+        1,
+        s,
+        rules + 1,
+        0,
+        0,
+        &mut grown,
+    );
     mark_states(kernels, &grown, lookaheads, lines, count, 1, narrow);
 }

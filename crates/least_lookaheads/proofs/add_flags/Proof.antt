@@ -3,7 +3,6 @@ use mathlib.Core.Path.{refl, _∙_}
 use Prim.Native.Nat.{_*_, _≤_, _-_}
 use native.Mathlib.Omega.{arith}
 use Rattle.fixpoint.proofs.PassLaws.{set-on}
-use borrow.Author.Needs.{needs}
 use Rattle.least_lookaheads.proofs.add_flags.Statement.{statement}
 use Rattle.least_lookaheads.proofs.add_flags.Tie as tie
 
@@ -62,10 +61,11 @@ loop-less-3 : tie.Need-loop-less-3 Inv-loop μ-loop
 loop-less-3 c = omega (arith, c .before .before .before .before .before .loop-test .taken)
 
 loop-again-3 : tie.Need-loop-again-3 Inv-loop μ-loop
-loop-again-3 c = let o = c .before .before .before .before .before .before .loop .inv .1 in
-    (omega (arith, c .before .before .before .before .before .loop-test .taken),
-      merging-add o (set-on (c .before .before .before .if1 .left)) (c .before .if2 .left) (omega (arith, c .before .before .before .before .before .loop-test .taken, o .merges .long, c .before .before .before .before .before .before .before .before .before .before .before .pre .1 .1)) (c .state-of .ensures .0)
-        (omega (arith, c .state-of .ensures .1, o .noted-long, c .before .before .before .before .before .before .before .before .before .before .before .pre .1 .2)) refl refl)
+loop-again-3 c = let o = c .before .before .before .before .before .before .loop .inv .1 in (
+  omega (arith, c .before .before .before .before .before .loop-test .taken),
+  merging-add o (set-on (c .before .before .before .if1 .left)) (c .before .if2 .left) (omega (arith, c .before .before .before .before .before .loop-test .taken, o .merges .long, c .before .before .before .before .before .before .before .before .before .before .before .pre .1 .1)) (c .state-of .ensures .0)
+      (omega (arith, c .state-of .ensures .1, o .noted-long, c .before .before .before .before .before .before .before .before .before .before .before .pre .1 .2)) refl refl,
+)
 
 same-length : tie.Need-same-length Inv-loop μ-loop
 same-length c = c .before .loop .inv .1 .merges .long

@@ -3,8 +3,6 @@ use Rattle.least_lookaheads.proofs.PassLaws.{states-start, states-skip,
 use mathlib.Core.Path.{refl}
 use Prim.Native.Nat.{_+_, _≤_, _-_}
 use native.Mathlib.Omega.{arith}
-use Rattle.fixpoint.proofs.PassLaws.{set-on}
-use borrow.Author.Needs.{needs}
 use Rattle.least_lookaheads.proofs.ask_states.Statement.{statement}
 use Rattle.least_lookaheads.proofs.ask_states.Tie as tie
 

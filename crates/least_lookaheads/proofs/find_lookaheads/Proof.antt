@@ -43,9 +43,24 @@ slice-aggregate-make-pass-2 : tie.Need-slice-aggregate-make-pass-2 Inv-passes μ
 slice-aggregate-make-pass-2 c = search needs
 
 make-pass-requires : tie.Need-make-pass-requires Inv-passes μ-passes
-make-pass-requires c κs = let p = c .before .before .before .before .before .before .before .before .before .before .before .before .before .before .before .before .before .before .before .before .before .before .before .before .before .before .pre in let o = c .before .before .before .passes .inv in
-    (p .0, (p .1 .0, (p .1 .1 .0, (p .1 .1 .1 .0, (p .1 .1 .1 .1 .0, o .noted-long, omega (arith, o .grown-long, p .0 .lined .some-lines .few),
-      omega (arith, o .long, c .before .before .before .before .before .before .add-lines .ensures .long, zeroed {n = length (c .before .before .before .before .before .before .before .before .before .before .before .before .before .before .before .before .before .before .before .before .before .before .before .before .before .before .args .lookaheads .now)} (c .before .before .before .before .before .before .before .before .before .before .before .clear .ensures) refl, p .1 .1 .1 .1 .2))))))
+make-pass-requires c κs = let p = c .before .before .before .before .before .before .before .before .before .before .before .before .before .before .before .before .before .before .before .before .before .before .before .before .before .before .pre in let o = c .before .before .before .passes .inv in (
+  p .0,
+  (
+    p .1 .0,
+    (
+      p .1 .1 .0,
+      (
+        p .1 .1 .1 .0,
+        (
+          p .1 .1 .1 .1 .0,
+          o .noted-long,
+          omega (arith, o .grown-long, p .0 .lined .some-lines .few),
+          omega (arith, o .long, c .before .before .before .before .before .before .add-lines .ensures .long, zeroed {n = length (c .before .before .before .before .before .before .before .before .before .before .before .before .before .before .before .before .before .before .before .before .before .before .before .before .before .before .args .lookaheads .now)} (c .before .before .before .before .before .before .before .before .before .before .before .clear .ensures) refl, p .1 .1 .1 .1 .2),
+        ),
+      ),
+    ),
+  ),
+)
 
 passes-less : tie.Need-passes-less Inv-passes μ-passes
 passes-less c = omega (arith, c .before .before .before .before .before .make-pass .ensures .merged .count, c .if1 .left)

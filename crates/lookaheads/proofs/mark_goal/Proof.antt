@@ -40,8 +40,10 @@ same-length : tie.Need-same-length
 same-length c = c .before .before .mark-states .ensures .narrowing .long
 
 returns : tie.Need-returns
-returns c = (c .before .before .mark-states .ensures .narrowing .long ∙ c .before .before .before .before .before .before .before .before .before .before .before .before .before .before .before .before .pre .1 .1 .3,
-    λ g t items kinds values gotos u H. goal-narrows g t H u (c .before .before .before .before .before .before .before .before .before .wide .ensures .0) refl 65536 refl (c .before .before .before .before .before .before .add-lines .ensures) (c .before .before .mark-states .ensures))
+returns c = (
+  c .before .before .mark-states .ensures .narrowing .long ∙ c .before .before .before .before .before .before .before .before .before .before .before .before .before .before .before .before .pre .1 .1 .3,
+  λ g t items kinds values gotos u H. goal-narrows g t H u (c .before .before .before .before .before .before .before .before .before .wide .ensures .0) refl 65536 refl (c .before .before .before .before .before .before .add-lines .ensures) (c .before .before .mark-states .ensures),
+)
 
 pub mark-goal-spec : {M : Type 1} → statement M
 mark-goal-spec =

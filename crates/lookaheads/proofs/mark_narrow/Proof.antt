@@ -25,8 +25,10 @@ same-length : tie.Need-same-length
 same-length c = c .before .before .mark-states .ensures .narrowing .long
 
 returns : tie.Need-returns
-returns c = (c .before .before .mark-states .ensures .narrowing .long ∙ c .before .before .before .before .before .before .before .before .before .before .before .before .before .before .before .before .before .before .before .before .before .before .pre .1 .1 .4,
-    λ g t strings H e C U. narrows-from g t H _ _ e 65536 refl (c .before .before .before .before .before .before .add-inclusions .ensures .1 g t strings H e C U) (c .before .before .mark-states .ensures))
+returns c = (
+  c .before .before .mark-states .ensures .narrowing .long ∙ c .before .before .before .before .before .before .before .before .before .before .before .before .before .before .before .before .before .before .before .before .before .before .pre .1 .1 .4,
+  λ g t strings H e C U. narrows-from g t H _ _ e 65536 refl (c .before .before .before .before .before .before .add-inclusions .ensures .1 g t strings H e C U) (c .before .before .mark-states .ensures),
+)
 
 pub mark-narrow-spec : {M : Type 1} → statement M
 mark-narrow-spec =

@@ -40,9 +40,11 @@ loop-less-2 : tie.Need-loop-less-2 Inv-loop μ-loop
 loop-less-2 c = search needs
 
 loop-again-2 : tie.Need-loop-again-2 Inv-loop μ-loop
-loop-again-2 c = (omega arith,
-    lines-lacking (c .before .before .before .before .loop .inv .1) (c .before .before .covers .ensures .no (c .before .if1 .left)) (c .before .before .before .loop-test .taken) (c .state-of .ensures .0) refl
-      (omega (arith, c .state-of .ensures .1, c .before .before .before .before .loop .inv .1 .narrowing .long, c .before .before .before .before .before .before .before .before .before .pre .1 .3)))
+loop-again-2 c = (
+  omega arith,
+  lines-lacking (c .before .before .before .before .loop .inv .1) (c .before .before .covers .ensures .no (c .before .if1 .left)) (c .before .before .before .loop-test .taken) (c .state-of .ensures .0) refl
+      (omega (arith, c .state-of .ensures .1, c .before .before .before .before .loop .inv .1 .narrowing .long, c .before .before .before .before .before .before .before .before .before .pre .1 .3)),
+)
 
 same-length : tie.Need-same-length Inv-loop μ-loop
 same-length c = c .before .loop .inv .1 .narrowing .long
