@@ -53,7 +53,7 @@ target-kept e (inr m) = inr (still-in e m)
 -- ---- a set that joins
 
 -- the list after a set, by whether it was there
-noted : (ks : List Kernel) (Φ : List Kernel → Type 0) (m : Kernel) → Φ ks → ((m ≡ [] → ⊥) → (In m ks → ⊥) → Φ (ks ++ m ∷ [])) → Φ (note ks m)
+pub noted : (ks : List Kernel) (Φ : List Kernel → Type 0) (m : Kernel) → Φ ks → ((m ≡ [] → ⊥) → (In m ks → ⊥) → Φ (ks ++ m ∷ [])) → Φ (note ks m)
 unfolding note
 noted ks Φ [] p f = p
 noted ks Φ (x ∷ m) p f = joined ks Φ (x ∷ m) (λ _. p) (f (λ e. clash cc))
@@ -68,7 +68,7 @@ pub record Fits (ks : List Kernel) : Type 0 where
   pub states : length ks ≤ 255
   pub lines : total ks ≤ 1023
 
-total-and : (a b : List Kernel) → total (a ++ b) ≡ total a + total b
+pub total-and : (a b : List Kernel) → total (a ++ b) ≡ total a + total b
 total-and [] b = omega arith
 total-and (k ∷ a) b = omega (arith, total-and a b)
 
@@ -79,7 +79,7 @@ fits-back {a = a} {b = b} x f = record {
 }
 
 -- the list after a set, by whether there was room
-noted-if : (ks : List Kernel) (Φ : List Kernel → Type 0) (m : Kernel) → ((Fits ks → ⊥) → Φ ks) → (Fits ks → Φ (note ks m)) → Φ (noteIf ks m)
+pub noted-if : (ks : List Kernel) (Φ : List Kernel → Type 0) (m : Kernel) → ((Fits ks → ⊥) → Φ ks) → (Fits ks → Φ (note ks m)) → Φ (noteIf ks m)
 unfolding noteIf
 noted-if ks Φ m p f = go (ltb 255 (length ks)) (ltb 1023 (total ks)) refl refl
   where

@@ -1,0 +1,4 @@
+pub mod PartLaws
+pub mod SetLaws
+pub mod JoinLaws
+pub mod CellLaws

@@ -1,0 +1,2 @@
+-- The states that are found.
+use Prim.Native.Nat.{ℕ}
