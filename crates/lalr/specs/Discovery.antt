@@ -92,7 +92,7 @@ noted-if ks Φ m p f = go (ltb 255 (length ks)) (ltb 1023 (total ks)) refl refl
 after : (ks : List Kernel) (Φ : List Kernel → Type 0) (m : Kernel) → Φ ks → ((m ≡ [] → ⊥) → (In m ks → ⊥) → Φ (ks ++ m ∷ [])) → Φ (noteIf ks m)
 after ks Φ m p f = noted-if ks Φ m (λ _. p) (λ _. noted ks Φ m p f)
 
-after-extends : (ks : List Kernel) (m : Kernel) → Extends ks (noteIf ks m)
+pub after-extends : (ks : List Kernel) (m : Kernel) → Extends ks (noteIf ks m)
 after-extends ks m = after ks (λ (l : List Kernel). Extends ks l) m (stays ks) (λ _ _. record { more = m ∷ []; is = refl })
 
 after-distinct : (ks : List Kernel) (m : Kernel) → Distinct ks → Distinct (noteIf ks m)
@@ -144,7 +144,7 @@ module _ (move : Kernel → ℕ → Kernel) where
           let w : getD (ks ++ m ∷ []) p [] ≡ m = ap (λ (n : ℕ). getD (ks ++ m ∷ []) n []) z ∙ getD-end ks m in
           record { from = q; symbol = X; earlier = omega (arith, l, z); is = w ∙ ap (λ (h : Kernel). move h X) (sym (kept big q l ∙ is)); filled = λ h. f (sym w ∙ h) }
 
-  leave-extends : (xs : List ℕ) (k : Kernel) (ks : List Kernel) → Extends ks (leave move k xs ks)
+  pub leave-extends : (xs : List ℕ) (k : Kernel) (ks : List Kernel) → Extends ks (leave move k xs ks)
   unfolding leave
   leave-extends [] k ks = stays ks
   leave-extends (x ∷ xs) k ks = extends-trans (after-extends ks (move k x)) (leave-extends xs k (noteIf ks (move k x)))

@@ -69,9 +69,10 @@ module _ (move : Kernel → ℕ → Kernel) where
       go true e = after e
       go false e = refl
 
--- the moves of a state on some symbols are all that leaving it by them asks
-pub leave-over : (move move′ : Kernel → ℕ → Kernel) (k : Kernel) (xs : List ℕ) (ks : List Kernel) → ((X : ℕ) → In X xs → move k X ≡ move′ k X) → leave move k xs ks ≡ leave move′ k xs ks
-leave-over move move′ k [] ks same = leave-none move k ks ∙ sym (leave-none move′ k ks)
-leave-over move move′ k (X ∷ xs) ks same =
-    leave-more move k X xs ks ∙ leave-over move move′ k xs (noteIf ks (move k X)) (λ Y m. same Y (there m))
-    ∙ ap (λ (m : Kernel). leave move′ k xs (noteIf ks m)) (same X here) ∙ sym (leave-more move′ k X xs ks)
+-- leaving a state asks for its moves on some symbols, and nothing else of it
+pub leave-over : (move move′ : Kernel → ℕ → Kernel) (k k′ : Kernel) (xs : List ℕ) (ks : List Kernel) → ((X : ℕ) → In X xs → move k X ≡ move′ k′ X)
+    → leave move k xs ks ≡ leave move′ k′ xs ks
+leave-over move move′ k k′ [] ks same = leave-none move k ks ∙ sym (leave-none move′ k′ ks)
+leave-over move move′ k k′ (X ∷ xs) ks same =
+    leave-more move k X xs ks ∙ leave-over move move′ k k′ xs (noteIf ks (move k X)) (λ Y m. same Y (there m))
+    ∙ ap (λ (m : Kernel). leave move′ k′ xs (noteIf ks m)) (same X here) ∙ sym (leave-more move′ k′ X xs ks)

@@ -2,3 +2,4 @@ pub mod PartLaws
 pub mod SetLaws
 pub mod JoinLaws
 pub mod CellLaws
+pub mod LeaveLaws

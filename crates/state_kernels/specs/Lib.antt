@@ -1,3 +1,4 @@
 pub mod Sets
 pub mod Cells
+pub mod Leaving
 pub mod Discovered

@@ -1,7 +1,6 @@
 -- Kernel sets in memory, one after another, and where each begins.
 use Prim.Native.Nat.{ℕ, zero, suc, _+_, _-_, _≤_, _<_}
 use mathlib.Core.Path.{_≡_}
-use mathlib.Core.Bool.{cond}
 use mathlib.Core.List.{List, [], _∷_, _++_}
 use lib.ListN.{length, getD, take, drop}
 use Rattle.language.specs.Sentence.{In}
@@ -43,6 +42,9 @@ pub record Joins (sets₀ starts₀ sets starts : List ℕ) (states₀ lines₀ 
   pub numbered : (count : ℕ) → Numbered count (take lines₀ sets₀) → Numbered count m → Numbered count (take lines sets)
   pub few : states ≤ states₀ + 1
 
--- what leaving a state adds, where l lists what moves from it
+-- the moves of a state, where l lists what moves from it, and what leaving it by them adds
+abbrev pub movesBy : List ℕ → Kernel → ℕ → Kernel
+movesBy l k X = picked X l
+
 abbrev pub leaveBy : List ℕ → List Kernel → List Kernel
-leaveBy l ks = leave (λ k X. picked X l) [] (range 1 127) ks
+leaveBy l ks = leave (movesBy l) [] (range 1 127) ks

@@ -7,6 +7,7 @@ ghost use Rattle.kernel_moves.specs.Moved.{picked};
 ghost use Rattle.moves.specs.Moves.{Cells};
 ghost use Rattle.state_kernels.specs.Sets.{part, setsIn, Bounds, FindsSet, Joins};
 ghost use Rattle.state_kernels.specs.Cells.{Stores};
+ghost use Rattle.state_kernels.specs.Leaving.{Leaves};
 
 // A state that is led to, 0 for none, and how many states and kernel lines there are.
 pub struct Visit {
@@ -114,4 +115,58 @@ fn store_next(kinds: &mut [u8], values: &mut [u8], gotos: &mut [u8], q: usize, x
     }
     kinds[q * 64 + x] = 1;
     values[q * 64 + x] = v as u8;
+}
+
+// How many states and kernel lines there are.
+pub struct Size {
+    pub states: usize,
+    pub lines: usize,
+}
+
+// Leaves state q on every symbol, by code, until a limit is passed.
+fn leave_state(
+    q: usize,
+    moved: &[usize],
+    n: usize,
+    sets: &mut [usize],
+    starts: &mut [usize],
+    states: usize,
+    lines: usize,
+    kinds: &mut [u8],
+    values: &mut [u8],
+    gotos: &mut [u8],
+) -> Size
+    requires { ⌜ Bounds (now sets) (now starts) states lines ⌝ }
+    requires { ⌜ (n ≤ length (now moved)) × (n ≤ 4096) × (5119 ≤ length (now sets)) × (257 ≤ length (now starts)) ⌝ }
+    requires { ⌜ (q < 256) × (states ≤ 255) × (lines ≤ 1023) ⌝ }
+    requires { ⌜ Cells (now kinds) (now values) (now gotos) ⌝ }
+    ensures { λ r. ⌜ Leaves (take n (now (moved .entry))) (now (sets .entry)) (now (starts .entry)) (now (kinds .entry)) (now (values .entry)) (now (gotos .entry)) q states lines (now (sets .exit)) (now (starts .exit)) (now (kinds .exit)) (now (values .exit)) (now (gotos .exit)) (r .states) (r .lines) ⌝ }
+{
+    let mut found = states;
+    let mut end = lines;
+    let mut x = 1;
+    while x < 128 {
+        let visit = visit_symbol(moved, n, x, sets, starts, found, end);
+        found = visit.states;
+        end = visit.lines;
+        if 255 < found {
+            return Size {
+                states: found,
+                lines: end,
+            };
+        }
+        if 1023 < end {
+            return Size {
+                states: found,
+                lines: end,
+            };
+        }
+        let state = visit.state;
+        store_next(kinds, values, gotos, q, x, state);
+        x += 1;
+    }
+    Size {
+        states: found,
+        lines: end,
+    }
 }
