@@ -9,7 +9,7 @@ use mathlib.Core.List.{List, [], _∷_}
 use lib.ListN.{length, getD, take}
 use Rattle.lalr.specs.States.{Kernel, range, noteIf, leave}
 use Rattle.lalr.specs.Distinct.{Extends, kept, longer}
-use Rattle.lalr.specs.Discovery.{Fits, after-extends}
+use Rattle.lalr.specs.Discovery.{Fits, after-extends, leave-extends}
 use Rattle.lalr.specs.DiscoverySteps.{leave-none, leave-more, leave-full}
 use Rattle.moves.specs.Moves.{Cells}
 use Rattle.kernel_moves.specs.Moved.{Numbered, picked}
@@ -114,6 +114,12 @@ module _ (l : List ℕ) {sets₀ starts₀ kinds₀ values₀ gotos₀ : List �
         next = λ _ _ X lo hi c. L .next X lo (omega (arith, hi, h)) c;
         other = λ p X u b f c. L .other p X u b (λ e a _. f e a) c;
       }
+
+-- no state is lost
+pub leaves-grow : {l sets₀ starts₀ kinds₀ values₀ gotos₀ sets starts kinds values gotos : List ℕ} {q states₀ lines₀ states lines : ℕ}
+    → Leaves l sets₀ starts₀ kinds₀ values₀ gotos₀ q states₀ lines₀ sets starts kinds values gotos states lines → states₀ ≤ states
+leaves-grow {l} {sets₀} {starts₀} {sets = sets} {starts} {states₀ = states₀} {states = states} L =
+    omega (arith, longer (leave-extends (movesBy l) (range 1 127) [] (setsIn sets₀ starts₀ states₀)), ap length (L .sets-are), sets-length sets₀ starts₀ states₀, sets-length sets starts states)
 
 -- slices as long as they were
 pub record Lengths (sets₀ starts₀ kinds₀ values₀ gotos₀ sets starts kinds values gotos : List ℕ) : Type 0 where

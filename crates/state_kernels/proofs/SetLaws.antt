@@ -7,7 +7,7 @@ use mathlib.Core.Path.{_≡_, refl, sym, ap, ap₂, subst, _∙_}
 use mathlib.Core.Logic.{_⊎_, inl, inr}
 use mathlib.Core.List.{List, [], _∷_, _++_, append-nil}
 use lib.ListN.{length, getD, set, take, drop, length-append, List·getD-append}
-use lib.Seq.{getD-at, getD-set-same, getD-set-other, take-add}
+use lib.Seq.{take-all, take-append-le, getD-at, getD-set-same, getD-set-other, take-add}
 use Rattle.language.specs.Sentence.{In}
 use Rattle.lalr.specs.States.{Kernel, find, total}
 use Rattle.lalr.specs.LineLaws.{in-either}
@@ -41,33 +41,51 @@ module _ (sets starts : List ℕ) where
   unfolding setsIn
   sets-more n = ap (setsIn sets starts) (add-one n)
 
+  pub sets-take : (n p : ℕ) → p ≤ n → take p (setsIn sets starts n) ≡ setsIn sets starts p
+  unfolding setsIn
+  sets-take zero p l = let z : p ≡ 0 = omega arith in ap (λ (k : ℕ). take k []) z ∙ sym (ap (setsIn sets starts) z)
+  sets-take (suc n) p l = go (decLt n p) (λ h. sets-take n p h)
+    where
+      all : List Kernel
+      all = setsIn sets starts n ++ part sets (getD starts n 0) (getD starts (n + 1) 0) ∷ []
+
+      go : Dec (n < p) → (p ≤ n → take p (setsIn sets starts n) ≡ setsIn sets starts p) → take p all ≡ setsIn sets starts p
+      go (yes h) rec =
+          let e : suc n ≡ p = omega arith in
+          take-all p all (omega (arith, e, sets-length (suc n))) ∙ ap (setsIn sets starts) e
+      go (no f) rec = take-append-le p (setsIn sets starts n) (part sets (getD starts n 0) (getD starts (n + 1) 0) ∷ []) (omega (arith, f, sets-length n)) ∙ rec (omega (arith, f))
+
   pub sets-none : setsIn sets starts 0 ≡ []
   unfolding setsIn
   sets-none = refl
 
 module _ {sets starts : List ℕ} {states lines : ℕ} (B : Bounds sets starts states lines) where
-  -- no start is past the end
-  pub start-low : (p : ℕ) → p ≤ states → getD starts p 0 ≤ lines
-  start-low p l = go (states - p) p (omega arith)
+  -- starts rise
+  pub start-rise : (p r : ℕ) → p ≤ r → r ≤ states → getD starts p 0 ≤ getD starts r 0
+  start-rise p r l h = go (r - p) p (omega arith)
     where
-      go : (d p : ℕ) → p + d ≡ states → getD starts p 0 ≤ lines
-      go zero p e = let z : p ≡ states = omega arith in omega (arith, ap (λ (k : ℕ). getD starts k 0) z, B .last)
-      go (suc d) p e = omega (arith, B .rise p (omega (arith, e)), go d (p + 1) (omega (arith, e)))
+      go : (d p : ℕ) → p + d ≡ r → getD starts p 0 ≤ getD starts r 0
+      go zero p e = let z : p ≡ r = omega arith in omega (arith, ap (λ (k : ℕ). getD starts k 0) z)
+      go (suc d) p e = omega (arith, B .rise p (omega (arith, e, h)), go d (p + 1) (omega (arith, e)))
+
+  -- and none is past the end
+  pub start-low : (p : ℕ) → p ≤ states → getD starts p 0 ≤ lines
+  start-low p l = omega (arith, start-rise p states l (omega arith), B .last)
+
+  -- each starts where the numbers before it end
+  pub sets-sum : (n : ℕ) → n ≤ states → total (setsIn sets starts n) ≡ getD starts n 0
+  sets-sum zero l = ap total (sets-none sets starts) ∙ sym (B .first)
+  sets-sum (suc n) l =
+      let k = part sets (getD starts n 0) (getD starts (n + 1) 0) in
+      let z : suc n ≡ n + 1 = omega arith in
+      let s = start-low (n + 1) (omega (arith, l)) in
+      let e : total (setsIn sets starts (n + 1)) ≡ total (setsIn sets starts n) + (length k + 0) = ap total (sets-more sets starts n) ∙ total-and (setsIn sets starts n) (k ∷ []) in
+      let w : total (setsIn sets starts (n + 1)) ≡ getD starts (n + 1) 0
+      = omega (arith, e, sets-sum n (omega (arith, l)), part-length sets (getD starts n 0) (getD starts (n + 1) 0) (omega (arith, s, B .room)), B .rise n l) in
+      ap (λ (m : ℕ). total (setsIn sets starts m)) z ∙ w ∙ ap (λ (m : ℕ). getD starts m 0) (sym z)
 
   pub sets-total : total (setsIn sets starts states) ≡ lines
-  sets-total = go states (omega arith) ∙ B .last
-    where
-      go : (n : ℕ) → n ≤ states → total (setsIn sets starts n) ≡ getD starts n 0
-      go zero l = ap total (sets-none sets starts) ∙ sym (B .first)
-      go (suc n) l =
-          let k = part sets (getD starts n 0) (getD starts (n + 1) 0) in
-          let z : suc n ≡ n + 1 = omega arith in
-          let s = start-low (n + 1) (omega (arith, l)) in
-          let e : total (setsIn sets starts (n + 1)) ≡ total (setsIn sets starts n) + (length k + 0) = ap total (sets-more sets starts n) ∙ total-and (setsIn sets starts n) (k ∷ []) in
-          ap (λ (m : ℕ). total (setsIn sets starts m)) z
-          ∙ (let w : total (setsIn sets starts (n + 1)) ≡ getD starts (n + 1) 0
-          = omega (arith, e, go n (omega (arith, l)), part-length sets (getD starts n 0) (getD starts (n + 1) 0) (omega (arith, s, B .room)), B .rise n l) in w)
-          ∙ ap (λ (m : ℕ). getD starts m 0) (sym z)
+  sets-total = sets-sum states (omega arith) ∙ B .last
 
 -- sets that are stored elsewhere change nothing
 pub sets-same : {sets₀ starts₀ : List ℕ} {states lines : ℕ} (sets starts : List ℕ) → Bounds sets₀ starts₀ states lines → lines ≤ length sets → take lines sets ≡ take lines sets₀

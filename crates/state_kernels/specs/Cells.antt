@@ -19,3 +19,9 @@ pub record Cell (kinds values gotos : List ℕ) (q X v : ℕ) : Type 0 where
 pub record Stores (kinds₀ values₀ gotos₀ kinds values gotos : List ℕ) (q x v : ℕ) : Type 0 where
   pub here : Cell kinds₀ values₀ gotos₀ q x 0 → Cell kinds values gotos q x v
   pub other : (p X u : ℕ) → X < 128 → (p ≡ q → X ≡ x → ⊥) → Cell kinds₀ values₀ gotos₀ p X u → Cell kinds values gotos p X u
+
+-- no next state at all
+pub record Blank (kinds values gotos : List ℕ) : Type 0 where
+  pub kinds-blank : (i : ℕ) → getD kinds i 0 ≡ 0
+  pub values-blank : (i : ℕ) → getD values i 0 ≡ 0
+  pub gotos-blank : (i : ℕ) → getD gotos i 0 ≡ 0
