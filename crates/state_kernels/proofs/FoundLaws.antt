@@ -15,14 +15,14 @@ use Rattle.lalr.specs.States as lalr
 use Rattle.lalr.specs.Discovery.{Fits}
 use Rattle.lalr.specs.MoveLaws.{move-nothing}
 use Rattle.lalr.specs.StateLaws.{goto-at}
-use Rattle.memory.specs.Memory.{stateAt, itemAt, dotAt}
+use Rattle.memory.specs.Memory.{itemAt, dotAt}
 use Rattle.kernel_moves.specs.Held.{HoldsGrammar}
 use Rattle.kernel_moves.specs.Moved.{Numbered}
-use Rattle.state_kernels.specs.Sets.{part, setsIn, Bounds, Leads}
-use Rattle.state_kernels.specs.Cells.{shiftKind, Cell}
+use Rattle.state_kernels.specs.Sets.{setsIn, Bounds, Leads}
+use Rattle.state_kernels.specs.Cells.{Cell}
 use Rattle.state_kernels.specs.Exploring.{Explored}
 use Rattle.state_kernels.specs.Lines.{LineOf, LinesOf}
-use Rattle.state_kernels.specs.Discovered.{firstLine, HoldsSets, ifMoves, nextState, HoldsNext, HoldsStates}
+use Rattle.state_kernels.specs.Discovered.{firstLine, HoldsSets, SafeStates, ifMoves, nextState, HoldsNext, HoldsStates}
 use Rattle.state_kernels.proofs.PartLaws.{part-length}
 use Rattle.state_kernels.proofs.SetLaws.{sets-length, sets-at, sets-take, sets-sum, sets-total, start-low}
 use Rattle.state_kernels.proofs.JoinLaws.{fits}
@@ -66,6 +66,37 @@ module _ {sets starts : List ℕ} {states lines : ℕ} (B : Bounds sets starts s
           let u : p < states = omega (arith, l, sets-length sets starts states) in
           sym (ap (λ (k : Kernel). getD k j 0) (sets-at sets starts states p u)
           ∙ getD-take (getD starts (p + 1) 0 - getD starts p 0) (drop (getD starts p 0) sets) j 0 (within p j u h) ∙ getD-drop (getD starts p 0) sets j 0)
+
+  -- every line is one of a set's
+  set-of : (l n : ℕ) → n ≤ states → l < getD starts n 0 → (p : ℕ) × (p < states) × (getD starts p 0 ≤ l) × (l < getD starts (p + 1) 0)
+  set-of l zero u h = absurd (omega (arith, h, B .first))
+  set-of l (suc n) u h = go (decLt l (getD starts n 0)) (λ k. set-of l n (omega (arith, u)) k)
+    where
+      go : Dec (l < getD starts n 0) → (l < getD starts n 0 → (p : ℕ) × (p < states) × (getD starts p 0 ≤ l) × (l < getD starts (p + 1) 0))
+          → (p : ℕ) × (p < states) × (getD starts p 0 ≤ l) × (l < getD starts (p + 1) 0)
+      go (yes k) rec = rec k
+      go (no f) rec = (n, u, omega (arith, f), subst (λ (m : ℕ). l < getD starts m 0) (sym (add-one n)) h)
+
+  pub safe-states : {kernels : List ℕ} {count n : ℕ} → LinesOf sets starts states kernels → 4092 ≤ n → length kernels ≡ n → states ≤ 255 → lines ≤ 1023
+      → Numbered count (take lines sets) → SafeStates kernels starts count states lines
+  safe-states {kernels} {count} L room long few-states few-lines N = record {
+    few-states = few-states;
+    some-lines = record { room = omega (arith, room, long, few-lines); few = few-lines; item-low = item-low; dot-low = dot-low };
+    first = B .first;
+    rise = B .rise;
+    last = B .last;
+  }
+    where
+      line : (l : ℕ) → l < lines → (q : ℕ) × LineOf kernels l q (getD sets l 0)
+      line l h = let s = set-of l states (omega arith) (omega (arith, h, B .last)) in (s .0 + 1, L .line (s .0) l (s .1) (s .2) (s .3))
+
+      item-low : (l : ℕ) → l < lines → itemAt kernels l ≤ count
+      item-low l h =
+          let b = N (getD (take lines sets) l 0) (in-string (take lines sets) l (omega (arith, h, length-take-le lines sets (B .room)))) in
+          omega (arith, line l h .1 .item, b .1, getD-take lines sets l 0 h)
+
+      dot-low : (l : ℕ) → l < lines → dotAt kernels l ≤ 15
+      dot-low l h = omega (arith, line l h .1 .dot)
 
 -- ---- next states
 

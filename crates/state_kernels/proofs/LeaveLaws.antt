@@ -6,8 +6,8 @@ use native.Mathlib.Omega.{arith}
 use mathlib.Core.Path.{_≡_, refl, sym, ap, subst, _∙_}
 use mathlib.Core.Logic.{_⊎_, inl, inr}
 use mathlib.Core.List.{List, [], _∷_}
-use lib.ListN.{length, getD, take}
-use Rattle.lalr.specs.States.{Kernel, range, noteIf, leave}
+use lib.ListN.{length, take}
+use Rattle.lalr.specs.States.{Kernel, range, leave}
 use Rattle.lalr.specs.Distinct.{Extends, kept, longer}
 use Rattle.lalr.specs.Discovery.{Fits, after-extends, leave-extends}
 use Rattle.lalr.specs.DiscoverySteps.{leave-none, leave-more, leave-full}

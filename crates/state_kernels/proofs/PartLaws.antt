@@ -1,10 +1,10 @@
 -- Parts of a list of numbers.
 use Prim.Native.Nat.{ℕ, zero, suc, _+_, _-_, _≤_, _<_}
 use native.Mathlib.Omega.{arith}
-use mathlib.Core.Path.{_≡_, refl, sym, ap, subst, _∙_}
+use mathlib.Core.Path.{_≡_, sym, ap, subst, _∙_}
 use mathlib.Core.List.{List, [], _∷_, _++_}
 use lib.ListN.{length, getD, take, drop, length-take, length-drop}
-use lib.Seq.{take-nil, drop-nil, take-take, take-at, drop-at, take-length, length-take-le, ext-getD, getD-take, getD-drop}
+use lib.Seq.{take-take, take-at, drop-at, take-length, length-take-le, ext-getD, getD-take, getD-drop}
 use Rattle.language.specs.Sentence.{In, here, there}
 use Rattle.kernel_moves.specs.Moved.{Numbered}
 use Rattle.language.specs.Member.{in-drop}

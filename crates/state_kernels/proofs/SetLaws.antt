@@ -3,20 +3,14 @@ use Prim.Native.Nat.{ℕ, zero, suc, _+_, _-_, _≤_, _<_}
 use native.Mathlib.Decide.{decLt}
 use native.Mathlib.Numerals.{add-one}
 use native.Mathlib.Omega.{arith}
-use mathlib.Core.Path.{_≡_, refl, sym, ap, ap₂, subst, _∙_}
-use mathlib.Core.Logic.{_⊎_, inl, inr}
-use mathlib.Core.List.{List, [], _∷_, _++_, append-nil}
-use lib.ListN.{length, getD, set, take, drop, length-append, List·getD-append}
-use lib.Seq.{take-all, take-append-le, getD-at, getD-set-same, getD-set-other, take-add}
-use Rattle.language.specs.Sentence.{In}
+use mathlib.Core.Path.{_≡_, refl, sym, ap, ap₂, _∙_}
+use mathlib.Core.List.{List, [], _∷_, _++_}
+use lib.ListN.{length, getD, take, length-append, List·getD-append}
+use lib.Seq.{take-all, take-append-le, getD-at}
 use Rattle.lalr.specs.States.{Kernel, find, total}
-use Rattle.lalr.specs.LineLaws.{in-either}
-use Rattle.lalr.specs.Distinct.{in-at}
 use Rattle.lalr.specs.Discovery.{total-and, find-is}
-use Rattle.lalr.specs.DiscoverySteps.{note-none, note-known, note-new}
-use Rattle.kernel_moves.specs.Moved.{Numbered}
-use Rattle.state_kernels.specs.Sets.{part, setsIn, Bounds, FindsSet, Leads, Joins}
-use Rattle.state_kernels.proofs.PartLaws.{part-length, part-same, stored-front, stored-back}
+use Rattle.state_kernels.specs.Sets.{part, setsIn, Bounds, FindsSet}
+use Rattle.state_kernels.proofs.PartLaws.{part-length, part-same}
 
 module _ (sets starts : List ℕ) where
   pub sets-length : (n : ℕ) → length (setsIn sets starts n) ≡ n

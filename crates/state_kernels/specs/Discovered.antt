@@ -8,6 +8,7 @@ use Rattle.lalr.specs.States.{Kernel, itemOf, dotOf, total, move, kernelOf, got
 use Rattle.lalr.specs.States as lalr
 use Rattle.lalr.specs.Discovery.{Fits}
 use Rattle.memory.specs.Memory.{stateAt, itemAt, dotAt}
+use Rattle.kernel_lines.specs.Lines.{Lines}
 use Rattle.state_kernels.specs.Cells.{shiftKind}
 use Rattle.state_kernels.specs.declared.Discovery.{Discovery}
 
@@ -42,6 +43,18 @@ pub record HoldsStates (g : Grammar) (kernels starts kinds values gotos : List �
   pub line-count : total (lalr.states g) ≡ lines
   pub holds-sets : HoldsSets kernels starts (lalr.states g)
   pub holds-next : HoldsNext g kinds values gotos
+
+-- lines that are safe to read, whatever they mean, and starts that rise up to their number
+pub record SafeStates (kernels starts : List ℕ) (items states lines : ℕ) : Type 0 where
+  pub few-states : states ≤ 255
+  pub some-lines : Lines kernels lines items
+  pub first : getD starts 0 0 ≡ 0
+  pub rise : (p : ℕ) → p < states → getD starts p 0 ≤ getD starts (p + 1) 0
+  pub last : getD starts states 0 ≡ lines
+
+abbrev pub Safe : List ℕ → List ℕ → ℕ → Discovery → Type 0
+Safe kernels starts items (Discovery.States states lines) = SafeStates kernels starts items states lines
+Safe kernels starts items Discovery.TooMany = Unit {0}
 
 -- "The builder gives 2 for entries, states and kernel lines"
 abbrev pub Discovers : Grammar → List ℕ → List ℕ → List ℕ → List ℕ → List ℕ → Discovery → Type 0

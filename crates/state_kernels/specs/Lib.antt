@@ -4,3 +4,4 @@ pub mod Leaving
 pub mod Exploring
 pub mod Lines
 pub mod Discovered
+pub mod ItemLines

@@ -13,7 +13,7 @@ ghost use Rattle.state_kernels.specs.Cells.{Stores, Blank};
 ghost use Rattle.state_kernels.specs.Leaving.{Leaves};
 ghost use Rattle.state_kernels.specs.Exploring.{Seeded, Explored};
 ghost use Rattle.state_kernels.specs.Lines.{WritesLine, WritesSet, LinesOf};
-ghost use Rattle.state_kernels.specs.Discovered.{Discovers};
+ghost use Rattle.state_kernels.specs.Discovered.{Safe, Discovers};
 
 // A state that is led to, 0 for none, and how many states and kernel lines there are.
 pub struct Visit {
@@ -312,6 +312,7 @@ pub fn find_states(
     requires { ⌜ (rules ≤ 127) × (strings ≤ 127) × (4092 ≤ length (now kernels)) × (257 ≤ length (now starts)) ⌝ }
     requires { ⌜ Cells (now kinds) (now values) (now gotos) ⌝ }
     requires { ⌜ Blank (now kinds) (now values) (now gotos) ⌝ }
+    ensures { λ r. ⌜ Safe (now (kernels .exit)) (now (starts .exit)) (rules + strings) r ⌝ }
     ensures { λ r. ⌜ ((g : Grammar) → HoldsGrammar (now (items .entry)) rules strings g → Discovers g (now (kernels .exit)) (now (starts .exit)) (now (kinds .exit)) (now (values .exit)) (now (gotos .exit)) r) ⌝ }
 {
     let mut sets = [0usize; 5120];

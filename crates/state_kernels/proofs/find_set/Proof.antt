@@ -1,17 +1,14 @@
-use mathlib.Core.Path.{_≡_, refl, sym, ap, subst, _∙_}
-use mathlib.Core.Logic.{⊎-elim}
-use Prim.Native.Nat.{ℕ, zero, suc, _+_, _*_, _≤_, _<_, _-_}
+-- None of the sets passed is the same.
+use mathlib.Core.Path.{_≡_}
+use Prim.Native.Nat.{ℕ, _+_, _≤_, _<_, _-_}
 use native.Mathlib.Omega.{arith}
-use borrow.Author.Count.{below-more, below-none}
-use lib.ListN.{length, getD, set, length-set, replicate}
+use borrow.Author.Count.{below-more}
+use lib.ListN.{length, getD}
 use borrow.Author.Needs.{needs}
 use Rattle.state_kernels.specs.Sets.{part}
 use Rattle.state_kernels.proofs.SetLaws.{start-low, set-found, set-missing}
 use Rattle.state_kernels.proofs.find_set.Statement.{statement}
 use Rattle.state_kernels.proofs.find_set.Tie as tie
-use Rattle.state_kernels.proofs.find_set.Reads as reads
-use Rattle.state_kernels.proofs.find_set.Lts as lts
-use Rattle.state_kernels.proofs.same_set.Reads as same-set-reads
 
 abbrev Inv-loop : tie.InvT-loop
 Inv-loop sets starts states lines len end p₀ p = (p ≤ states) × ((k : ℕ) → k < p → part sets (getD starts k 0) (getD starts (k + 1) 0) ≡ part sets lines end → ⊥)

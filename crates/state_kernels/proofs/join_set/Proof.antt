@@ -1,16 +1,10 @@
-use mathlib.Core.Path.{_≡_, refl, sym, ap, subst, _∙_}
-use mathlib.Core.Logic.{⊎-elim}
-use Prim.Native.Nat.{ℕ, zero, suc, _+_, _*_, _≤_, _<_, _-_}
+-- The set that was found, or one more.
+use mathlib.Core.Path.{refl}
 use native.Mathlib.Omega.{arith}
-use borrow.Author.Count.{below-more, below-none}
-use lib.ListN.{length, getD, set, length-set, replicate}
 use borrow.Author.Needs.{needs}
 use Rattle.state_kernels.proofs.JoinLaws.{joins-known, joins-new}
 use Rattle.state_kernels.proofs.join_set.Statement.{statement}
 use Rattle.state_kernels.proofs.join_set.Tie as tie
-use Rattle.state_kernels.proofs.join_set.Reads as reads
-use Rattle.state_kernels.proofs.join_set.Lts as lts
-use Rattle.state_kernels.proofs.find_set.Reads as find-set-reads
 
 find-set-requires : tie.Need-find-set-requires
 find-set-requires c κs = search needs
@@ -22,7 +16,7 @@ same-length : tie.Need-same-length
 same-length c = search needs
 
 returns : tie.Need-returns
-returns c = let p = c .before .before .before .before .before .pre in joins-known _ _ _ _ _ (p .0) (p .1 .0) (p .1 .1) (c .before .find-set .ensures .1) (c .if1 .taken)
+returns c = let p = c .before .before .before .before .before .pre in joins-known _ _ _ _ _ (p .0) (p .1 .0) (p .1 .1) (c .before .find-set .ensures .1) (omega (arith, c .if1 .taken))
 
 add-starts : tie.Need-add-starts
 add-starts c = search needs
@@ -49,7 +43,7 @@ same-length-2 : tie.Need-same-length-2
 same-length-2 c = search needs
 
 returns-2 : tie.Need-returns-2
-returns-2 c = let p = c .before .before .before .before .before .pre in joins-new _ _ _ _ _ (p .0) (p .1 .0) (p .1 .1) _ refl (omega (arith, p .1 .2, p .1 .4)) (c .before .find-set .ensures .1) (c .if1 .left) (p .1 .2) (p .1 .3)
+returns-2 c = let p = c .before .before .before .before .before .pre in joins-new _ _ _ _ _ (p .0) (p .1 .0) (p .1 .1) _ refl (omega (arith, p .1 .2, p .1 .4)) (c .before .find-set .ensures .1) (omega (arith, c .if1 .left)) (p .1 .2) (p .1 .3)
 
 pub join-set-spec : {M : Type 1} → statement M
 join-set-spec =

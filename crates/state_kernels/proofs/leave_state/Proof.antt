@@ -1,9 +1,6 @@
-use mathlib.Core.Path.{_≡_, refl, sym, ap, subst, _∙_}
-use mathlib.Core.Logic.{⊎-elim}
-use Prim.Native.Nat.{ℕ, zero, suc, _+_, _*_, _≤_, _<_, _-_}
+-- The symbols passed have been visited.
+use Prim.Native.Nat.{_≤_, _-_}
 use native.Mathlib.Omega.{arith}
-use borrow.Author.Count.{below-more, below-none}
-use lib.ListN.{length, getD, set, length-set, replicate}
 use borrow.Author.Needs.{needs}
 use mathlib.Core.Logic.{inl, inr}
 use lib.ListN.{take}
@@ -11,10 +8,6 @@ use Rattle.state_kernels.specs.Leaving.{Leaving}
 use Rattle.state_kernels.proofs.LeaveLaws.{Lengths, lengths-same, cells-kept, joined-low, leaving-start, leaves-full, leaving-more, leaves-end}
 use Rattle.state_kernels.proofs.leave_state.Statement.{statement}
 use Rattle.state_kernels.proofs.leave_state.Tie as tie
-use Rattle.state_kernels.proofs.leave_state.Reads as reads
-use Rattle.state_kernels.proofs.leave_state.Lts as lts
-use Rattle.state_kernels.proofs.store_next.Reads as store-next-reads
-use Rattle.state_kernels.proofs.visit_symbol.Reads as visit-symbol-reads
 
 abbrev Inv-loop : tie.InvT-loop
 Inv-loop q moved n sets₀ starts₀ states lines kinds₀ values₀ gotos₀ found₀ end₀ x₀ sets starts kinds values gotos found end x = (1 ≤ x) × (x ≤ 128) × Lengths sets₀ starts₀ kinds₀ values₀ gotos₀ sets starts kinds values gotos × Leaving (take n moved) sets₀ starts₀ kinds₀ values₀ gotos₀ q states lines sets starts kinds values gotos found end x

@@ -1,17 +1,15 @@
-use mathlib.Core.Path.{_≡_, refl, sym, ap, subst, _∙_}
-use mathlib.Core.Logic.{⊎-elim}
-use Prim.Native.Nat.{ℕ, zero, suc, _+_, _*_, _≤_, _<_, _-_}
+-- The numbers passed agree.
+use mathlib.Core.Path.{_≡_, ap}
+use Prim.Native.Nat.{ℕ, _≤_, _<_, _-_}
 use native.Mathlib.Omega.{arith}
-use borrow.Author.Count.{below-more, below-none}
-use lib.ListN.{length, getD, set, length-set, replicate}
+use borrow.Author.Count.{below-more}
+use lib.ListN.{length, getD}
 use borrow.Author.Needs.{needs}
 use mathlib.Core.List.{List}
 use lib.Seq.{ext-getD}
 use Rattle.fixpoint.proofs.PassLaws.{is-yes, is-no}
 use Rattle.state_kernels.proofs.same_set.Statement.{statement}
 use Rattle.state_kernels.proofs.same_set.Tie as tie
-use Rattle.state_kernels.proofs.same_set.Reads as reads
-use Rattle.state_kernels.proofs.same_set.Lts as lts
 
 abbrev Inv-loop : tie.InvT-loop
 Inv-loop a b i₀ i = (i ≤ length a) × ((k : ℕ) → k < i → getD a k 0 ≡ getD b k 0)

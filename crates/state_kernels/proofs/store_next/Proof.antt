@@ -1,15 +1,9 @@
-use mathlib.Core.Path.{_≡_, refl, sym, ap, subst, _∙_}
-use mathlib.Core.Logic.{⊎-elim}
-use Prim.Native.Nat.{ℕ, zero, suc, _+_, _*_, _≤_, _<_, _-_}
+-- One cell is stored, or one next state of a nonterminal, or nothing.
 use native.Mathlib.Omega.{arith}
-use borrow.Author.Count.{below-more, below-none}
-use lib.ListN.{length, getD, set, length-set, replicate}
 use borrow.Author.Needs.{needs}
 use Rattle.state_kernels.proofs.CellLaws.{stores-none, stores-goto, stores-shift}
 use Rattle.state_kernels.proofs.store_next.Statement.{statement}
 use Rattle.state_kernels.proofs.store_next.Tie as tie
-use Rattle.state_kernels.proofs.store_next.Reads as reads
-use Rattle.state_kernels.proofs.store_next.Lts as lts
 
 returns : tie.Need-returns
 returns c = stores-none _ _ _ _ _ _ (c .if1 .taken)

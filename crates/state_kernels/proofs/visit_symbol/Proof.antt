@@ -1,17 +1,9 @@
-use mathlib.Core.Path.{_≡_, refl, sym, ap, subst, _∙_}
-use mathlib.Core.Logic.{⊎-elim}
-use Prim.Native.Nat.{ℕ, zero, suc, _+_, _*_, _≤_, _<_, _-_}
+-- What moves is stored behind the sets, and joins them.
 use native.Mathlib.Omega.{arith}
-use borrow.Author.Count.{below-more, below-none}
-use lib.ListN.{length, getD, set, length-set, replicate}
 use borrow.Author.Needs.{needs}
 use Rattle.state_kernels.proofs.JoinLaws.{stored-bounds, joins-none, joins-stored}
 use Rattle.state_kernels.proofs.visit_symbol.Statement.{statement}
 use Rattle.state_kernels.proofs.visit_symbol.Tie as tie
-use Rattle.state_kernels.proofs.visit_symbol.Reads as reads
-use Rattle.state_kernels.proofs.visit_symbol.Lts as lts
-use Rattle.kernel_moves.proofs.pick_moves.Reads as pick-moves-reads
-use Rattle.state_kernels.proofs.join_set.Reads as join-set-reads
 
 pick-moves-requires : tie.Need-pick-moves-requires
 pick-moves-requires c κs = search needs
