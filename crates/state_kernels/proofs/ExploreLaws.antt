@@ -18,12 +18,12 @@ use Rattle.lalr.specs.MoveLaws.{move-outside}
 use Rattle.lalr.specs.StateLaws.{states-are}
 use Rattle.kernel_moves.specs.Held.{HoldsGrammar}
 use Rattle.kernel_moves.specs.Moved.{picked, ListsMoves}
-use Rattle.state_kernels.specs.Sets.{part, setsIn, Leads, movesBy}
-use Rattle.state_kernels.specs.Cells.{Cell, Blank}
-use Rattle.state_kernels.specs.Leaving.{Leaves}
+use Rattle.kernel_sets.specs.Sets.{part, setsIn, Leads, movesBy}
+use Rattle.kernel_sets.specs.Cells.{Cell, Blank}
+use Rattle.kernel_sets.specs.Leaving.{Leaves}
 use Rattle.state_kernels.specs.Exploring.{Seeded, Exploring, Explored}
-use Rattle.state_kernels.proofs.SetLaws.{sets-length, sets-at}
-use Rattle.state_kernels.proofs.LeaveLaws.{leads-kept, not-fits}
+use Rattle.kernel_sets.proofs.SetLaws.{sets-length, sets-at}
+use Rattle.kernel_sets.proofs.LeaveLaws.{leads-kept, not-fits}
 
 blank-cell : {kinds values gotos : List ℕ} → Blank kinds values gotos → (p X : ℕ) → Cell kinds values gotos p X 0
 blank-cell b p X = record { kind = λ _. b .kinds-blank _; value = λ _. b .values-blank _; next = λ _. b .gotos-blank _ }

@@ -18,15 +18,15 @@ use Rattle.lalr.specs.StateLaws.{goto-at}
 use Rattle.memory.specs.Memory.{itemAt, dotAt}
 use Rattle.kernel_moves.specs.Held.{HoldsGrammar}
 use Rattle.kernel_moves.specs.Moved.{Numbered}
-use Rattle.state_kernels.specs.Sets.{setsIn, Bounds, Leads}
-use Rattle.state_kernels.specs.Cells.{Cell}
+use Rattle.kernel_sets.specs.Sets.{setsIn, Bounds, Leads}
+use Rattle.kernel_sets.specs.Cells.{Cell}
 use Rattle.state_kernels.specs.Exploring.{Explored}
 use Rattle.state_kernels.specs.Lines.{LineOf, LinesOf}
 use Rattle.state_kernels.specs.Discovered.{firstLine, HoldsSets, SafeStates, ifMoves, nextState, HoldsNext, HoldsStates}
-use Rattle.state_kernels.proofs.PartLaws.{part-length}
-use Rattle.state_kernels.proofs.SetLaws.{sets-length, sets-at, sets-take, sets-sum, sets-total, start-low}
-use Rattle.state_kernels.proofs.JoinLaws.{fits}
-use Rattle.state_kernels.proofs.LeaveLaws.{not-fits}
+use Rattle.kernel_sets.proofs.PartLaws.{part-length}
+use Rattle.kernel_sets.proofs.SetLaws.{sets-length, sets-at, sets-take, sets-sum, sets-total, start-low}
+use Rattle.kernel_sets.proofs.JoinLaws.{fits}
+use Rattle.kernel_sets.proofs.LeaveLaws.{not-fits}
 
 -- the numbers fit the lines
 pub number-low : (sets : List ℕ) (lines count : ℕ) → lines ≤ length sets → count ≤ 254 → Numbered count (take lines sets) → (l : ℕ) → l < lines → getD sets l 0 < 4096

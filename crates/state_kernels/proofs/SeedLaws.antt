@@ -10,9 +10,9 @@ use Rattle.language.specs.Grammar.{Grammar}
 use Rattle.language.specs.GrammarLaws.{in-index}
 use Rattle.lalr.specs.Strings.{entryStrings}
 use Rattle.lalr.specs.StateLaws.{kernels-length, kernel-at, firstKernels}
-use Rattle.state_kernels.specs.Sets.{part, setsIn}
+use Rattle.kernel_sets.specs.Sets.{part, setsIn}
 use Rattle.state_kernels.specs.Exploring.{Seeded}
-use Rattle.state_kernels.proofs.SetLaws.{sets-length, sets-at}
+use Rattle.kernel_sets.proofs.SetLaws.{sets-length, sets-at}
 
 -- the first j
 pub record Seeding (rules : ℕ) (sets starts : List ℕ) (j : ℕ) : Type 0 where

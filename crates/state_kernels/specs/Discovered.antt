@@ -9,7 +9,7 @@ use Rattle.lalr.specs.States as lalr
 use Rattle.lalr.specs.Discovery.{Fits}
 use Rattle.memory.specs.Memory.{stateAt, itemAt, dotAt}
 use Rattle.kernel_lines.specs.Lines.{Lines}
-use Rattle.state_kernels.specs.Cells.{shiftKind}
+use Rattle.kernel_sets.specs.Cells.{shiftKind}
 use Rattle.state_kernels.specs.declared.Discovery.{Discovery}
 
 -- the first line of the state after the first p

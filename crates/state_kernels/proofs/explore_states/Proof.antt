@@ -6,9 +6,9 @@ use lib.ListN.{length, getD, length-replicate}
 use borrow.Author.Needs.{needs}
 use mathlib.Core.Logic.{inl, inr}
 use Rattle.state_kernels.specs.Exploring.{Exploring}
-use Rattle.state_kernels.proofs.PartLaws.{part-numbered}
-use Rattle.state_kernels.proofs.SetLaws.{start-low}
-use Rattle.state_kernels.proofs.LeaveLaws.{leaves-grow, Lengths, lengths-same, cells-kept}
+use Rattle.kernel_sets.proofs.PartLaws.{part-numbered}
+use Rattle.kernel_sets.proofs.SetLaws.{start-low}
+use Rattle.kernel_sets.proofs.LeaveLaws.{leaves-grow, Lengths, lengths-same, cells-kept}
 use Rattle.state_kernels.proofs.ExploreLaws.{exploring-start, exploring-more, explored-full, explored-end}
 use Rattle.state_kernels.proofs.explore_states.Statement.{statement}
 use Rattle.state_kernels.proofs.explore_states.Tie as tie

@@ -5,7 +5,7 @@ use native.Mathlib.Omega.{arith}
 use lib.ListN.{length}
 use borrow.Author.Needs.{needs}
 use Rattle.state_kernels.specs.Lines.{LinesOf}
-use Rattle.state_kernels.proofs.SetLaws.{start-low}
+use Rattle.kernel_sets.proofs.SetLaws.{start-low}
 use Rattle.state_kernels.proofs.LineLaws.{lines-none, lines-more, lines-all}
 use Rattle.state_kernels.proofs.write_lines.Statement.{statement}
 use Rattle.state_kernels.proofs.write_lines.Tie as tie

@@ -1,9 +1,9 @@
 -- What moves is stored behind the sets, and joins them.
 use native.Mathlib.Omega.{arith}
 use borrow.Author.Needs.{needs}
-use Rattle.state_kernels.proofs.JoinLaws.{stored-bounds, joins-none, joins-stored}
-use Rattle.state_kernels.proofs.visit_symbol.Statement.{statement}
-use Rattle.state_kernels.proofs.visit_symbol.Tie as tie
+use Rattle.kernel_sets.proofs.JoinLaws.{stored-bounds, joins-none, joins-stored}
+use Rattle.kernel_sets.proofs.visit_symbol.Statement.{statement}
+use Rattle.kernel_sets.proofs.visit_symbol.Tie as tie
 
 pick-moves-requires : tie.Need-pick-moves-requires
 pick-moves-requires c κs = search needs

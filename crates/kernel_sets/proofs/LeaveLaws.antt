@@ -13,10 +13,10 @@ use Rattle.lalr.specs.Discovery.{Fits, after-extends, leave-extends}
 use Rattle.lalr.specs.DiscoverySteps.{leave-none, leave-more, leave-full}
 use Rattle.moves.specs.Moves.{Cells}
 use Rattle.kernel_moves.specs.Moved.{Numbered, picked}
-use Rattle.state_kernels.specs.Sets.{setsIn, Bounds, Leads, Joins, movesBy, leaveBy}
-use Rattle.state_kernels.specs.Cells.{Cell, Stores}
-use Rattle.state_kernels.specs.Leaving.{Leaves, Leaving}
-use Rattle.state_kernels.proofs.SetLaws.{sets-length, sets-total}
+use Rattle.kernel_sets.specs.Sets.{setsIn, Bounds, Leads, Joins, movesBy, leaveBy}
+use Rattle.kernel_sets.specs.Cells.{Cell, Stores}
+use Rattle.kernel_sets.specs.Leaving.{Leaves, Leaving}
+use Rattle.kernel_sets.proofs.SetLaws.{sets-length, sets-total}
 
 pub leads-kept : {a b : List Kernel} (m : Kernel) (v : ℕ) → Extends a b → Leads a m v → Leads b m v
 leads-kept m zero x e = e

@@ -5,7 +5,7 @@ use mathlib.Core.Path.{_≡_, refl, sym, subst, _∙_}
 use mathlib.Core.List.{List}
 use lib.ListN.{length, set}
 use lib.Seq.{getD-set-same, getD-set-other}
-use Rattle.state_kernels.specs.Cells.{shiftKind, Cell, Stores}
+use Rattle.kernel_sets.specs.Cells.{shiftKind, Cell, Stores}
 
 module _ (kinds values gotos : List ℕ) (q x v : ℕ) where
   pub stores-none : v ≡ 0 → Stores kinds values gotos kinds values gotos q x v

@@ -8,8 +8,8 @@ use borrow.Author.Needs.{needs}
 use mathlib.Core.List.{List}
 use lib.Seq.{ext-getD}
 use Rattle.fixpoint.proofs.PassLaws.{is-yes, is-no}
-use Rattle.state_kernels.proofs.same_set.Statement.{statement}
-use Rattle.state_kernels.proofs.same_set.Tie as tie
+use Rattle.kernel_sets.proofs.same_set.Statement.{statement}
+use Rattle.kernel_sets.proofs.same_set.Tie as tie
 
 abbrev Inv-loop : tie.InvT-loop
 Inv-loop a b i₀ i = (i ≤ length a) × ((k : ℕ) → k < i → getD a k 0 ≡ getD b k 0)

@@ -5,10 +5,10 @@ use native.Mathlib.Omega.{arith}
 use borrow.Author.Count.{below-more}
 use lib.ListN.{length, getD}
 use borrow.Author.Needs.{needs}
-use Rattle.state_kernels.specs.Sets.{part}
-use Rattle.state_kernels.proofs.SetLaws.{start-low, set-found, set-missing}
-use Rattle.state_kernels.proofs.find_set.Statement.{statement}
-use Rattle.state_kernels.proofs.find_set.Tie as tie
+use Rattle.kernel_sets.specs.Sets.{part}
+use Rattle.kernel_sets.proofs.SetLaws.{start-low, set-found, set-missing}
+use Rattle.kernel_sets.proofs.find_set.Statement.{statement}
+use Rattle.kernel_sets.proofs.find_set.Tie as tie
 
 abbrev Inv-loop : tie.InvT-loop
 Inv-loop sets starts states lines len end p₀ p = (p ≤ states) × ((k : ℕ) → k < p → part sets (getD starts k 0) (getD starts (k + 1) 0) ≡ part sets lines end → ⊥)

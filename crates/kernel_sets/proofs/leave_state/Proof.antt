@@ -4,10 +4,10 @@ use native.Mathlib.Omega.{arith}
 use borrow.Author.Needs.{needs}
 use mathlib.Core.Logic.{inl, inr}
 use lib.ListN.{take}
-use Rattle.state_kernels.specs.Leaving.{Leaving}
-use Rattle.state_kernels.proofs.LeaveLaws.{Lengths, lengths-same, cells-kept, joined-low, leaving-start, leaves-full, leaving-more, leaves-end}
-use Rattle.state_kernels.proofs.leave_state.Statement.{statement}
-use Rattle.state_kernels.proofs.leave_state.Tie as tie
+use Rattle.kernel_sets.specs.Leaving.{Leaving}
+use Rattle.kernel_sets.proofs.LeaveLaws.{Lengths, lengths-same, cells-kept, joined-low, leaving-start, leaves-full, leaving-more, leaves-end}
+use Rattle.kernel_sets.proofs.leave_state.Statement.{statement}
+use Rattle.kernel_sets.proofs.leave_state.Tie as tie
 
 abbrev Inv-loop : tie.InvT-loop
 Inv-loop q moved n sets₀ starts₀ states lines kinds₀ values₀ gotos₀ found₀ end₀ x₀ sets starts kinds values gotos found end x = (1 ≤ x) × (x ≤ 128) × Lengths sets₀ starts₀ kinds₀ values₀ gotos₀ sets starts kinds values gotos × Leaving (take n moved) sets₀ starts₀ kinds₀ values₀ gotos₀ q states lines sets starts kinds values gotos found end x

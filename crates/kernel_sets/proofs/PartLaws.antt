@@ -8,7 +8,7 @@ use lib.Seq.{take-take, take-at, drop-at, take-length, length-take-le, ext-getD,
 use Rattle.language.specs.Sentence.{In, here, there}
 use Rattle.kernel_moves.specs.Moved.{Numbered}
 use Rattle.language.specs.Member.{in-drop}
-use Rattle.state_kernels.specs.Sets.{part}
+use Rattle.kernel_sets.specs.Sets.{part}
 
 pub part-length : (sets : List ℕ) (a b : ℕ) → b ≤ length sets → length (part sets a b) ≡ b - a
 part-length sets a b l = omega (arith, length-take (b - a) (drop a sets), length-drop a sets)

@@ -9,8 +9,8 @@ use lib.ListN.{length, getD, take, length-append, List·getD-append}
 use lib.Seq.{take-all, take-append-le, getD-at}
 use Rattle.lalr.specs.States.{Kernel, find, total}
 use Rattle.lalr.specs.Discovery.{total-and, find-is}
-use Rattle.state_kernels.specs.Sets.{part, setsIn, Bounds, FindsSet}
-use Rattle.state_kernels.proofs.PartLaws.{part-length, part-same}
+use Rattle.kernel_sets.specs.Sets.{part, setsIn, Bounds, FindsSet}
+use Rattle.kernel_sets.proofs.PartLaws.{part-length, part-same}
 
 module _ (sets starts : List ℕ) where
   pub sets-length : (n : ℕ) → length (setsIn sets starts n) ≡ n

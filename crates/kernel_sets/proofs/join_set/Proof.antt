@@ -2,9 +2,9 @@
 use mathlib.Core.Path.{refl}
 use native.Mathlib.Omega.{arith}
 use borrow.Author.Needs.{needs}
-use Rattle.state_kernels.proofs.JoinLaws.{joins-known, joins-new}
-use Rattle.state_kernels.proofs.join_set.Statement.{statement}
-use Rattle.state_kernels.proofs.join_set.Tie as tie
+use Rattle.kernel_sets.proofs.JoinLaws.{joins-known, joins-new}
+use Rattle.kernel_sets.proofs.join_set.Statement.{statement}
+use Rattle.kernel_sets.proofs.join_set.Tie as tie
 
 find-set-requires : tie.Need-find-set-requires
 find-set-requires c κs = search needs

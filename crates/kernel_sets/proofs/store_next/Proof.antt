@@ -1,9 +1,9 @@
 -- One cell is stored, or one next state of a nonterminal, or nothing.
 use native.Mathlib.Omega.{arith}
 use borrow.Author.Needs.{needs}
-use Rattle.state_kernels.proofs.CellLaws.{stores-none, stores-goto, stores-shift}
-use Rattle.state_kernels.proofs.store_next.Statement.{statement}
-use Rattle.state_kernels.proofs.store_next.Tie as tie
+use Rattle.kernel_sets.proofs.CellLaws.{stores-none, stores-goto, stores-shift}
+use Rattle.kernel_sets.proofs.store_next.Statement.{statement}
+use Rattle.kernel_sets.proofs.store_next.Tie as tie
 
 returns : tie.Need-returns
 returns c = stores-none _ _ _ _ _ _ (c .if1 .taken)

@@ -5,8 +5,8 @@ use mathlib.Core.List.{List, []}
 use lib.ListN.{take}
 use Rattle.lalr.specs.States.{range, leave}
 use Rattle.kernel_moves.specs.Moved.{Numbered, picked}
-use Rattle.state_kernels.specs.Sets.{setsIn, Bounds, Leads, movesBy, leaveBy}
-use Rattle.state_kernels.specs.Cells.{Cell}
+use Rattle.kernel_sets.specs.Sets.{setsIn, Bounds, Leads, movesBy, leaveBy}
+use Rattle.kernel_sets.specs.Cells.{Cell}
 
 -- l lists what moves from state q
 module _ (l sets₀ starts₀ kinds₀ values₀ gotos₀ : List ℕ) (q states₀ lines₀ : ℕ) where

@@ -14,9 +14,9 @@ use Rattle.lalr.specs.LineLaws.{in-either}
 use Rattle.lalr.specs.Discovery.{Fits, in-getD}
 use Rattle.lalr.specs.DiscoverySteps.{note-none, note-known, note-new}
 use Rattle.kernel_moves.specs.Moved.{Numbered}
-use Rattle.state_kernels.specs.Sets.{part, setsIn, Bounds, FindsSet, Leads, Joins}
-use Rattle.state_kernels.proofs.PartLaws.{part-length, stored-front, stored-back}
-use Rattle.state_kernels.proofs.SetLaws.{sets-length, sets-more, sets-total, sets-same, bounds-same}
+use Rattle.kernel_sets.specs.Sets.{part, setsIn, Bounds, FindsSet, Leads, Joins}
+use Rattle.kernel_sets.proofs.PartLaws.{part-length, stored-front, stored-back}
+use Rattle.kernel_sets.proofs.SetLaws.{sets-length, sets-more, sets-total, sets-same, bounds-same}
 
 leads-to : (ks : List Kernel) (m : Kernel) (p : ℕ) → p < length ks → getD ks p [] ≡ m → (m ≡ [] → ⊥) → Leads ks m (p + 1)
 leads-to ks m p l e f = subst (Leads ks m) (sym (add-one p)) (l, e, f)
