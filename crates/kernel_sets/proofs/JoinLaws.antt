@@ -42,7 +42,6 @@ module _ (sets starts : List ℕ) (states lines len : ℕ) (B : Bounds sets star
         sets-are = sym (note-known (setsIn sets starts states) new (subst (λ (m : Kernel). In m (setsIn sets starts states)) (F .found h) (in-getD (setsIn sets starts states) p h)));
         leads = leads-to (setsIn sets starts states) new p h (F .found h) new-filled;
         numbered = λ count a b. a;
-        few = omega arith;
       }
 
   pub joins-new : {p : ℕ} (starts′ : List ℕ) → starts′ ≡ set starts (states + 1) (lines + len) → states + 1 < length starts → FindsSet (setsIn sets starts states) new p → states ≤ p
@@ -59,7 +58,6 @@ module _ (sets starts : List ℕ) (states lines len : ℕ) (B : Bounds sets star
     leads = leads-to (setsIn sets starts′ (states + 1)) new states (omega (arith, sets-length sets starts′ (states + 1)))
         (ap (λ (ks : List Kernel). getD ks states []) grown ∙ getD-at (setsIn sets starts states) new [] [] states (sets-length sets starts states)) new-filled;
     numbered = λ count a b x m. numbers count a b x (in-either (take lines sets) (subst (In x) together m));
-    few = omega arith;
   }
     where
       old : (q : ℕ) → q ≤ states → getD starts′ q 0 ≡ getD starts q 0
@@ -109,7 +107,6 @@ module _ (sets₀ sets starts m : List ℕ) (states lines r : ℕ) (B : Bounds s
     sets-are = same ∙ sym (ap (noteIf (setsIn sets₀ starts states)) empty ∙ note-none (setsIn sets₀ starts states));
     leads = empty;
     numbered = λ n a b. subst (Numbered n) (sym front) a;
-    few = omega arith;
   }
     where
       none : (l : List ℕ) → length l ≡ 0 → l ≡ []
@@ -125,5 +122,4 @@ module _ (sets₀ sets starts m : List ℕ) (states lines r : ℕ) (B : Bounds s
     sets-are = j .sets-are ∙ ap (λ (ks : List Kernel). noteIf ks (part sets lines (lines + r))) same;
     leads = j .leads;
     numbered = λ n a b. j .numbered n (subst (Numbered n) (sym front) a) b;
-    few = j .few;
   })

@@ -40,7 +40,6 @@ pub record Joins (sets₀ starts₀ sets starts : List ℕ) (states₀ lines₀ 
   pub sets-are : setsIn sets starts states ≡ noteIf (setsIn sets₀ starts₀ states₀) m
   pub leads : Leads (setsIn sets starts states) m state
   pub numbered : (count : ℕ) → Numbered count (take lines₀ sets₀) → Numbered count m → Numbered count (take lines sets)
-  pub few : states ≤ states₀ + 1
 
 -- the moves of a state, where l lists what moves from it, and what leaving it by them adds
 abbrev pub movesBy : List ℕ → Kernel → ℕ → Kernel

@@ -5,12 +5,12 @@ use native.Mathlib.Numerals.{add-one}
 use native.Mathlib.Omega.{arith}
 use mathlib.Core.Path.{_≡_, refl, sym, ap, subst, _∙_}
 use mathlib.Core.Logic.{_⊎_, inl, inr}
-use mathlib.Core.List.{List, [], _∷_}
+use mathlib.Core.List.{List, []}
 use lib.ListN.{length, getD, take, drop, List·getD-eq-default}
 use lib.Seq.{getD-take, getD-drop, length-take-le}
 use Rattle.language.specs.Grammar.{Grammar}
 use Rattle.language.specs.GrammarLaws.{in-string}
-use Rattle.lalr.specs.States.{Kernel, itemOf, dotOf, total, move, kernelOf, goto}
+use Rattle.lalr.specs.States.{Kernel, itemOf, dotOf, total, move, kernelOf}
 use Rattle.lalr.specs.States as lalr
 use Rattle.lalr.specs.Discovery.{Fits}
 use Rattle.lalr.specs.MoveLaws.{move-nothing}
@@ -22,7 +22,7 @@ use Rattle.kernel_sets.specs.Sets.{setsIn, Bounds, Leads}
 use Rattle.kernel_sets.specs.Cells.{Cell}
 use Rattle.state_kernels.specs.Exploring.{Explored}
 use Rattle.state_kernels.specs.Lines.{LineOf, LinesOf}
-use Rattle.state_kernels.specs.Discovered.{firstLine, HoldsSets, SafeStates, ifMoves, nextState, HoldsNext, HoldsStates}
+use Rattle.state_kernels.specs.Discovered.{firstLine, HoldsSets, SafeStates, nextState, next-none, next-some, HoldsNext, HoldsStates}
 use Rattle.kernel_sets.proofs.PartLaws.{part-length}
 use Rattle.kernel_sets.proofs.SetLaws.{sets-length, sets-at, sets-take, sets-sum, sets-total, start-low}
 use Rattle.kernel_sets.proofs.JoinLaws.{fits}
@@ -101,21 +101,9 @@ module _ {sets starts : List ℕ} {states lines : ℕ} (B : Bounds sets starts s
 -- ---- next states
 
 module _ (g : Grammar) where
-  next-none : (q X : ℕ) → move g (kernelOf g q) X ≡ [] → 0 ≡ nextState g q X
-  unfolding nextState
-  next-none q X e = sym (ap (λ (m : Kernel). ifMoves m (goto g q X)) e)
-
-  next-some : (q X : ℕ) → (move g (kernelOf g q) X ≡ [] → ⊥) → goto g q X ≡ nextState g q X
-  unfolding nextState
-  next-some q X f = go (move g (kernelOf g q) X) f
-    where
-      go : (m : Kernel) → (m ≡ [] → ⊥) → goto g q X ≡ ifMoves m (goto g q X)
-      go [] f = absurd (f refl)
-      go (x ∷ m) f = refl
-
   leads-is : (q X v : ℕ) → Leads (lalr.states g) (move g (kernelOf g q) X) v → v ≡ nextState g q X
-  leads-is q X zero e = next-none q X e
-  leads-is q X (suc s) h = sym (goto-at g q X s (h .0) (h .1)) ∙ next-some q X (h .2)
+  leads-is q X zero e = sym (next-none g q X e)
+  leads-is q X (suc s) h = sym (next-some g q X (h .2) ∙ goto-at g q X s (h .0) (h .1))
 
   cells-hold : {kinds values gotos : List ℕ} → ((q X : ℕ) → X < 128 → Cell kinds values gotos q X (nextState g q X)) → HoldsNext g kinds values gotos
   cells-hold {gotos = gotos} C = record {
@@ -131,7 +119,7 @@ module _ {items : List ℕ} {rules strings : ℕ} {sets starts kinds values goto
 
   module _ (few-states : states ≤ 255) (few-lines : lines ≤ 1023) where
     cells-are : (q X : ℕ) → X < 128 → Cell kinds values gotos q X (nextState g q X)
-    cells-are zero X l = subst (Cell kinds values gotos 0 X) (next-none g 0 X (move-nothing g X)) (E .blank few-states few-lines 0 X l (inl refl))
+    cells-are zero X l = subst (Cell kinds values gotos 0 X) (sym (next-none g 0 X (move-nothing g X))) (E .blank few-states few-lines 0 X l (inl refl))
     cells-are (suc p) X l = go (decLt p states)
       where
         go : Dec (p < states) → Cell kinds values gotos (suc p) X (nextState g (suc p) X)
@@ -142,7 +130,7 @@ module _ {items : List ℕ} {rules strings : ℕ} {sets starts kinds values goto
         go (no f) =
             let long : length (lalr.states g) ≤ p = omega (arith, f, ap length (E .sets-are g H), sets-length sets starts states) in
             let none : getD (lalr.states g) p [] ≡ [] = List·getD-eq-default (lalr.states g) [] long in
-            subst (Cell kinds values gotos (suc p) X) (next-none g (suc p) X (ap (λ (k : Kernel). move g k X) none ∙ move-nothing g X))
+            subst (Cell kinds values gotos (suc p) X) (sym (next-none g (suc p) X (ap (λ (k : Kernel). move g k X) none ∙ move-nothing g X)))
             (E .blank few-states few-lines (suc p) X l (inr (omega (arith, f))))
 
     pub holds-states : {kernels : List ℕ} → LinesOf sets starts states kernels → HoldsStates g kernels starts kinds values gotos states lines

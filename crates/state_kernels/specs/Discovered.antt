@@ -1,6 +1,6 @@
 -- The states of a grammar in memory: their kernel lines, where each state's begin, and the next states.
 use Prim.Native.Nat.{ℕ, suc, _+_, _*_, _≤_, _<_}
-use mathlib.Core.Path.{_≡_}
+use mathlib.Core.Path.{_≡_, refl, ap}
 use mathlib.Core.List.{List, [], _∷_}
 use lib.ListN.{length, getD, take}
 use Rattle.language.specs.Grammar.{Grammar}
@@ -30,6 +30,18 @@ ifMoves (x ∷ m) s = s
 -- the state that q goes to on X, 0 where nothing moves
 unfoldable pub nextState : Grammar → ℕ → ℕ → ℕ
 nextState g q X = ifMoves (move g (kernelOf g q) X) (goto g q X)
+
+pub next-none : (g : Grammar) (q X : ℕ) → move g (kernelOf g q) X ≡ [] → nextState g q X ≡ 0
+unfolding nextState
+next-none g q X e = ap (λ (m : Kernel). ifMoves m (goto g q X)) e
+
+pub next-some : (g : Grammar) (q X : ℕ) → (move g (kernelOf g q) X ≡ [] → ⊥) → nextState g q X ≡ goto g q X
+unfolding nextState
+next-some g q X f = go (move g (kernelOf g q) X) f
+  where
+    go : (m : Kernel) → (m ≡ [] → ⊥) → ifMoves m (goto g q X) ≡ goto g q X
+    go [] f = absurd (f refl)
+    go (x ∷ m) f = refl
 
 -- "Shift, or N, on each possible move": cells of kind 1 at state * 64 + terminal, next states at state * 64 + nonterminal - 64
 pub record HoldsNext (g : Grammar) (kinds values gotos : List ℕ) : Type 0 where
