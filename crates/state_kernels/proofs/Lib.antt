@@ -1,0 +1,4 @@
+pub mod SeedLaws
+pub mod ExploreLaws
+pub mod LineLaws
+pub mod FoundLaws

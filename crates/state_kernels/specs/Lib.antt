@@ -1,0 +1,4 @@
+pub mod Exploring
+pub mod Lines
+pub mod Discovered
+pub mod ItemLines
