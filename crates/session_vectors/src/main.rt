@@ -3,6 +3,7 @@
 // file's name and what the session answers, then what is not 0 in the stack slice, each on a line.
 use session::SessionReply;
 ghost use Prim.Native.Nat.{_+_, _<_, _≤_};
+ghost use lib.ListN.{length};
 
 fn run_with(
     grammar: &[u8],
@@ -38,12 +39,19 @@ fn show(
     program::print_bytes(stack);
 }
 
-// Lends the first bytes of slices that are not zeros.
-fn show_in(grammar: &[u8], tables: &[u8], input: &[u8], scans: usize, n: usize, k: usize)
-    requires { ⌜ (n ≤ 65536) × (k ≤ 65536) ⌝ }
+// Lends the first bytes of both slices.
+fn show_in(
+    grammar: &[u8],
+    tables: &[u8],
+    input: &[u8],
+    scans: usize,
+    stack: &mut [u8],
+    n: usize,
+    listing: &mut [u8],
+    k: usize,
+)
+    requires { ⌜ (n ≤ length (now stack)) × (k ≤ length (now listing)) ⌝ }
 {
-    let mut stack = [7u8; 65536];
-    let mut listing = [7u8; 65536];
     show(
         grammar,
         tables,
@@ -51,6 +59,24 @@ fn show_in(grammar: &[u8], tables: &[u8], input: &[u8], scans: usize, n: usize, 
         scans,
         &mut stack[..n],
         &mut listing[..k],
+    );
+}
+
+// Lends slices that are not zeros.
+fn show_lent(grammar: &[u8], tables: &[u8], input: &[u8], scans: usize, n: usize, k: usize)
+    requires { ⌜ (n ≤ 65536) × (k ≤ 65536) ⌝ }
+{
+    let mut stack = [7u8; 65536];
+    let mut listing = [7u8; 65536];
+    show_in(
+        grammar,
+        tables,
+        input,
+        scans,
+        &mut stack,
+        n,
+        &mut listing,
+        k,
     );
 }
 
@@ -77,7 +103,7 @@ fn run(i: usize, scans: usize, n: usize, k: usize)
     let a = first.size;
     let b = second.size;
     let c = third.size;
-    show_in(&grammar[..a], &tables[..b], &input[..c], scans, n, k);
+    show_lent(&grammar[..a], &tables[..b], &input[..c], scans, n, k);
 }
 
 fn run_case(i: usize)
