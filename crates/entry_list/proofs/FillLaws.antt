@@ -9,19 +9,17 @@ use native.Mathlib.Decide.{ℕ-discrete}
 use native.Mathlib.Omega.{arith}
 use lib.ListN.{length, getD, set, length-append, length-map}
 use lib.Seq.{getD-set-same, getD-set-other}
-use Rattle.language.specs.Grammar.{Grammar, Rule, ruleAt, concat}
+use Rattle.language.specs.Grammar.{Grammar, Rule, ruleAt}
 use Rattle.language.specs.Sentence.{In, here, there}
-use Rattle.language.specs.Member.{in-right}
-use Rattle.language.specs.Lists.{concat-++}
 use Rattle.leftcorner.specs.Table.{Table, entryFrom}
 use Rattle.leftcorner.specs.Construction.{EntryAt, of-group}
-use Rattle.items.specs.Layout.{lengthAt, markAt, RuleIn}
+use Rattle.items.specs.Layout.{lengthAt, markAt}
 use Rattle.fixpoint.specs.Flags.{On}
 use Rattle.fixpoint.proofs.CountLaws.{on-set, only-set, keep-set}
 use Rattle.fixpoint.proofs.PassLaws.{is-yes, is-no}
 use Rattle.entry_list.specs.Parts.{FindsEntry, GroupEnd}
 use Rattle.entry_list.specs.Uses.{HoldsStrings, AllEntered, WantedEntry, FilledRule}
-use Rattle.entry_list.proofs.GroupLaws.{baseOf, right-length, end-is}
+use Rattle.entry_list.proofs.GroupLaws.{baseOf, base-more, Current, current, none-left}
 use Rattle.entry_list.proofs.PartLaws.{found-entry, found-number, found-none}
 
 -- ---- one more at the end of a list
@@ -44,18 +42,6 @@ in-snoc [] here = inr refl
 in-snoc [] (there m) = elim m [ ]
 in-snoc (z ∷ l) here = inl here
 in-snoc (z ∷ l) (there m) = in-more (in-snoc l m)
-
-positive : (γ : List ℕ) → (γ ≡ [] → ⊥) → 1 ≤ length γ
-positive [] f = absurd (f refl)
-positive (X ∷ γ) f = omega arith
-
--- the group of r that begins behind the groups `done`
-record Current (r : Rule) (done : List (List ℕ)) (to : ℕ) : Type 0 where
-  group : List ℕ
-  others : List (List ℕ)
-  split : r .groups ≡ done ++ group ∷ others
-  is-group : In group (r .groups)
-  end : to ≡ baseOf r done + length group
 
 module _ (g : Grammar) (t : Table) where
   abbrev pub number : List ℕ → ℕ
@@ -92,31 +78,10 @@ module _ (g : Grammar) (t : Table) where
       only = λ k o. inl o;
     }
 
-    current : {uses₀ uses wanted₀ wanted : List ℕ} {from to j : ℕ} (F : Filling i r uses₀ uses wanted₀ wanted from j) → from < lengthAt items i
-        → GroupEnd items i from to → Current r (F .done) to
-    current {from = from} {to = to} F l h = go (F .todo) (F .split)
-      where
-        w : RuleIn items i r
-        w = S .holds-items .rule-row i is-rule
-
-        go : (ts : List (List ℕ)) → r .groups ≡ F .done ++ ts → Current r (F .done) to
-        go [] e = absurd (omega (arith, l, w .length-is, right-length r (F .done) [] e, F .place))
-        go (γ ∷ εs) e =
-            let filled = S .formed .formed i is-rule .filled in
-            let inside : In γ (r .groups) = subst (In γ) (sym e) (in-right (F .done) here) in
-            record {
-              group = γ;
-              others = εs;
-              split = e;
-              is-group = inside;
-              end = end-is r (F .done) γ εs e w (S .formed .formed i is-rule .short)
-                  (λ ε m. filled ε (subst (In ε) (sym e) (in-right (F .done) (there m)))) (positive γ (filled γ inside)) (F .place) h;
-            }
-
     module _ {uses₀ uses wanted₀ wanted : List ℕ} {from to j x : ℕ} (F : Filling i r uses₀ uses wanted₀ wanted from j) (l : from < lengthAt items i)
         (G : GroupEnd items i from to) (E : FindsEntry items rules strings i from (to - from) x) where
-      c : Current r (F .done) to
-      c = current F l G
+      c : Current r (F .done) (F .todo) to
+      c = current (S .formed .formed i is-rule) (S .holds-items .rule-row i is-rule) (F .done) (F .todo) (F .split) (F .place) l G
 
       width : to - from ≡ length (c .group)
       width = omega (arith, c .end, F .place)
@@ -158,17 +123,13 @@ module _ (g : Grammar) (t : Table) where
         new-flagged γ (inl m) = keep-set wanted x (omega arith) (number γ) (F .flagged γ m)
         new-flagged γ (inr e) = subst (On (set wanted x 1)) (sym (ap number e ∙ number-is)) (on-set wanted x (omega arith))
 
-        concat-length : length (concat (F .done ++ c .group ∷ [])) ≡ length (concat (F .done)) + length (c .group)
-        concat-length = ap length (concat-++ (F .done) (c .group ∷ [])) ∙ (length-append (concat (F .done)) (c .group ++ [])
-            ∙ ap (λ (m : List ℕ). length (concat (F .done)) + length m) (append-nil (c .group)))
-
         more : Filling i r uses₀ (set uses (i * 16 + j) x) wanted₀ (set wanted x 1) to (j + 1)
         more = record {
           done = F .done ++ c .group ∷ [];
           todo = c .others;
           split = c .split ∙ sym (append-assoc (F .done) (c .group ∷ []) (c .others));
           counted = length-append (F .done) (c .group ∷ []) ∙ ap (λ (m : ℕ). m + 1) (F .counted);
-          place = omega (arith, c .end, concat-length);
+          place = omega (arith, c .end, base-more r (F .done) (c .group));
           row = λ n b. new-row n b (ℕ-discrete n j) ∙ ap (λ (m : List ℕ). getD m n 0) (sym (map-append number (F .done) (c .group ∷ [])));
           outside = λ y f. getD-set-other uses (i * 16 + j) y x 0 (λ e. f (omega (arith, e)) (omega (arith, e))) ∙ F .outside y f;
           entered = λ γ m. new-entered γ (in-snoc (F .done) m);
@@ -186,22 +147,14 @@ module _ (g : Grammar) (t : Table) where
     -- nothing is left
     pub filling-ends : {uses₀ uses wanted₀ wanted : List ℕ} {from j : ℕ} → Filling i r uses₀ uses wanted₀ wanted from j → lengthAt items i ≤ from
         → FilledRule g t i r uses₀ uses wanted₀ wanted true
-    filling-ends {uses₀} {uses} {wanted₀} {wanted} {from} F l = go (F .todo) (F .split)
-      where
-        w : RuleIn items i r
-        w = S .holds-items .rule-row i is-rule
-
-        go : (ts : List (List ℕ)) → r .groups ≡ F .done ++ ts → FilledRule g t i r uses₀ uses wanted₀ wanted true
-        go [] e =
-            let all : r .groups ≡ F .done = e ∙ append-nil (F .done) in
-            record {
-              decides = is-yes _ (λ γ m. F .entered γ (subst (In γ) all m));
-              row = λ b n h. F .row n h ∙ ap (λ (d : List (List ℕ)). getD (map number d) n 0) (sym all);
-              outside = F .outside;
-              flagged = λ b γ m. F .flagged γ (subst (In γ) all m);
-              kept = F .kept;
-              only = F .only;
-            }
-        go (γ ∷ εs) e =
-            let some-symbol = positive γ (S .formed .formed i is-rule .filled γ (subst (In γ) (sym e) (in-right (F .done) here))) in
-            absurd (omega (arith, l, w .length-is, right-length r (F .done) (γ ∷ εs) e, length-append γ (concat εs), F .place, some-symbol))
+    filling-ends F l =
+        let none = none-left (S .formed .formed i is-rule) (S .holds-items .rule-row i is-rule) (F .done) (F .todo) (F .split) (F .place) l in
+        let all : r .groups ≡ F .done = F .split ∙ (ap (λ (d : List (List ℕ)). F .done ++ d) none ∙ append-nil (F .done)) in
+        record {
+          decides = is-yes _ (λ γ m. F .entered γ (subst (In γ) all m));
+          row = λ b n h. F .row n h ∙ ap (λ (d : List (List ℕ)). getD (map number d) n 0) (sym all);
+          outside = F .outside;
+          flagged = λ b γ m. F .flagged γ (subst (In γ) all m);
+          kept = F .kept;
+          only = F .only;
+        }

@@ -1,13 +1,15 @@
 -- Where a rule's groups stand in its string.
 use Prim.Native.Nat.{ℕ, zero, suc, _+_, _-_, _≤_, _<_}
-use mathlib.Core.Path.{_≡_, refl, sym, ap, ap₂, _∙_}
-use mathlib.Core.List.{List, [], _∷_, _++_, append-assoc}
+use mathlib.Core.Path.{_≡_, refl, sym, ap, ap₂, subst, _∙_}
+use mathlib.Core.List.{List, [], _∷_, _++_, append-assoc, append-nil}
 use native.Mathlib.Decide.{decLt}
 use native.Mathlib.Omega.{arith}
 use lib.ListN.{length, getD, replicate, length-append, length-replicate, List·getD-append}
 use lib.Seq.{getD-append-add}
-use Rattle.language.specs.Grammar.{Rule, right, concat}
-use Rattle.language.specs.Sentence.{In, here}
+use Rattle.language.specs.Grammar.{Grammar, Rule, right, concat}
+use Rattle.language.specs.Sentence.{In, here, there}
+use Rattle.language.specs.WellFormed.{RuleFormed}
+use Rattle.language.specs.Member.{in-right}
 use Rattle.language.specs.Lists.{concat-++}
 use Rattle.items.specs.Layout.{groupStart, groupStarts, startsOf, lengthAt, RuleIn}
 use Rattle.items.proofs.GrowLaws.{start-length, starts-length}
@@ -95,3 +97,49 @@ module _ (r : Rule) (δs : List (List ℕ)) where
             let one = start-behind f (omega (arith, h .within, w .length-is, group-length)) in
             absurd (omega (arith, sym (w .start-is (baseOf + length γ) (omega (arith, h .within, w .length-is))) ∙ z, one))
         go (no a) (no b) = omega arith
+
+-- ---- the groups one after the other
+positive : (γ : List ℕ) → (γ ≡ [] → ⊥) → 1 ≤ length γ
+positive [] f = absurd (f refl)
+positive (X ∷ γ) f = omega arith
+
+pub base-more : (r : Rule) (done : List (List ℕ)) (γ : List ℕ) → baseOf r (done ++ γ ∷ []) ≡ baseOf r done + length γ
+base-more r done γ =
+    omega (arith, ap length (concat-++ done (γ ∷ [])), length-append (concat done) (γ ++ []), ap length (append-nil γ))
+
+-- the group of r that begins behind the groups `done`
+pub record Current (r : Rule) (done todo : List (List ℕ)) (to : ℕ) : Type 0 where
+  pub group : List ℕ
+  pub others : List (List ℕ)
+  pub next : todo ≡ group ∷ others
+  pub split : r .groups ≡ done ++ group ∷ others
+  pub is-group : In group (r .groups)
+  pub end : to ≡ baseOf r done + length group
+
+module _ {g : Grammar} {r : Rule} (formed : RuleFormed g r) {items : List ℕ} {i : ℕ} (w : RuleIn items i r) (done todo : List (List ℕ))
+    (split : r .groups ≡ done ++ todo) {from : ℕ} (place : from ≡ baseOf r done) where
+  pub current : {to : ℕ} → from < lengthAt items i → GroupEnd items i from to → Current r done todo to
+  current {to} l h = go todo split
+    where
+      go : (ts : List (List ℕ)) → r .groups ≡ done ++ ts → Current r done ts to
+      go [] e = absurd (omega (arith, l, w .length-is, right-length r done [] e, place))
+      go (γ ∷ εs) e =
+          let inside : In γ (r .groups) = subst (In γ) (sym e) (in-right done here) in
+          record {
+            group = γ;
+            others = εs;
+            next = refl;
+            split = e;
+            is-group = inside;
+            end = end-is r done γ εs e w (formed .short) (λ ε m. formed .filled ε (subst (In ε) (sym e) (in-right done (there m))))
+                (positive γ (formed .filled γ inside)) place h;
+          }
+
+  pub none-left : lengthAt items i ≤ from → todo ≡ []
+  none-left l = go todo split
+    where
+      go : (ts : List (List ℕ)) → r .groups ≡ done ++ ts → ts ≡ []
+      go [] e = refl
+      go (γ ∷ εs) e =
+          let some-symbol = positive γ (formed .filled γ (subst (In γ) (sym e) (in-right done here))) in
+          absurd (omega (arith, l, w .length-is, right-length r done (γ ∷ εs) e, length-append γ (concat εs), place, some-symbol))

@@ -23,6 +23,21 @@ abbrev pub orElse : {P : Type 0} → Dec P → Action → Option Action → Opti
 orElse (yes p) x o = some x
 orElse (no f) x o = o
 
+-- a cell's line, where it holds an action
+abbrev pub lineIf : ℕ → ℕ → Option Action → List ActionLine → List ActionLine
+lineIf q X none l = l
+lineIf q X (some x) l = L q X x ∷ l
+
+-- the lines of a table with these cells: "its action lines by state, symbol"
+module _ (cells : ℕ → ℕ → Option Action) where
+  abbrev pub actionsOn : ℕ → List ℕ → List ActionLine → List ActionLine
+  actionsOn q [] l = l
+  actionsOn q (X ∷ xs) l = lineIf q X (cells q X) (actionsOn q xs l)
+
+  abbrev pub actionsOf : List ℕ → List ActionLine
+  actionsOf [] = []
+  actionsOf (q ∷ qs) = actionsOn q (range 0 128) (actionsOf qs)
+
 module _ (g : Grammar) (F : List ℕ → ℕ → ℕ → Type 0) (F? : (β : List ℕ) (d c : ℕ) → Dec (F β d c)) (first-codes : List ℕ)
     (F-in : (β : List ℕ) (d c : ℕ) → F β d c → (c ≡ d) ⊎ In c first-codes) where
   -- a context as its codes, rising
@@ -67,17 +82,5 @@ module _ (g : Grammar) (F : List ℕ → ℕ → ℕ → Type 0) (F? : (β : Lis
   cellAction q X =
       firstOf (orElse (cellAsked? q X (S 0)) (moveTo q X) none) (firstOf (announced q X (length (g .rules))) (finished q X (items .entries)))
 
-  abbrev pub lineIf : ℕ → ℕ → Option Action → List ActionLine → List ActionLine
-  lineIf q X none l = l
-  lineIf q X (some x) l = L q X x ∷ l
-
-  abbrev pub actionsOn : ℕ → List ℕ → List ActionLine → List ActionLine
-  actionsOn q [] l = l
-  actionsOn q (X ∷ xs) l = lineIf q X (cellAction q X) (actionsOn q xs l)
-
-  abbrev pub actionsOf : List ℕ → List ActionLine
-  actionsOf [] = []
-  actionsOf (q ∷ qs) = actionsOn q (range 0 128) (actionsOf qs)
-
   unfoldable pub built : Table
-  built = record { states = items .states; entries = items .entries; kernels = items .kernels; actions = actionsOf (range 1 (length (states g))) }
+  built = record { states = items .states; entries = items .entries; kernels = items .kernels; actions = actionsOf cellAction (range 1 (length (states g))) }

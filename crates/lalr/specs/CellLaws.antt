@@ -201,13 +201,13 @@ module _ (g : Grammar) (F : List ℕ → ℕ → ℕ → Type 0) (F? : (β : Lis
   -- ---- the action lines
 
   abbrev on : ℕ → List ℕ → List ActionLine → List ActionLine
-  on q xs l = actionsOn g F F? first-codes F-in q xs l
+  on q xs l = actionsOn cell q xs l
 
   abbrev of : List ℕ → List ActionLine
-  of qs = actionsOf g F F? first-codes F-in qs
+  of qs = actionsOf cell qs
 
   abbrev put : ℕ → ℕ → Option Action → List ActionLine → List ActionLine
-  put q X o l = lineIf g F F? first-codes F-in q X o l
+  put q X o l = lineIf q X o l
 
   pub put-in : (q X : ℕ) (o : Option Action) (l : List ActionLine) (p Y : ℕ) (y : Action) → In (L p Y y) (put q X o l) → ((p ≡ q) × (Y ≡ X) × (o ≡ some y)) ⊎ In (L p Y y) l
   put-in q X none l p Y y m = inr m

@@ -18,7 +18,7 @@ use Rattle.lalr.specs.Distinct.{Distinct, Extends, stays, extends-trans,
 
 -- ---- the groups of one rule
 
-groups-extend : (l γs : List (List ℕ)) → Extends l (addGroups l γs)
+pub groups-extend : (l γs : List (List ℕ)) → Extends l (addGroups l γs)
 unfolding addGroups
 groups-extend l [] = stays l
 groups-extend l (γ ∷ γs) = extends-trans (join-extends l γ) (groups-extend (addString l γ) γs)
@@ -48,7 +48,7 @@ groups-only l (δ ∷ γs) γ m = go (groups-only (addString l δ) γs γ m)
 
 -- ---- the groups of all rules
 
-rules-extend : (l : List (List ℕ)) (rs : List Rule) → Extends l (addRules l rs)
+pub rules-extend : (l : List (List ℕ)) (rs : List Rule) → Extends l (addRules l rs)
 unfolding addRules
 rules-extend l [] = stays l
 rules-extend l (r ∷ rs) = extends-trans (groups-extend l (r .groups)) (rules-extend (addGroups l (r .groups)) rs)

@@ -94,12 +94,12 @@ module _ (g : Grammar) (F : List ℕ → ℕ → ℕ → Type 0) (F? : (β : Lis
   -- ---- action lines
 
   cells-once : (q a n : ℕ) (rest : List ActionLine) → ((X : ℕ) (y : Action) → In (L q X y) rest → ⊥) → Once SameCell rest
-      → Once SameCell (actionsOn g F F? first-codes F-in q (range a n) rest)
+      → Once SameCell (actionsOn (cell g F F? first-codes F-in) q (range a n) rest)
   cells-once q a zero rest off o = o
   cells-once q a (suc n) rest off o = go (cell g F F? first-codes F-in q a) (cells-once q (suc a) n rest off o)
     where
       more : List ActionLine
-      more = actionsOn g F F? first-codes F-in q (range (suc a) n) rest
+      more = actionsOn (cell g F F? first-codes F-in) q (range (suc a) n) rest
 
       split : (X : ℕ) (y : Action) → a ≡ X → ((q ≡ q) × In X (range (suc a) n) × (cell g F F? first-codes F-in q X ≡ some y)) ⊎ In (L q X y) rest → ⊥
       split X y e (inl h) = let z = range-in (suc a) n X (h .1) .0 in omega (arith, z, e)
@@ -108,13 +108,13 @@ module _ (g : Grammar) (F : List ℕ → ℕ → ℕ → Type 0) (F? : (β : Lis
       apart : (x : Action) (y : ActionLine) → In y more → SameCell (L q a x) y → ⊥
       apart x (L p X y) m e = split X y (e .1) (on-in g F F? first-codes F-in q (range (suc a) n) rest q X y (subst (λ (z : ℕ). In (L z X y) more) (sym (e .0)) m))
 
-      go : (c : Option Action) → Once SameCell more → Once SameCell (lineIf g F F? first-codes F-in q a c more)
+      go : (c : Option Action) → Once SameCell more → Once SameCell (lineIf q a c more)
       go none h = h
       go (some x) h = (apart x, h)
 
-  pub actions-once : (a n : ℕ) → Once SameCell (actionsOf g F F? first-codes F-in (range a n))
+  pub actions-once : (a n : ℕ) → Once SameCell (actionsOf (cell g F F? first-codes F-in) (range a n))
   actions-once a zero = tt
   actions-once a (suc n) =
-      cells-once a 0 128 (actionsOf g F F? first-codes F-in (range (suc a) n))
+      cells-once a 0 128 (actionsOf (cell g F F? first-codes F-in) (range (suc a) n))
       (λ X y m. let w = of-in g F F? first-codes F-in (range (suc a) n) a X y m in let z = range-in (suc a) n a (w .0) .0 in omega (arith, z))
       (actions-once (suc a) n)

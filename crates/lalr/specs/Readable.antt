@@ -69,7 +69,7 @@ pub record Readable (g : Grammar) (t : Table) : Type 0 where
   pub kernel : (q i k : ℕ) (σ : List ℕ) → KernelAt g t q i k σ → KernelForm g t q i k σ
   pub action : (q X : ℕ) (x : Action) → ActionAt g t q X x → (1 ≤ q) × (q ≤ t .states) × Names g t X x
 
-has-line : {A : Type 0} {x : A} {l : List A} → In x l → 1 ≤ length l
+pub has-line : {A : Type 0} {x : A} {l : List A} → In x l → 1 ≤ length l
 has-line here = omega arith
 has-line (there m) = omega arith
 

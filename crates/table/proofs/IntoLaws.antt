@@ -1,8 +1,8 @@
 -- Both books: what comes of them, and what the slices hold.
 use Prim.Native.Nat.{ℕ, _≤_, _<_}
-use mathlib.Core.Path.{_≡_, refl, sym, ap, subst, _∙_}
+use mathlib.Core.Path.{_≡_, refl, sym, ap, _∙_}
 use mathlib.Core.List.{List}
-use mathlib.Core.Bool.{Bool, true, false, cond, _&&_}
+use mathlib.Core.Bool.{true, false}
 use native.Mathlib.Omega.{arith}
 use borrow.Author.Tests.{lt-ltb, le-ltb, le-leb, leb-true}
 use lib.Dec.{leb}
@@ -23,7 +23,7 @@ use Rattle.table.specs.declared.TableReply.{TableReply}
 use Rattle.table.specs.declared.TableReply.the-variants as reply
 use Rattle.table.specs.declared.Counts.{Counts}
 use Rattle.table.specs.Book.{Reading, whole, rejected, rejectedAt, tableOf, tablesOf, readOf}
-use Rattle.table.specs.Memory.{replyOf, Slices, slices, roomFor, hasRoom, Rooms, Roomy, Zero, Cleared, Wiped, Blank, Holds, Fills, filled-with, denied}
+use Rattle.table.specs.Memory.{replyOf, Slices, slices, roomFor, hasRoom, Rooms, Roomy, Wiped, Blank, Holds, Fills, filled-with, denied}
 
 module _ (gs s : List ℕ) where
   pub too-long : 65536 < length s → tablesOf gs s ≡ rejectedAt kind.LimitExceeded 0
@@ -57,18 +57,20 @@ module _ (gs : List ℕ) (size : ℕ) (room : 16640 ≤ size) {r : GrammarReply}
 
 pub blank-now : (gs : List ℕ) {g : Grammar} {i j st ks ls c v o n : List ℕ} → grammar.grammarOf gs ≡ grammar.accepted g → Wiped (slices i st ks ls c v o n)
     → j ≡ layout g (length j) → length j ≡ length i → Blank g (slices j st ks ls c v o n)
-blank-now gs {g} a w e l = record
-    { formed = accepted-reduced gs g a .formed
-    ; items-are = e
-    ; cleared = record
-        { states-none = w .cleared .states-none
-        ; kernels-none = w .cleared .kernels-none
-        ; lookaheads-none = w .cleared .lookaheads-none
-        ; kinds-none = w .cleared .kinds-none
-        ; values-none = w .cleared .values-none
-        ; gotos-none = w .cleared .gotos-none
-        ; named-none = w .cleared .named-none }
-    ; room = record { items-room = omega (arith, w .room .items-room, l); kinds-room = w .room .kinds-room; gotos-room = w .room .gotos-room } }
+blank-now gs {g} a w e l = record {
+  formed = accepted-reduced gs g a .formed;
+  items-are = e;
+  cleared = record {
+    states-none = w .cleared .states-none;
+    kernels-none = w .cleared .kernels-none;
+    lookaheads-none = w .cleared .lookaheads-none;
+    kinds-none = w .cleared .kinds-none;
+    values-none = w .cleared .values-none;
+    gotos-none = w .cleared .gotos-none;
+    named-none = w .cleared .named-none;
+  };
+  room = record { items-room = omega (arith, w .room .items-room, l); kinds-room = w .room .kinds-room; gotos-room = w .room .gotos-room };
+}
 
 -- ---- slices of the same lengths
 pub record Alike (b c : Slices) : Type 0 where
@@ -82,15 +84,16 @@ pub record Alike (b c : Slices) : Type 0 where
   pub named-same : length (b .named) ≡ length (c .named)
 
 pub holds-alike : {x : Reading} {b c a : Slices} → Alike b c → Holds x b a → Holds x c a
-holds-alike s h = record
-    { items-are = rw (← s .items-same) (h .items-are)
-    ; states-are = rw (← s .states-same) (h .states-are)
-    ; kernels-are = rw (← s .kernels-same) (h .kernels-are)
-    ; lookaheads-are = rw (← s .lookaheads-same) (h .lookaheads-are)
-    ; kinds-are = rw (← s .kinds-same) (h .kinds-are)
-    ; values-are = rw (← s .values-same) (h .values-are)
-    ; gotos-are = rw (← s .gotos-same) (h .gotos-are)
-    ; named-are = rw (← s .named-same) (h .named-are) }
+holds-alike s h = record {
+  items-are = rw (← s .items-same) (h .items-are);
+  states-are = rw (← s .states-same) (h .states-are);
+  kernels-are = rw (← s .kernels-same) (h .kernels-are);
+  lookaheads-are = rw (← s .lookaheads-same) (h .lookaheads-are);
+  kinds-are = rw (← s .kinds-same) (h .kinds-are);
+  values-are = rw (← s .values-same) (h .values-are);
+  gotos-are = rw (← s .gotos-same) (h .gotos-are);
+  named-are = rw (← s .named-same) (h .named-are);
+}
 
 pub fills-alike : {b c a : Slices} {x : Reading} {r : TableReply} → Alike b c → Fills b a x r → Fills c a x r
 fills-alike s (filled-with h) = filled-with (holds-alike s h)
@@ -117,9 +120,19 @@ pub record AllZero (b a : Slices) : Type 0 where
   pub named-zero : a .named ≡ replicate (length (b .named)) 0
 
 pub holds-zero : {x : Reading} {b a : Slices} {why : Refusal} → x ≡ rejected why → AllZero b a → (reply.Refused why ≡ replyOf x) × Holds x b a
-holds-zero e z = rw e (refl, record
-    { items-are = z .items-zero; states-are = z .states-zero; kernels-are = z .kernels-zero; lookaheads-are = z .lookaheads-zero
-    ; kinds-are = z .kinds-zero; values-are = z .values-zero; gotos-are = z .gotos-zero; named-are = z .named-zero })
+holds-zero e z = rw e (
+  refl,
+  record {
+    items-are = z .items-zero;
+    states-are = z .states-zero;
+    kernels-are = z .kernels-zero;
+    lookaheads-are = z .lookaheads-zero;
+    kinds-are = z .kinds-zero;
+    values-are = z .values-zero;
+    gotos-are = z .gotos-zero;
+    named-are = z .named-zero;
+  },
+)
 
 -- ---- slices too short, or not
 pub short-read : (x : Reading) {k : Counts} {r : TableReply} → r ≡ replyOf x → r ≡ reply.Read k → reply.Refused (record { kind = kind.BufferTooSmall; place = 0 }) ≡ replyOf (readOf false x)
@@ -161,15 +174,16 @@ rooms-tell b e =
     let c = both-true (leb 16640 (length (b .kinds))) _ (l .1) in
     let v = both-true (leb 16640 (length (b .values))) _ (c .1) in
     let g = both-true (leb 16640 (length (b .gotos))) _ (v .1) in
-    record
-    { items-room = leb-true 16640 (length (b .items)) (a .0)
-    ; states-room = leb-true 256 (length (b .states)) (s .0)
-    ; kernels-room = leb-true 4096 (length (b .kernels)) (k .0)
-    ; lookaheads-room = leb-true 65536 (length (b .lookaheads)) (l .0)
-    ; kinds-room = leb-true 16640 (length (b .kinds)) (c .0)
-    ; values-room = leb-true 16640 (length (b .values)) (v .0)
-    ; gotos-room = leb-true 16640 (length (b .gotos)) (g .0)
-    ; named-room = leb-true 256 (length (b .named)) (g .1) }
+    record {
+      items-room = leb-true 16640 (length (b .items)) (a .0);
+      states-room = leb-true 256 (length (b .states)) (s .0);
+      kernels-room = leb-true 4096 (length (b .kernels)) (k .0);
+      lookaheads-room = leb-true 65536 (length (b .lookaheads)) (l .0);
+      kinds-room = leb-true 16640 (length (b .kinds)) (c .0);
+      values-room = leb-true 16640 (length (b .values)) (v .0);
+      gotos-room = leb-true 16640 (length (b .gotos)) (g .0);
+      named-room = leb-true 256 (length (b .named)) (g .1);
+    }
 
 pub has-room : (b : Slices) → Rooms b → hasRoom b ≡ true
 unfolding roomFor

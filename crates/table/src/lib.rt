@@ -8,7 +8,6 @@ use reply::Reply;
 use reply::clear;
 use table_lines::Block;
 use table_lines::Line;
-
 ghost use mathlib.Core.Path.{_≡_};
 ghost use mathlib.Core.Bool.{false};
 ghost use Prim.Native.Nat.{ℕ, _+_, _*_, _≤_, _<_};
@@ -19,13 +18,17 @@ ghost use Rattle.grammar.specs.Memory.{headingOf};
 ghost use Rattle.table.specs.Book.{headOf, entriesOf, tableOf, tablesOf, readOf};
 ghost use Rattle.table.specs.Memory.{asReply, replyOf, slices, roomFor, hasRoom, Roomy, Wiped, Begun, Blank, Holds, Fills};
 
-
 // The bytes that each slice must have at least.
 pub const ITEMS: usize = 16640;
+
 pub const ENTRY_STATES: usize = 256;
+
 pub const KERNELS: usize = 4096;
+
 pub const LOOKAHEADS: usize = 65536;
+
 pub const CELLS: usize = 16640;
+
 pub const NAMED: usize = 256;
 
 // The figures of tables that are in memory: the grammar's, and the numbers of states, entries and kernel lines.
@@ -104,11 +107,42 @@ fn read_blocks(
     let t = h.terminals;
     let n = h.nonterminals;
     let rules = h.rules;
-    match table_entries::read_entries(s, first, t, n, states, rules, entries, items, entry_states, named) {
+    match table_entries::read_entries(
+        s,
+        first,
+        t,
+        n,
+        states,
+        rules,
+        entries,
+        items,
+        entry_states,
+        named,
+    ) {
         Block::Refused(why) => TableReply::Refused(why),
-        Block::Read(count, at) => match table_kernels::read_kernels(s, at, t, states, rules + count, items, kernels, lookaheads) {
+        Block::Read(count, at) => match table_kernels::read_kernels(
+            s,
+            at,
+            t,
+            states,
+            rules + count,
+            items,
+            kernels,
+            lookaheads,
+        ) {
             Block::Refused(why) => TableReply::Refused(why),
-            Block::Read(lines, at) => match table_actions::read_actions(s, at, t, n, rules, states, kinds, values, gotos, named) {
+            Block::Read(lines, at) => match table_actions::read_actions(
+                s,
+                at,
+                t,
+                n,
+                rules,
+                states,
+                kinds,
+                values,
+                gotos,
+                named,
+            ) {
                 Block::Refused(why) => TableReply::Refused(why),
                 Block::Read(_, _) => TableReply::Read(Counts {
                     grammar: h,
@@ -141,7 +175,21 @@ fn read_book(
 {
     match read_head(s) {
         Head::Refused(why) => TableReply::Refused(why),
-        Head::Read(states, entries, first) => read_blocks(s, h, states, entries, first, items, entry_states, kernels, lookaheads, kinds, values, gotos, named),
+        Head::Read(states, entries, first) => read_blocks(
+            s,
+            h,
+            states,
+            entries,
+            first,
+            items,
+            entry_states,
+            kernels,
+            lookaheads,
+            kinds,
+            values,
+            gotos,
+            named,
+        ),
     }
 }
 
@@ -199,7 +247,18 @@ fn read_cleared(
     }
     match grammar::read_grammar(grammar, items) {
         GrammarReply::Refused(why) => TableReply::Refused(why),
-        GrammarReply::Read(h) => read_book(book, h, items, entry_states, kernels, lookaheads, kinds, values, gotos, named),
+        GrammarReply::Read(h) => read_book(
+            book,
+            h,
+            items,
+            entry_states,
+            kernels,
+            lookaheads,
+            kinds,
+            values,
+            gotos,
+            named,
+        ),
     }
 }
 
@@ -220,10 +279,39 @@ fn read_into(
     ensures { λ r. ⌜ r ≡ replyOf (tablesOf (now (grammar .entry)) (now (book .entry))) ⌝ }
     ensures { λ r. ⌜ Holds (tablesOf (now (grammar .entry)) (now (book .entry))) (slices (now (items .entry)) (now («entry_states» .entry)) (now (kernels .entry)) (now (lookaheads .entry)) (now (kinds .entry)) (now (values .entry)) (now (gotos .entry)) (now (named .entry))) (slices (now (items .exit)) (now («entry_states» .exit)) (now (kernels .exit)) (now (lookaheads .exit)) (now (kinds .exit)) (now (values .exit)) (now (gotos .exit)) (now (named .exit))) ⌝ }
 {
-    clear_all(items, entry_states, kernels, lookaheads, kinds, values, gotos, named);
-    let answer = read_cleared(grammar, book, items, entry_states, kernels, lookaheads, kinds, values, gotos, named);
+    clear_all(
+        items,
+        entry_states,
+        kernels,
+        lookaheads,
+        kinds,
+        values,
+        gotos,
+        named,
+    );
+    let answer = read_cleared(
+        grammar,
+        book,
+        items,
+        entry_states,
+        kernels,
+        lookaheads,
+        kinds,
+        values,
+        gotos,
+        named,
+    );
     if let TableReply::Refused(why) = answer {
-        clear_all(items, entry_states, kernels, lookaheads, kinds, values, gotos, named);
+        clear_all(
+            items,
+            entry_states,
+            kernels,
+            lookaheads,
+            kinds,
+            values,
+            gotos,
+            named,
+        );
         return TableReply::Refused(why);
     }
     answer
@@ -263,7 +351,16 @@ fn read_short(grammar: &[u8], book: &[u8]) -> TableReply
 }
 
 // Whether slices of these lengths have room.
-fn has_room(items: usize, entry_states: usize, kernels: usize, lookaheads: usize, kinds: usize, values: usize, gotos: usize, named: usize) -> bool
+fn has_room(
+    items: usize,
+    entry_states: usize,
+    kernels: usize,
+    lookaheads: usize,
+    kinds: usize,
+    values: usize,
+    gotos: usize,
+    named: usize,
+) -> bool
     ensures { λ r. ⌜ r ≡ roomFor items «entry_states» kernels lookaheads kinds values gotos named ⌝ }
 {
     if items < ITEMS {
@@ -306,11 +403,40 @@ pub fn read_tables(
     ensures { λ r. ⌜ r ≡ replyOf (readOf (hasRoom (slices (now (items .entry)) (now («entry_states» .entry)) (now (kernels .entry)) (now (lookaheads .entry)) (now (kinds .entry)) (now (values .entry)) (now (gotos .entry)) (now (named .entry)))) (tablesOf (now (grammar .entry)) (now (book .entry)))) ⌝ }
     ensures { λ r. ⌜ Holds (readOf (hasRoom (slices (now (items .entry)) (now («entry_states» .entry)) (now (kernels .entry)) (now (lookaheads .entry)) (now (kinds .entry)) (now (values .entry)) (now (gotos .entry)) (now (named .entry)))) (tablesOf (now (grammar .entry)) (now (book .entry)))) (slices (now (items .entry)) (now («entry_states» .entry)) (now (kernels .entry)) (now (lookaheads .entry)) (now (kinds .entry)) (now (values .entry)) (now (gotos .entry)) (now (named .entry))) (slices (now (items .exit)) (now («entry_states» .exit)) (now (kernels .exit)) (now (lookaheads .exit)) (now (kinds .exit)) (now (values .exit)) (now (gotos .exit)) (now (named .exit))) ⌝ }
 {
-    if !has_room(items.len(), entry_states.len(), kernels.len(), lookaheads.len(), kinds.len(), values.len(), gotos.len(), named.len()) {
-        clear_all(items, entry_states, kernels, lookaheads, kinds, values, gotos, named);
+    if !has_room(
+        items.len(),
+        entry_states.len(),
+        kernels.len(),
+        lookaheads.len(),
+        kinds.len(),
+        values.len(),
+        gotos.len(),
+        named.len(),
+    ) {
+        clear_all(
+            items,
+            entry_states,
+            kernels,
+            lookaheads,
+            kinds,
+            values,
+            gotos,
+            named,
+        );
         return read_short(grammar, book);
     }
-    read_into(grammar, book, items, entry_states, kernels, lookaheads, kinds, values, gotos, named)
+    read_into(
+        grammar,
+        book,
+        items,
+        entry_states,
+        kernels,
+        lookaheads,
+        kinds,
+        values,
+        gotos,
+        named,
+    )
 }
 
 // The answer as a reply, with its number and place.

@@ -1,14 +1,13 @@
 -- Cells and gotos: what is read, and what a line changes.
-use Prim.Native.Nat.{ℕ, zero, suc, _+_, _*_, _-_, _/_, _%_, _≤_, _<_}
+use Prim.Native.Nat.{ℕ, _+_, _*_, _-_, _/_, _%_, _≤_, _<_}
 use mathlib.Core.Path.{_≡_, refl, sym, ap, subst, _∙_}
 use mathlib.Core.List.{List, [], _∷_, _++_}
-use mathlib.Core.Bool.{Bool, true, false, cond, not, _&&_, _||_}
+use mathlib.Core.Bool.{Bool, true, false, cond, not, _&&_}
 use mathlib.Core.Option.{Option, some, none}
-use native.Mathlib.Decide.{ℕ-discrete}
 use native.Mathlib.Omega.{arith}
-use borrow.Author.Tests.{eq-eqb, ne-eqb, eqb-true}
+use borrow.Author.Tests.{eq-eqb, eqb-true}
 use lib.Dec.{eqb}
-use lib.ListN.{length, getD, set}
+use lib.ListN.{length, getD}
 use Rattle.leftcorner.specs.Table.{Action, S, N, A, P, ActionLine, L, actionFor, gotoState}
 use Rattle.memory.specs.Memory.{kindOf}
 use Rattle.table_lines.proofs.ImageLaws.{image-long, image-read}
@@ -22,7 +21,7 @@ same p Y q X = eqb p q && eqb Y X
 same-eq : (p Y q X : ℕ) → same p Y q X ≡ true → (p ≡ q) × (Y ≡ X)
 same-eq p Y q X e = let a = both-true (eqb p q) (eqb Y X) e in (eqb-true p q (a .0), eqb-true Y X (a .1))
 
-same-no : (p Y q X : ℕ) → ((p ≡ q) × (Y ≡ X) → ⊥) → same p Y q X ≡ false
+pub same-no : (p Y q X : ℕ) → ((p ≡ q) × (Y ≡ X) → ⊥) → same p Y q X ≡ false
 same-no p Y q X f = go (same p Y q X) refl
   where
     go : (b : Bool) → same p Y q X ≡ b → same p Y q X ≡ false

@@ -1,13 +1,12 @@
 -- One more action line in memory.
-use Prim.Native.Nat.{ℕ, zero, suc, _+_, _*_, _-_, _/_, _%_, _≤_, _<_}
+use Prim.Native.Nat.{ℕ, _+_, _*_, _-_, _/_, _%_, _≤_, _<_}
 use mathlib.Core.Path.{_≡_, refl, sym, ap, _∙_}
 use mathlib.Core.List.{List, [], _∷_, _++_}
 use mathlib.Core.Bool.{Bool, true, false, _||_}
 use mathlib.Core.Option.{Option, some, none}
 use native.Mathlib.Omega.{arith}
 use borrow.Author.Tests.{eq-eqb, ne-eqb}
-use lib.Dec.{eqb}
-use lib.ListN.{length, set}
+use lib.ListN.{set}
 use Rattle.leftcorner.specs.Table.{Action, S, N, A, P, ActionLine, L, actionFor, gotoState}
 use Rattle.memory.specs.Memory.{kindOf, valueOf}
 use Rattle.table_lines.specs.Image.{image, flag}
@@ -24,6 +23,7 @@ module _ (l : List ActionLine) (q X : ℕ) (x : Action) where
       where
         here : cellAt f (l ++ L q X x ∷ []) (q * 64 + X) ≡ f (some x)
         here = cell-back q X few f (l ++ L q X x ∷ []) low ∙ ap f (action-here l q X x e)
+
         other : (y : ℕ) → (y ≡ q * 64 + X → ⊥) → f (actionFor (l ++ L q X x ∷ []) (y / 64) (y % 64)) ≡ f (actionFor l (y / 64) (y % 64))
         other y g = ap f (action-other l q X x (y / 64) (y % 64) (λ d. g (omega (arith, d .0, d .1))))
 
@@ -40,7 +40,8 @@ module _ (l : List ActionLine) (q X : ℕ) (x : Action) where
         here : gotoAt (l ++ L q X x ∷ []) (q * 64 + X - 64) ≡ gotoState (some x)
         here =
             ap (gotoAt (l ++ L q X x ∷ [])) (let z : q * 64 + X - 64 ≡ q * 64 + (X - 64) = omega arith in z)
-              ∙ (goto-back q X few (l ++ L q X x ∷ []) high low ∙ ap gotoState (action-here l q X x e))
+            ∙ (goto-back q X few (l ++ L q X x ∷ []) high low ∙ ap gotoState (action-here l q X x e))
+
         other : (y : ℕ) → (y ≡ q * 64 + X - 64 → ⊥) → gotoState (actionFor (l ++ L q X x ∷ []) (y / 64) (64 + y % 64)) ≡ gotoState (actionFor l (y / 64) (64 + y % 64))
         other y g = ap gotoState (action-other l q X x (y / 64) (64 + y % 64) (λ d. g (omega (arith, d .0, d .1))))
 
@@ -55,9 +56,11 @@ module _ (l : List ActionLine) (q X : ℕ) (x : Action) where
       or-false : (b : Bool) → b || false ≡ b
       or-false true = refl
       or-false false = refl
+
       or-assoc : (a b c : Bool) → a || (b || c) ≡ a || b || c
       or-assoc true b c = refl
       or-assoc false b c = refl
+
       go : (l : List ActionLine) → isNamed (l ++ L q X x ∷ []) y ≡ isNamed l y || names x y
       go [] = or-false (names x y)
       go (L p Y z ∷ l) = ap (λ (b : Bool). names z y || b) (go l) ∙ or-assoc (names z y) (isNamed l y) (names x y)
@@ -82,6 +85,7 @@ module _ (l : List ActionLine) (q X : ℕ) (x : Action) where
         or-true true b = refl
         or-true false true = refl
         or-true false false = refl
+
         here : flag (e s || isNamed (l ++ L q X x ∷ []) s) ≡ 1
         here = ap flag (ap (λ (b : Bool). e s || b) (named-snoc s ∙ ap (λ (b : Bool). isNamed l s || b) t) ∙ or-true (e s) (isNamed l s))
 
@@ -96,11 +100,12 @@ module _ {e : ℕ → Bool} {a b c d : ℕ} {l : List ActionLine} {kinds values 
   cell-more : {kinds′ values′ gotos′ : List ℕ} (x : Action) → actionFor l q X ≡ none → Formed (L q X x) → q ≤ 255 → X < 64
       → kinds′ ≡ set kinds (q * 64 + X) (kindOf (some x)) → values′ ≡ set values (q * 64 + X) (valueOf (some x)) → gotos′ ≡ gotos
       → Cells a b c (l ++ L q X x ∷ []) kinds′ values′ gotos′
-  cell-more x new f few low k v g = record
-      { kinds-are = k ∙ (ap (λ (m : List ℕ). set m (q * 64 + X) (kindOf (some x))) (h .cells .kinds-are) ∙ cells-set l q X x kindOf a few low new)
-      ; values-are = v ∙ (ap (λ (m : List ℕ). set m (q * 64 + X) (valueOf (some x))) (h .cells .values-are) ∙ cells-set l q X x valueOf b few low new)
-      ; gotos-are = g ∙ (h .cells .gotos-are ∙ gotos-same l q X x c low)
-      ; formed = formed-snoc l (L q X x) (h .cells .formed) f }
+  cell-more x new f few low k v g = record {
+    kinds-are = k ∙ (ap (λ (m : List ℕ). set m (q * 64 + X) (kindOf (some x))) (h .cells .kinds-are) ∙ cells-set l q X x kindOf a few low new);
+    values-are = v ∙ (ap (λ (m : List ℕ). set m (q * 64 + X) (valueOf (some x))) (h .cells .values-are) ∙ cells-set l q X x valueOf b few low new);
+    gotos-are = g ∙ (h .cells .gotos-are ∙ gotos-same l q X x c low);
+    formed = formed-snoc l (L q X x) (h .cells .formed) f;
+  }
 
   named-next : {named′ : List ℕ} (x : Action) (s : ℕ) → names x s ≡ true → ((y : ℕ) → (y ≡ s → ⊥) → names x y ≡ false) → named′ ≡ set named s 1
       → named′ ≡ image d (λ y. flag (e y || isNamed (l ++ L q X x ∷ []) y))
@@ -108,22 +113,27 @@ module _ {e : ℕ → Bool} {a b c d : ℕ} {l : List ActionLine} {kinds values 
 
   pub action-more : (kinds′ values′ gotos′ named′ : List ℕ) (x : Action) → actionFor l q X ≡ none → Formed (L q X x) → Stored (L q X x) kinds values gotos named kinds′ values′ gotos′ named′
       → ActionMemory e a b c d (l ++ L q X x ∷ []) kinds′ values′ gotos′ named′
-  action-more kinds′ values′ gotos′ named′ (S s) new f w = record
-      { cells = cell-more (S s) new f (f .1) (f .2) (w .0) (w .1) (w .2)
-      ; named-are = named-next (S s) s (eq-eqb s s refl) (λ y g. ne-eqb s y (λ z. g (sym z))) (w .3) }
-  action-more kinds′ values′ gotos′ named′ (N s) new f w = record
-      { cells = record
-          { kinds-are = w .0 ∙ (h .cells .kinds-are ∙ cells-same l q X (N s) kindOf a (f .2 .0))
-          ; values-are = w .1 ∙ (h .cells .values-are ∙ cells-same l q X (N s) valueOf b (f .2 .0))
-          ; gotos-are = w .2 ∙ (ap (λ (m : List ℕ). set m (q * 64 + X - 64) s) (h .cells .gotos-are) ∙ gotos-set l q X (N s) c (f .1) (f .0) (f .2 .0) (f .2 .1) new)
-          ; formed = formed-snoc l (L q X (N s)) (h .cells .formed) f }
-      ; named-are = named-next (N s) s (eq-eqb s s refl) (λ y g. ne-eqb s y (λ z. g (sym z))) (w .3) }
-  action-more kinds′ values′ gotos′ named′ (A i) new f w = record
-      { cells = cell-more (A i) new f (f .1) (f .2) (w .0) (w .1) (w .2)
-      ; named-are = w .3 ∙ (h .named-are ∙ named-same l q X (A i) e d (λ y. refl)) }
-  action-more kinds′ values′ gotos′ named′ (P n) new f w = record
-      { cells = cell-more (P n) new f (f .1) (f .2) (w .0) (w .1) (w .2)
-      ; named-are = w .3 ∙ (h .named-are ∙ named-same l q X (P n) e d (λ y. refl)) }
+  action-more kinds′ values′ gotos′ named′ (S s) new f w = record {
+    cells = cell-more (S s) new f (f .1) (f .2) (w .0) (w .1) (w .2);
+    named-are = named-next (S s) s (eq-eqb s s refl) (λ y g. ne-eqb s y (λ z. g (sym z))) (w .3);
+  }
+  action-more kinds′ values′ gotos′ named′ (N s) new f w = record {
+    cells = record {
+      kinds-are = w .0 ∙ (h .cells .kinds-are ∙ cells-same l q X (N s) kindOf a (f .2 .0));
+      values-are = w .1 ∙ (h .cells .values-are ∙ cells-same l q X (N s) valueOf b (f .2 .0));
+      gotos-are = w .2 ∙ (ap (λ (m : List ℕ). set m (q * 64 + X - 64) s) (h .cells .gotos-are) ∙ gotos-set l q X (N s) c (f .1) (f .0) (f .2 .0) (f .2 .1) new);
+      formed = formed-snoc l (L q X (N s)) (h .cells .formed) f;
+    };
+    named-are = named-next (N s) s (eq-eqb s s refl) (λ y g. ne-eqb s y (λ z. g (sym z))) (w .3);
+  }
+  action-more kinds′ values′ gotos′ named′ (A i) new f w = record {
+    cells = cell-more (A i) new f (f .1) (f .2) (w .0) (w .1) (w .2);
+    named-are = w .3 ∙ (h .named-are ∙ named-same l q X (A i) e d (λ y. refl));
+  }
+  action-more kinds′ values′ gotos′ named′ (P n) new f w = record {
+    cells = cell-more (P n) new f (f .1) (f .2) (w .0) (w .1) (w .2);
+    named-are = w .3 ∙ (h .named-are ∙ named-same l q X (P n) e d (λ y. refl));
+  }
 
 -- without action lines, the states of entries are named
 pub none-named : (e : ℕ → Bool) (n : ℕ) → image n (λ q. flag (e q)) ≡ image n (λ q. flag (e q || isNamed [] q))

@@ -8,7 +8,6 @@ use table_lines::Judgement;
 use table_lines::Line;
 use table_lines::Step;
 use table_lines::Tally;
-
 ghost use mathlib.Core.Path.{_≡_};
 ghost use mathlib.Core.List.{List, []};
 ghost use mathlib.Core.Bool.{Bool, not};
@@ -63,7 +62,15 @@ fn is_second(kinds: &[u8], gotos: &[u8], state: usize, symbol: usize) -> bool
 }
 
 // Whether the symbol is of the kind that the letter asks for, and the next state or the rule is declared.
-fn action_declared(t: usize, n: usize, rules: usize, states: usize, letter: u8, symbol: usize, v: usize) -> bool
+fn action_declared(
+    t: usize,
+    n: usize,
+    rules: usize,
+    states: usize,
+    letter: u8,
+    symbol: usize,
+    v: usize,
+) -> bool
     requires { ⌜ n ≤ 64 ⌝ }
     ensures { λ r. ⌜ r ≡ actionDeclared t n rules states letter symbol v ⌝ }
 {
@@ -89,7 +96,17 @@ fn action_declared(t: usize, n: usize, rules: usize, states: usize, letter: u8, 
     true
 }
 
-fn judge_action(t: usize, n: usize, rules: usize, states: usize, letter: u8, p: Tally, numbers: &[usize], kinds: &[u8], gotos: &[u8]) -> Judgement
+fn judge_action(
+    t: usize,
+    n: usize,
+    rules: usize,
+    states: usize,
+    letter: u8,
+    p: Tally,
+    numbers: &[usize],
+    kinds: &[u8],
+    gotos: &[u8],
+) -> Judgement
     requires { ⌜ (n ≤ 64) × (length (now numbers) ≡ 67) × (16640 ≤ length (now kinds)) × (16640 ≤ length (now gotos)) ⌝ }
     ensures { λ r. ⌜ ((a b c : ℕ) (values : List ℕ) (l : List ActionLine) (ns : List ℕ) → Cells a b c l (now (kinds .entry)) values (now (gotos .entry)) → Held ns p (now (numbers .entry)) → r ≡ judgeAction t n rules states l letter ns) ⌝ }
 {
@@ -129,7 +146,16 @@ fn pop_value(count: usize) -> usize
 }
 
 // Stores the cell or the goto of a line, and marks its next state as named.
-fn store_action(letter: u8, state: usize, symbol: usize, v: usize, kinds: &mut [u8], values: &mut [u8], gotos: &mut [u8], named: &mut [u8])
+fn store_action(
+    letter: u8,
+    state: usize,
+    symbol: usize,
+    v: usize,
+    kinds: &mut [u8],
+    values: &mut [u8],
+    gotos: &mut [u8],
+    named: &mut [u8],
+)
     requires { ⌜ Formed (L state symbol (actionOf letter v)) ⌝ }
     ensures { λ r. ⌜ Stored (L state symbol (actionOf letter v)) (now (kinds .entry)) (now (values .entry)) (now (gotos .entry)) (now (named .entry)) (now (kinds .exit)) (now (values .exit)) (now (gotos .exit)) (now (named .exit)) ⌝ }
 {
@@ -155,7 +181,18 @@ fn store_action(letter: u8, state: usize, symbol: usize, v: usize, kinds: &mut [
 }
 
 // The action line at `at`.
-fn read_action(s: &[u8], at: usize, t: usize, n: usize, rules: usize, states: usize, kinds: &mut [u8], values: &mut [u8], gotos: &mut [u8], named: &mut [u8]) -> Step
+fn read_action(
+    s: &[u8],
+    at: usize,
+    t: usize,
+    n: usize,
+    rules: usize,
+    states: usize,
+    kinds: &mut [u8],
+    values: &mut [u8],
+    gotos: &mut [u8],
+    named: &mut [u8],
+) -> Step
     requires { ⌜ (length (now s) < 65537) × (t ≤ 63) × (n ≤ 64) × (rules ≤ 127) × (states ≤ 255) × (16640 ≤ length (now kinds)) × (16640 ≤ length (now gotos)) ⌝ }
     requires { ⌜ HoldsActions (now kinds) (now values) (now gotos) ⌝ }
     ensures { λ r. ⌜ ((e : ℕ → Bool) (a b c d : ℕ) (l : List ActionLine) → ActionMemory e a b c d l (now (kinds .entry)) (now (values .entry)) (now (gotos .entry)) (now (named .entry))
@@ -175,12 +212,32 @@ fn read_action(s: &[u8], at: usize, t: usize, n: usize, rules: usize, states: us
     if let Judgement::Faulty(kind) = judgement {
         return Step::Refused(Refusal { kind, place: at });
     }
-    store_action(letter, numbers[0], numbers[1], numbers[2], kinds, values, gotos, named);
+    store_action(
+        letter,
+        numbers[0],
+        numbers[1],
+        numbers[2],
+        kinds,
+        values,
+        gotos,
+        named,
+    );
     Step::Taken(next)
 }
 
 // The action lines from `first` on to the book's end.
-pub fn read_actions(s: &[u8], first: usize, t: usize, n: usize, rules: usize, states: usize, kinds: &mut [u8], values: &mut [u8], gotos: &mut [u8], named: &mut [u8]) -> Block
+pub fn read_actions(
+    s: &[u8],
+    first: usize,
+    t: usize,
+    n: usize,
+    rules: usize,
+    states: usize,
+    kinds: &mut [u8],
+    values: &mut [u8],
+    gotos: &mut [u8],
+    named: &mut [u8],
+) -> Block
     requires { ⌜ (length (now s) < 65537) × (t ≤ 63) × (n ≤ 64) × (rules ≤ 127) × (states ≤ 255) × (16640 ≤ length (now kinds)) × (16640 ≤ length (now gotos)) ⌝ }
     requires { ⌜ Cells (length (now kinds)) (length (now values)) (length (now gotos)) [] (now kinds) (now values) (now gotos) ⌝ }
     requires { ⌜ Flags (now named) ⌝ }

@@ -60,7 +60,7 @@ symbol-at ns k = getD-drop 1 ns k 0 ∙ ap (λ (n : ℕ). getD ns n 0) (swap k)
     swap k = omega arith
 
 -- ---- the entries looked at one after the other
-drop-at : {A : Type 0} (l : List A) (k : ℕ) {x : A} → at l k ≡ some x → drop k l ≡ x ∷ drop (suc k) l
+pub drop-at : {A : Type 0} (l : List A) (k : ℕ) {x : A} → at l k ≡ some x → drop k l ≡ x ∷ drop (suc k) l
 drop-at [] k e = let z : _≡_ {A = ℕ} 0 1 = cc in absurd (omega arith)
 drop-at (y ∷ l) zero {x} e = let q : y ≡ x = cc in ap (λ (z : _). z ∷ l) q
 drop-at (y ∷ l) (suc k) e = drop-at l k e

@@ -104,7 +104,7 @@ fn judge_entry(t: usize, n: usize, states: usize, rules: usize, entries: usize, 
 }
 
 // The row at `base`, all zeros so far, becomes that of the string of the numbers from the second on.
-fn store_row(items: &mut [u8], base: usize, numbers: &[usize], count: usize)
+pub fn store_row(items: &mut [u8], base: usize, numbers: &[usize], count: usize)
     requires { ⌜ (1 ≤ count) × (count ≤ 16) × (length (now numbers) ≡ 67) × (base ≤ 16384) ⌝ }
     requires { ⌜ ((k : ℕ) → k < count → getD (now numbers) k 0 < 256) ⌝ }
     requires { ⌜ ((j : ℕ) → base ≤ j → j < base + 64 → getD (now items) j 0 ≡ 0) ⌝ }

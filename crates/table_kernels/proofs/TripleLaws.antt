@@ -37,7 +37,7 @@ same-eq p j m q i k e =
     let b = both-true (eqb j i) (eqb m k) (a .1) in
     (eqb-true p q (a .0), eqb-true j i (b .0), eqb-true m k (b .1))
 
-same-no : (p j m q i k : ℕ) → ((p ≡ q) × (j ≡ i) × (m ≡ k) → ⊥) → same p j m q i k ≡ false
+pub same-no : (p j m q i k : ℕ) → ((p ≡ q) × (j ≡ i) × (m ≡ k) → ⊥) → same p j m q i k ≡ false
 same-no p j m q i k f = go (same p j m q i k) refl
   where
     go : (b : Bool) → same p j m q i k ≡ b → same p j m q i k ≡ false

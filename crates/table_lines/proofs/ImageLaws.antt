@@ -1,9 +1,9 @@
 -- Memory as the values of a function: what is read, and what a store changes.
-use Prim.Native.Nat.{ℕ, zero, suc, _+_, _≤_, _<_}
+use Prim.Native.Nat.{ℕ, zero, suc, _<_}
 use mathlib.Core.Path.{_≡_, refl, sym, ap, _∙_}
-use mathlib.Core.List.{List, [], _∷_}
+use mathlib.Core.List.{List, _∷_}
 use native.Mathlib.Nat.{le-of-suc-le-suc}
-use native.Mathlib.Decide.{ℕ-discrete, decLt}
+use native.Mathlib.Decide.{ℕ-discrete}
 use native.Mathlib.Omega.{arith}
 use lib.ListN.{length, getD, set, replicate, length-set}
 use lib.Seq.{ext-getD, getD-set-same, getD-set-other}
@@ -38,10 +38,11 @@ image-set n f h i v e same =
       where
         below : j < n
         below = omega (arith, l, length-set (image n f) i v, image-length n f)
+
         go : Dec (j ≡ i) → getD (set (image n f) i v) j 0 ≡ getD (image n h) j 0
         go (yes q) =
             ap (λ (k : ℕ). getD (set (image n f) i v) k 0) q
-              ∙ (getD-set-same (image n f) i v 0 (omega (arith, q, below, image-length n f)) ∙ (sym e ∙ (ap h (sym q) ∙ sym (image-at n h j below))))
+            ∙ (getD-set-same (image n f) i v 0 (omega (arith, q, below, image-length n f)) ∙ (sym e ∙ (ap h (sym q) ∙ sym (image-at n h j below))))
         go (no q) = getD-set-other (image n f) i j v 0 q ∙ (image-at n f j below ∙ (sym (same j q) ∙ sym (image-at n h j below)))
 
 -- what two functions that agree below n have in memory is the same

@@ -1,17 +1,15 @@
 -- Entry states and named states in memory are those of the table's lines.
-use Prim.Native.Nat.{ℕ, zero, suc, _≤_, _<_}
+use Prim.Native.Nat.{ℕ, zero, suc, _≤_}
 use native.Mathlib.Omega.{arith}
 use mathlib.Core.Path.{_≡_, refl, ap, _∙_}
 use mathlib.Core.Logic.{_⊎_, inl, inr}
 use mathlib.Core.Bool.{Bool, true, _||_}
 use mathlib.Core.List.{List}
 use mathlib.Core.Option.{some}
-use lib.ListN.{length, getD}
-use Rattle.language.specs.Grammar.{Grammar, at}
+use lib.ListN.{getD}
+use Rattle.language.specs.Grammar.{Grammar}
 use Rattle.language.specs.GrammarLaws.{not-there}
-use Rattle.language.specs.Sentence.{In}
-use Rattle.leftcorner.specs.Table.{EntryLine, E, Table, entryAt, stateOf}
-use Rattle.fixpoint.specs.Flags.{On}
+use Rattle.leftcorner.specs.Table.{E, Table, entryAt, stateOf}
 use Rattle.memory.specs.Memory.{HoldsEntries}
 use Rattle.memory.specs.Fits.{Fits}
 use Rattle.memory.proofs.RangeLaws.{entry-range}

@@ -9,11 +9,9 @@ use mathlib.Core.Option.{Option, some}
 use lib.ListN.{length, getD}
 use Rattle.language.specs.Grammar.{Grammar, at}
 use Rattle.language.specs.GrammarLaws.{at-below, at-range, rule-range}
-use Rattle.language.specs.Sentence.{In}
 use Rattle.language.specs.WellFormed as language
 use Rattle.leftcorner.specs.Table.{KernelLine, K, Table, symbolsOf, stringOf}
 use Rattle.leftcorner.specs.Sources.{symbols-rule, symbols-entry}
-use Rattle.fixpoint.specs.Flags.{On}
 use Rattle.memory.specs.Memory.{stateAt, itemAt, dotAt, HoldsKernels}
 use Rattle.memory.specs.Fits.{Fits}
 use Rattle.memory.proofs.RangeLaws.{entry-range}

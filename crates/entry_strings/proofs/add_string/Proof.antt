@@ -1,0 +1,74 @@
+-- A string that is found stays where it is; one that is not found gets the next row.
+use native.Mathlib.Omega.{arith}
+use borrow.Author.Needs.{needs}
+use denote.Ref.{now}
+use lib.ListN.{take, drop}
+use Rattle.table_lines.specs.Block.{Numbers}
+use Rattle.lalr.specs.Strings.{entryLines}
+use Rattle.entry_strings.proofs.NumberLaws.{string-fits, numbers-held}
+use Rattle.entry_strings.proofs.StoreLaws.{grown-same, grown-more, lines-count, rows-in, stored-same, stored-more}
+use Rattle.entry_strings.proofs.add_string.Statement.{statement}
+use Rattle.entry_strings.proofs.add_string.Tie as tie
+
+-- the numbers of the string
+held : (s : tie.Start) → Numbers (take (s .args .count) (now (s .args .numbers))) (s .args .count) (now (s .args .numbers))
+held s = numbers-held _ _ (omega (arith, s .pre .1 .0))
+
+find-entry-requires : tie.Need-find-entry-requires
+find-entry-requires c κs = search needs
+
+same-length : tie.Need-same-length
+same-length c = search needs
+
+returns : tie.Need-returns
+returns c = let s = c .before .before .before .before .before in (
+  grown-same (s .pre .0),
+  λ g l size h. stored-same h (drop 1 (take (s .args .count) (now (s .args .numbers))))
+      (c .before .find-entry .ensures (entryLines 1 l) (take (s .args .count) (now (s .args .numbers))) (lines-count h) (rows-in h (omega (arith, s .pre .1 .0))) (held s)) (λ z. omega (arith, z, c .if1 .taken)),
+)
+
+add-store-row : tie.Need-add-store-row
+add-store-row c = search needs
+
+add-store-row-2 : tie.Need-add-store-row-2
+add-store-row-2 c = search needs
+
+mul-store-row : tie.Need-mul-store-row
+mul-store-row c = search needs
+
+store-row-requires : tie.Need-store-row-requires
+store-row-requires c κs = let s = c .before .before .before .before .before .before in (
+  (s .pre .1 .0 .1, s .pre .1 .0 .2, s .pre .1 .0 .3, omega (arith, s .pre .0 .few-rules, s .pre .1 .0)),
+  ((λ k l. omega (arith, s .pre .1 .1 k)), (λ j a b. s .pre .0 .empty j a)),
+)
+
+add-result : tie.Need-add-result
+add-result c = search needs
+
+same-length-2 : tie.Need-same-length-2
+same-length-2 c = search needs
+
+returns-2 : tie.Need-returns-2
+returns-2 c = let s = c .before .before .before .before .before .before .before .before .before in
+    let few = s .pre .1 .0 .0 in
+    let fits = string-fits (now (s .args .numbers)) (s .args .count) (s .pre .1 .1) (s .pre .1 .0 .2) in
+    let e = c .before .before .store-row .ensures in (
+      grown-more (s .pre .0) few fits e,
+      λ g l size h. stored-more h (drop 1 (take (s .args .count) (now (s .args .numbers))))
+          (c .before .before .before .before .before .find-entry .ensures (entryLines 1 l) (take (s .args .count) (now (s .args .numbers))) (lines-count h) (rows-in h (omega (arith, few))) (held s)) (omega (arith, c .before .before .before .before .if1 .left)) fits e,
+    )
+
+pub add-string-spec : {M : Type 1} → statement M
+add-string-spec =
+    tie.close
+    (tie.spec
+    find-entry-requires
+    same-length
+    returns
+    add-store-row
+    add-store-row-2
+    mul-store-row
+    store-row-requires
+    add-result
+    same-length-2
+    returns-2)

@@ -1,0 +1,3 @@
+pub mod SinkLaws
+pub mod TextLaws
+pub mod BookLaws

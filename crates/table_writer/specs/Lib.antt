@@ -1,0 +1,5 @@
+pub mod MemoryTable
+pub mod Sink
+pub mod ActionLines
+pub mod InMemory
+pub mod BuiltOrder
