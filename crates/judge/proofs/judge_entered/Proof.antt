@@ -68,6 +68,15 @@ judge-states-requires c κs = let s = c .before .before .before .before .before 
     let k = c .before .before .before .before .before .before .before .before .before .before .before .before .before .before .before .before .before .before .find-sets .kept in let m = c .before .before .before .before .before .before .before .before .before .before .before .prepare-rules in
     (S, (record { linked = c .before .before .before .before .before .before .before .link-lines .ensures; uses-room = p .2; nul-room = k .1 .1 .1 .0; fst-room = k .1 .1 .1 .1 .0; starts-room = m .kept .1 .1 .1 .1 .1 .1 .0; through-room = m .kept .1 .1 .1 .1 .1 .1 .1 .0; prepared = m .ensures; few-codes = few-codes-of (p .0) }, (p .1, refl)))
 
+slice-aggregate-mark-narrow : tie.Need-slice-aggregate-mark-narrow
+slice-aggregate-mark-narrow c = search needs
+
+slice-aggregate-mark-narrow-2 : tie.Need-slice-aggregate-mark-narrow-2
+slice-aggregate-mark-narrow-2 c = search needs
+
+mark-narrow-requires : tie.Need-mark-narrow-requires
+mark-narrow-requires c κs = ?
+
 slice-aggregate-mark-goal : tie.Need-slice-aggregate-mark-goal
 slice-aggregate-mark-goal c = search needs
 
@@ -115,6 +124,9 @@ judge-entered-spec =
     slice-aggregate-judge-states-5
     slice-aggregate-judge-states-6
     judge-states-requires
+    slice-aggregate-mark-narrow
+    slice-aggregate-mark-narrow-2
+    mark-narrow-requires
     slice-aggregate-mark-goal
     slice-aggregate-mark-goal-2
     mark-goal-requires
