@@ -12,7 +12,8 @@ use Rattle.leftcorner.specs.Table.{Table}
 use Rattle.leftcorner.specs.Construction.{WellFormed, LookaheadsMeet}
 use Rattle.fixpoint.specs.Flags.{On, Off, Decides}
 use Rattle.lookaheads.specs.Narrow.{Narrowing, Narrows}
-use Rattle.lookaheads.specs.Sources.{GoalMeets, LookaheadsFrom, lookaheads-all, lookaheads-from, lookaheads-goal}
+use Rattle.lookaheads.specs.Sources.{GoalMeets, LookaheadsBelow, lookaheads-all, lookaheads-below, lookaheads-goal}
+use Rattle.lookaheads.proofs.BelowLaws.{below-start, below-state}
 use Rattle.judge.specs.Faults.{Fault, noted, StateJudged, Found}
 
 pub fault-start : {Φ : ℕ → Type 0} → Fault Φ 1 0
@@ -63,46 +64,42 @@ was-off {fs₀ = fs₀} n x off = go (ℕ-discrete (getD fs₀ x 0) 0)
     go (yes e) = e
     go (no e) = absurd (n .kept x (record { nonzero = e }) .nonzero off)
 
-module _ (g : Grammar) (t : Table) (F : List ℕ → ℕ → ℕ → Type 0) where
-  pub found-start : {narrow : List ℕ} → ((q : ℕ) → Off narrow q) → Found g t F 1 0 0 0 narrow
+module _ (g : Grammar) (t : Table) (F : List ℕ → ℕ → ℕ → Type 0) (kernels : List ℕ) (lines codes : ℕ) where
+  pub found-start : {grown : List ℕ} → ((y : ℕ) → Off grown y) → Found g t F kernels lines codes 1 0 0 0 grown
   found-start z = record {
     items-fault = fault-start;
     agree-fault = fault-start;
     cells-fault = λ e. fault-start;
-    flagged = λ q on m. on .nonzero (z q);
-    rest = λ q off p a l. absurd (omega (arith, a, l));
+    asked = below-start g t F kernels lines codes z;
   }
 
-  pub found-more : {q items agree cells : ℕ} {a b c : Bool} {narrow₀ narrow : List ℕ} → 1 ≤ q → Found g t F q items agree cells narrow₀
-      → StateJudged g t F q a b c narrow₀ narrow → Found g t F (q + 1) (noted items a q) (noted agree b q) (noted cells c q) narrow
-  found-more {q} {items} {agree} {cells} {a} {b} {c} {narrow₀} {narrow} one f s = record {
+  pub found-more : {q items agree cells : ℕ} {a b c : Bool} {grown₀ grown : List ℕ} → 1 ≤ q → Found g t F kernels lines codes q items agree cells grown₀
+      → StateJudged g t F kernels lines codes q a b c grown₀ grown → Found g t F kernels lines codes (q + 1) (noted items a q) (noted agree b q) (noted cells c q) grown
+  found-more {q} {items} {agree} {cells} {a} {b} {c} one f s = record {
     items-fault = fault-more q items a one (s .items-meet) (f .items-fault);
     agree-fault = fault-more q agree b one (s .cells-agree) (f .agree-fault);
     cells-fault = λ e. let z = noted-none agree b q one e in fault-more q cells c one (s .cells-meet (z .1)) (f .cells-fault (z .0));
-    flagged = λ x on m. old x m (s .narrows .narrowing .only x on);
-    rest = λ x off p l h. new x off p l h (decLt p q);
+    asked = below-state g t F kernels lines codes one (f .asked) (s .adds);
   }
-    where
-      old : (x : ℕ) → LookaheadsMeet g t F x → On narrow₀ x ⊎ (LookaheadsFrom g t F q x → ⊥) → ⊥
-      old x m (inl on) = f .flagged x on m
-      old x m (inr h) = h (lookaheads-from g t F x m q)
 
-      new : (x : ℕ) → Off narrow x → (p : ℕ) → 1 ≤ p → p < q + 1 → Dec (p < q) → LookaheadsFrom g t F p x
-      new x off p l h (yes m) = f .rest x (was-off (s .narrows .narrowing) x off) p l m
-      new x off p l h (no m) = subst (λ (y : ℕ). LookaheadsFrom g t F y x) (let e : q ≡ p = omega (arith, h, m) in e) (s .narrows .rest x off)
-
-  -- with the goal's, the flags tell where lookaheads are too few
+module _ (g : Grammar) (t : Table) (F : List ℕ → ℕ → ℕ → Type 0) where
+  -- the flags tell where lookaheads are too few
   pub record Flags (narrow : List ℕ) : Type 0 where
     pub on : (q : ℕ) → On narrow q → LookaheadsMeet g t F q → ⊥
     pub off : (q : ℕ) → Off narrow q → LookaheadsMeet g t F q
 
-  pub flags-all : WellFormed g t → {n items agree cells : ℕ} {narrow₀ narrow : List ℕ} → t .states < n → Found g t F n items agree cells narrow₀
+  -- those of what the states ask, and the goal's
+  pub flags-all : WellFormed g t → {n : ℕ} {none narrow₀ narrow : List ℕ} → t .states < n → ((q : ℕ) → Off none q) → Narrows (LookaheadsBelow g t F n) none narrow₀
       → Narrows (GoalMeets g t) narrow₀ narrow → Flags narrow
-  flags-all W {n} {narrow₀ = narrow₀} {narrow = narrow} above f s = record {
-    on = λ q on m. old q m (s .narrowing .only q on);
-    off = λ q off. lookaheads-all g t F W q (λ p a b. f .rest q (was-off (s .narrowing) q off) p a (omega (arith, b, above))) (s .rest q off);
+  flags-all W {n} {none} {narrow₀} above z b s = record {
+    on = λ q on m. by-goal q m (s .narrowing .only q on);
+    off = λ q off. lookaheads-all g t F W above q (b .rest q (was-off (s .narrowing) q off)) (s .rest q off);
   }
     where
-      old : (x : ℕ) → LookaheadsMeet g t F x → On narrow₀ x ⊎ (GoalMeets g t x → ⊥) → ⊥
-      old x m (inl on) = f .flagged x on m
-      old x m (inr h) = h (lookaheads-goal g t F x m)
+      by-states : (q : ℕ) → LookaheadsMeet g t F q → On none q ⊎ (LookaheadsBelow g t F n q → ⊥) → ⊥
+      by-states q m (inl on) = on .nonzero (z q)
+      by-states q m (inr h) = h (lookaheads-below g t F n q m)
+
+      by-goal : (q : ℕ) → LookaheadsMeet g t F q → On narrow₀ q ⊎ (GoalMeets g t q → ⊥) → ⊥
+      by-goal q m (inl on) = by-states q m (b .narrowing .only q on)
+      by-goal q m (inr h) = h (lookaheads-goal g t F q m)

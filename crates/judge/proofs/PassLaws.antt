@@ -1,9 +1,10 @@
 -- The pass over the states, and what it finds in the end.
-use Prim.Native.Nat.{ℕ, suc, _+_, _≤_, _<_}
+use Prim.Native.Nat.{ℕ, suc, _+_, _*_, _≤_, _<_}
 use native.Mathlib.Omega.{arith}
 use mathlib.Core.Path.{_≡_, sym, subst}
 use mathlib.Core.Bool.{Bool}
 use mathlib.Core.List.{List}
+use lib.ListN.{replicate}
 use Rattle.language.specs.Grammar.{Grammar}
 use Rattle.leftcorner.specs.Table.{Table}
 use Rattle.leftcorner.specs.Construction.{EntriesMeet, LookaheadsMeet}
@@ -12,7 +13,10 @@ use Rattle.fixpoint.specs.Flags.{Off}
 use Rattle.analysis.specs.InMemory.{SetsOf}
 use Rattle.closure.specs.FirstBy.{FirstBy}
 use Rattle.lookaheads.specs.Narrow.{Narrows}
+use Rattle.lookaheads.specs.Memory.{StateCovers}
 use Rattle.lookaheads.specs.Sources.{GoalMeets}
+use Rattle.lookaheads.proofs.MeetLaws.{narrows-below}
+use Rattle.entry_list.proofs.ListLaws.{zeros-of}
 use Rattle.memory.specs.Held.{Held}
 use Rattle.judge.specs.Accepts.{tableVerdict}
 use Rattle.judge.specs.Faults.{Fault, noted, answerOf, StateJudged, Found}
@@ -23,25 +27,29 @@ use Rattle.judge.proofs.VerdictLaws.{found-verdict}
 pub low-state : {q n : ℕ} → q ≤ n → n ≤ 255 → q < 256
 low-state a b = omega (arith, a, b)
 
-module _ (g : Grammar) (t : Table) (F : List ℕ → ℕ → ℕ → Type 0) where
-  pub found-noted : {q items agree cells x y z : ℕ} {a b c : Bool} {narrow₀ narrow : List ℕ} → 1 ≤ q → x ≡ noted items a q → y ≡ noted agree b q → z ≡ noted cells c q
-      → Found g t F q items agree cells narrow₀ → StateJudged g t F q a b c narrow₀ narrow → Found g t F (q + 1) x y z narrow
-  found-noted {q} {items} {agree} {cells} {x} {y} {z} {a} {b} {c} {narrow = narrow} one ex ey ez f s =
-      subst (λ (n : ℕ). Found g t F (q + 1) x y n narrow) (sym ez)
-      (subst (λ (n : ℕ). Found g t F (q + 1) x n (noted cells c q) narrow) (sym ey)
-      (subst (λ (n : ℕ). Found g t F (q + 1) n (noted agree b q) (noted cells c q) narrow) (sym ex) (found-more g t F one f s)))
+module _ (g : Grammar) (t : Table) (F : List ℕ → ℕ → ℕ → Type 0) {kernels : List ℕ} {lines codes : ℕ} where
+  pub found-noted : {q items agree cells x y z : ℕ} {a b c : Bool} {grown₀ grown : List ℕ} → 1 ≤ q → x ≡ noted items a q → y ≡ noted agree b q → z ≡ noted cells c q
+      → Found g t F kernels lines codes q items agree cells grown₀ → StateJudged g t F kernels lines codes q a b c grown₀ grown → Found g t F kernels lines codes (q + 1) x y z grown
+  found-noted {q} {items} {agree} {cells} {x} {y} {z} {a} {b} {c} {grown = grown} one ex ey ez f s =
+      subst (λ (n : ℕ). Found g t F kernels lines codes (q + 1) x y n grown) (sym ez)
+      (subst (λ (n : ℕ). Found g t F kernels lines codes (q + 1) x n (noted cells c q) grown) (sym ey)
+      (subst (λ (n : ℕ). Found g t F kernels lines codes (q + 1) n (noted agree b q) (noted cells c q) grown) (sym ex) (found-more g t F kernels lines codes one f s)))
 
-  pub found-end : {q n x y z : ℕ} {narrow : List ℕ} → q ≤ n + 1 → n < q → Found g t F q x y z narrow → Found g t F (n + 1) x y z narrow
-  found-end {q} {n} {x} {y} {z} {narrow} a b f = subst (λ (m : ℕ). Found g t F m x y z narrow) (let e : q ≡ n + 1 = omega (arith, a, b) in e) f
+  pub found-end : {q n x y z : ℕ} {grown : List ℕ} → q ≤ n + 1 → n < q → Found g t F kernels lines codes q x y z grown → Found g t F kernels lines codes (n + 1) x y z grown
+  found-end {q} {n} {x} {y} {z} {grown} a b f = subst (λ (m : ℕ). Found g t F kernels lines codes m x y z grown) (let e : q ≡ n + 1 = omega (arith, a, b) in e) f
 
-  -- the lowest flag is the lowest state whose lookaheads are too few
-  pub narrow-fault : {narrow : List ℕ} {n at : ℕ} → Flags g t F narrow → Fault (Off narrow) n at → Fault (LookaheadsMeet g t F) n at
-  narrow-fault {narrow} {n} {at} w f = record {
-    low = f .low;
-    none = λ e k a l. w .off k (f .none e k a l);
-    before = λ k a l. w .off k (f .before k a l);
-    fails = λ a m. w .on at (record { nonzero = f .fails a }) m;
-  }
+-- the lowest flag is the lowest state whose lookaheads are too few
+pub narrow-fault : (g : Grammar) (t : Table) (F : List ℕ → ℕ → ℕ → Type 0) {narrow : List ℕ} {n at : ℕ} → Flags g t F narrow → Fault (Off narrow) n at → Fault (LookaheadsMeet g t F) n at
+narrow-fault g t F {narrow} {n} {at} w f = record {
+  low = f .low;
+  none = λ e k a l. w .off k (f .none e k a l);
+  before = λ k a l. w .off k (f .before k a l);
+  fails = λ a m. w .on at (record { nonzero = f .fails a }) m;
+}
+
+-- room for the flags of all lines
+pub lines-room : {lines n : ℕ} → lines ≤ 1023 → n ≡ 65536 → lines * 64 ≤ n
+lines-room a e = omega (arith, a, e)
 
 pub few-codes-of : {n : ℕ} → n ≤ 63 → n + 1 ≤ 64
 few-codes-of a = omega (arith, a)
@@ -66,14 +74,16 @@ pub terminals-are : {n m : ℕ} → n + 1 ≡ suc m → m ≡ n
 terminals-are e = omega (arith, e)
 
 -- the reply to what the pass found
-pub pass-verdict : (g : Grammar) (t : Table) {items entries kernels lookaheads kinds values gotos named nul fst narrow₀ narrow : List ℕ} {rules strings lines states codes : ℕ}
+pub pass-verdict : (g : Grammar) (t : Table) {items entries kernels lookaheads kinds values gotos named nul fst grown none narrow₀ narrow : List ℕ} {rules strings lines states codes : ℕ}
     → Given g t items entries kernels lookaheads kinds values gotos named rules strings lines states codes → EntriesMeet g t → SetsOf g nul fst
-    → (a b c d : ℕ) → Found g t (FirstBy codes nul fst) (states + 1) a c d narrow₀ → Narrows (GoalMeets g t) narrow₀ narrow → Fault (Off narrow) (states + 1) b
+    → (a b c d : ℕ) → Found g t (FirstBy codes nul fst) kernels lines codes (states + 1) a c d grown → (n : ℕ) → none ≡ replicate n 0
+    → Narrows (StateCovers kernels grown lookaheads lines codes) none narrow₀ → Narrows (GoalMeets g t) narrow₀ narrow → Fault (Off narrow) (states + 1) b
     → answerOf a b c d ≡ tableVerdict g t
-pass-verdict g t {nul = nul} {fst = fst} {narrow₀ = narrow₀} {states = states} {codes = codes} G E S a b c d f n l =
+pass-verdict g t {kernels = kernels} {nul = nul} {fst = fst} {grown = grown} {lines = lines} {states = states} {codes = codes} G E S a b c d f n z w m l =
     let H = G .held in
     let F : List ℕ → ℕ → ℕ → Type 0 = FirstBy codes nul fst in
     let e : states + 1 ≡ suc (t .states) = omega (arith, G .state-count) in
+    let flags = flags-all g t F (H .fits .form) (omega (arith, G .state-count)) (zeros-of n z) (narrows-below g t H nul fst (G .code-count) (f .asked) w) m in
     found-verdict g t (H .formed) (H .fits .form) E (G .code-count) S a b c d
-    (subst (λ (m : ℕ). Found g t F m a c d narrow₀) e f)
-    (subst (λ (m : ℕ). Fault (LookaheadsMeet g t F) m b) e (narrow-fault g t F (flags-all g t F (H .fits .form) (omega (arith, G .state-count)) f n) l))
+    (subst (λ (k : ℕ). Found g t F kernels lines codes k a c d grown) e f)
+    (subst (λ (k : ℕ). Fault (LookaheadsMeet g t F) k b) e (narrow-fault g t F flags l))

@@ -71,7 +71,7 @@ list-verdict g t f = sym (is-list g t (FirstByRules g) _ _ _ _ _ f)
 
 -- what the flags tell is the verdict
 pub found-verdict : (g : Grammar) (t : Table) → language.WellFormed g → WellFormed g t → EntriesMeet g t → {n : ℕ} {nul fst : List ℕ} → n ≡ suc (g .terminals) → SetsOf g nul fst
-    → (a b c d : ℕ) {narrow : List ℕ} → Found g t (FirstBy n nul fst) (suc (t .states)) a c d narrow → Fault (LookaheadsMeet g t (FirstBy n nul fst)) (suc (t .states)) b
+    → (a b c d : ℕ) {kernels grown : List ℕ} {lines : ℕ} → Found g t (FirstBy n nul fst) kernels lines n (suc (t .states)) a c d grown → Fault (LookaheadsMeet g t (FirstBy n nul fst)) (suc (t .states)) b
     → answerOf a b c d ≡ tableVerdict g t
 unfolding tableVerdict
 found-verdict g t w W E {n} {nul} {fst} count S a b c d f fb =

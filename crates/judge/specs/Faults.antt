@@ -5,14 +5,15 @@ use mathlib.Core.Bool.{Bool, true, false}
 use mathlib.Core.List.{List}
 use Rattle.language.specs.Grammar.{Grammar}
 use Rattle.leftcorner.specs.Table.{Table}
-use Rattle.leftcorner.specs.Construction.{ItemsMeet, CellsAgree, CellsMeet, LookaheadsMeet}
+use Rattle.leftcorner.specs.Construction.{ItemsMeet, CellsAgree, CellsMeet}
 use Rattle.reply.specs.declared.Kind.the-variants.{ItemMismatch, MissingLookahead, Conflict, CellMismatch}
 use Rattle.reply.specs.declared.Reply.{Reply}
 use Rattle.reply.specs.declared.Reply.the-variants.{Accepted}
 use Rattle.verdict.specs.Verdict.{refused}
-use Rattle.fixpoint.specs.Flags.{On, Off, Decides}
-use Rattle.lookaheads.specs.Narrow.{Narrows}
-use Rattle.lookaheads.specs.Sources.{LookaheadsFrom}
+use Rattle.fixpoint.specs.Flags.{Decides, Marks}
+use Rattle.closure.specs.Adds.{Adds}
+use Rattle.inclusions.specs.Included.{Includes, FlagAsked}
+use Rattle.lookaheads.specs.Sources.{IncludesBelow}
 
 -- `at` is the lowest of 1 .. n - 1 at which Φ fails, 0 where it fails at none
 pub record Fault (Φ : ℕ → Type 0) (n at : ℕ) : Type 0 where
@@ -35,18 +36,17 @@ answerOf zero zero (suc c) d = refused Conflict (suc c)
 answerOf zero zero zero (suc d) = refused CellMismatch (suc d)
 answerOf zero zero zero zero = Accepted 0
 
-module _ (g : Grammar) (t : Table) (F : List ℕ → ℕ → ℕ → Type 0) where
-  -- what is told of state q alone; cells are told of where its items agree
-  pub record StateJudged (q : ℕ) (items agree cells : Bool) (narrow₀ narrow : List ℕ) : Type 0 where
+module _ (g : Grammar) (t : Table) (F : List ℕ → ℕ → ℕ → Type 0) (kernels : List ℕ) (lines codes : ℕ) where
+  -- what is told of state q alone, and what its items ask is added to `grown`; cells are told of where its items agree
+  pub record StateJudged (q : ℕ) (items agree cells : Bool) (grown₀ grown : List ℕ) : Type 0 where
     pub items-meet : Decides (ItemsMeet g t q) items
     pub cells-agree : Decides (CellsAgree g t F q) agree
     pub cells-meet : agree ≡ true → Decides (CellsMeet g t F q) cells
-    pub narrows : Narrows (LookaheadsFrom g t F q) narrow₀ narrow
+    pub adds : Adds (FlagAsked (Includes g t F q) kernels lines codes) grown₀ grown
 
-  -- what is told of the states 1 .. n - 1
-  pub record Found (n items agree cells : ℕ) (narrow : List ℕ) : Type 0 where
+  -- what is told of the states 1 .. n - 1; `grown` has what their items ask
+  pub record Found (n items agree cells : ℕ) (grown : List ℕ) : Type 0 where
     pub items-fault : Fault (ItemsMeet g t) n items
     pub agree-fault : Fault (CellsAgree g t F) n agree
     pub cells-fault : agree ≡ 0 → Fault (CellsMeet g t F) n cells
-    pub flagged : (q : ℕ) → On narrow q → LookaheadsMeet g t F q → ⊥
-    pub rest : (q : ℕ) → Off narrow q → (p : ℕ) → 1 ≤ p → p < n → LookaheadsFrom g t F p q
+    pub asked : Marks (FlagAsked (IncludesBelow g t F n) kernels lines codes) grown

@@ -22,7 +22,7 @@ struct State {
     cells: bool,
 }
 
-// Tells of state q, and flags the states that do not have the lookaheads that its items ask.
+// Tells of state q, and flags in `grown` the lookaheads that its items ask.
 fn judge_state(
     items: &[u8],
     entries: &[u8],
@@ -43,14 +43,14 @@ fn judge_state(
     lines: usize,
     codes: usize,
     q: usize,
-    narrow: &mut [u8],
+    grown: &mut [u8],
 ) -> State
     requires { ⌜ Sized (now items) (now entries) (now kernels) (now lookaheads) (now kinds) (now values) (now gotos) (now named) rules strings lines ⌝ }
     requires { ⌜ Computed (now items) (now kernels) (now links) (now uses) (now nul) (now fst) (now starts) (now through) rules lines codes ⌝ }
-    requires { ⌜ (1 ≤ q) × (q < 256) × (length (now narrow) ≡ 256) ⌝ }
-    ensures { λ s. ⌜ length (now (narrow .exit)) ≡ 256 ⌝ }
+    requires { ⌜ (1 ≤ q) × (q < 256) × (length (now grown) ≡ 65536) ⌝ }
+    ensures { λ s. ⌜ length (now (grown .exit)) ≡ 65536 ⌝ }
     ensures { λ s. ⌜ ((g : Grammar) (t : Table) (states : ℕ) → Given g t (now (items .entry)) (now (entries .entry)) (now (kernels .entry)) (now (lookaheads .entry)) (now (kinds .entry)) (now (values .entry)) (now (gotos .entry)) (now (named .entry)) rules strings lines states codes → HoldsUses (now (uses .entry)) g t → q ≤ states
-        → StateJudged g t (FirstBy codes (now (nul .entry)) (now (fst .entry))) q (s .items) (s .agree) (s .cells) (now (narrow .entry)) (now (narrow .exit))) ⌝ }
+        → StateJudged g t (FirstBy codes (now (nul .entry)) (now (fst .entry))) (now (kernels .entry)) lines codes q (s .items) (s .agree) (s .cells) (now (grown .entry)) (now (grown .exit))) ⌝ }
 {
     let count = rules + strings;
     let mut present = [0u8; 64];
@@ -100,7 +100,7 @@ fn judge_state(
         lines,
         q,
     );
-    lookaheads::mark_narrow(
+    inclusions::add_inclusions(
         items,
         kernels,
         links,
@@ -119,7 +119,7 @@ fn judge_state(
         lines,
         codes,
         q,
-        narrow,
+        grown,
     );
     let agree = cells::ask_cells(
         items,
@@ -221,14 +221,14 @@ fn judge_states(
     lines: usize,
     codes: usize,
     states: usize,
-    narrow: &mut [u8],
+    grown: &mut [u8],
 ) -> Faults
     requires { ⌜ Sized (now items) (now entries) (now kernels) (now lookaheads) (now kinds) (now values) (now gotos) (now named) rules strings lines ⌝ }
     requires { ⌜ Computed (now items) (now kernels) (now links) (now uses) (now nul) (now fst) (now starts) (now through) rules lines codes ⌝ }
-    requires { ⌜ (states ≤ 255) × (now narrow ≡ replicate 256 0) ⌝ }
-    ensures { λ f. ⌜ length (now (narrow .exit)) ≡ 256 ⌝ }
+    requires { ⌜ (states ≤ 255) × (now grown ≡ replicate 65536 0) ⌝ }
+    ensures { λ f. ⌜ length (now (grown .exit)) ≡ 65536 ⌝ }
     ensures { λ f. ⌜ ((g : Grammar) (t : Table) → Given g t (now (items .entry)) (now (entries .entry)) (now (kernels .entry)) (now (lookaheads .entry)) (now (kinds .entry)) (now (values .entry)) (now (gotos .entry)) (now (named .entry)) rules strings lines states codes → HoldsUses (now (uses .entry)) g t
-        → Found g t (FirstBy codes (now (nul .entry)) (now (fst .entry))) (states + 1) (f .items) (f .agree) (f .cells) (now (narrow .exit))) ⌝ }
+        → Found g t (FirstBy codes (now (nul .entry)) (now (fst .entry))) (now (kernels .entry)) lines codes (states + 1) (f .items) (f .agree) (f .cells) (now (grown .exit))) ⌝ }
 {
     let mut wrong = 0;
     let mut clash = 0;
@@ -255,7 +255,7 @@ fn judge_states(
             lines,
             codes,
             q,
-            narrow,
+            grown,
         );
         wrong = note(wrong, s.items, q);
         clash = note(clash, s.agree, q);
@@ -298,6 +298,7 @@ fn judge_entered(
     let mut starts = [0u8; 8192];
     let mut through = [0u8; 128];
     let mut links = [0usize; 1280];
+    let mut grown = [0u8; 65536];
     let mut narrow = [0u8; 256];
     analysis::find_sets(items, terminals, rules, &mut nul, &mut fst);
     closure::prepare_rules(
@@ -331,6 +332,15 @@ fn judge_entered(
         lines,
         codes,
         states,
+        &mut grown,
+    );
+    lookaheads::mark_narrow(
+        kernels,
+        &grown,
+        lookaheads,
+        lines,
+        count,
+        codes,
         &mut narrow,
     );
     lookaheads::mark_goal(

@@ -10,7 +10,7 @@ use Rattle.language.specs.Grammar.{Grammar}
 use Rattle.language.specs.Sentence.{In}
 use Rattle.leftcorner.specs.Table.{EntryLine, E, Table, entryAt}
 use Rattle.leftcorner.specs.Construction.{entryItem, EntryAt, KernelAt}
-use Rattle.fixpoint.specs.Flags.{On}
+use Rattle.fixpoint.specs.Flags.{On, Marks}
 use Rattle.fixpoint.proofs.CountLaws.{on-set}
 use Rattle.fixpoint.proofs.PassLaws.{all-off}
 use Rattle.memory.specs.Memory.{stateAt, itemAt, dotAt}
@@ -26,7 +26,7 @@ use Rattle.inclusions.specs.Included.{by-move, by-group, Includes, FlagAsked}
 use Rattle.inclusions.proofs.FlagLaws.{flag-at, flag-line}
 use Rattle.lookaheads.specs.Narrow.{Narrows}
 use Rattle.lookaheads.specs.Memory.{StateCovers}
-use Rattle.lookaheads.specs.Sources.{LookaheadsFrom, GoalMeets}
+use Rattle.lookaheads.specs.Sources.{LookaheadsFrom, GoalMeets, LookaheadsBelow, IncludesBelow}
 use Rattle.lookaheads.proofs.NarrowLaws.{narrows-map}
 
 module _ (g : Grammar) (t : Table) {items entries kernels lookaheads kinds values gotos : List ℕ} {rules strings lines : ℕ}
@@ -45,36 +45,42 @@ module _ (g : Grammar) (t : Table) {items entries kernels lookaheads kinds value
       let r = line-at g t (H .holds-kernels) (H .line-count) (record { within = low; state = refl; item = refl; dot = refl }) in
       H .holds-kernels .code-on l (stateAt kernels l) (itemAt kernels l) (dotAt kernels l) c (r .2) (f (r .0) (r .1))
 
-  module _ {codes : ℕ} (nul fst : List ℕ) (count : codes ≡ suc (g .terminals)) {p : ℕ} {none grown : List ℕ} (n : ℕ) (is-none : none ≡ replicate n 0)
-      (a : Adds (FlagAsked (Includes g t (FirstBy codes nul fst) p) kernels lines codes) none grown) where
+  -- ---- the states below n
+  module _ {codes : ℕ} (nul fst : List ℕ) (count : codes ≡ suc (g .terminals)) {n : ℕ} {grown : List ℕ}
+      (a : Marks (FlagAsked (IncludesBelow g t (FirstBy codes nul fst) n) kernels lines codes) grown) where
     few : codes ≤ 64
     few = omega (arith, H .formed .few-terminals)
 
-    meets : (q : ℕ) → StateCovers kernels grown lookaheads lines codes q → LookaheadsFrom g t (FirstBy codes nul fst) p q
+    meets : (q : ℕ) → StateCovers kernels grown lookaheads lines codes q → LookaheadsBelow g t (FirstBy codes nul fst) n q
     meets q h = record {
-      of-move = λ X i k d β σ x act nx car go m.
-          let low = code-low g t H nul fst count car in
-          covered-in h few low m (λ l w. a .every (l * 64 + d) (flag-at l w low refl (by-move (record { action = x; line = act; next = nx }) car go)));
-      of-group = λ e i d c γ σ r δs εs ent er split car f m.
-          let low = first-low codes nul fst (code-low g t H nul fst count car) f in
-          covered-in h few low m (λ l w. a .every (l * 64 + c) (flag-at l w low refl (by-group e δs εs ent er split car f)));
+      from = λ p above below. record {
+        of-move = λ X i k d β σ x act nx car go m.
+            asked-in (code-low g t H nul fst count car) m (record { state = p; above = above; below = below; includes = by-move (record { action = x; line = act; next = nx }) car go });
+        of-group = λ e i d c γ σ r δs εs ent er split car f m.
+            asked-in (first-low codes nul fst (code-low g t H nul fst count car) f) m
+            (record { state = p; above = above; below = below; includes = by-group e δs εs ent er split car f });
+      };
     }
+      where
+        asked-in : {i k c : ℕ} {σ : List ℕ} → c < codes → KernelAt g t q i k σ → IncludesBelow g t (FirstBy codes nul fst) n q i k c → In c σ
+        asked-in {c = c} low m x = covered-in h few low m (λ l w. a .every (l * 64 + c) (flag-at l w low refl x))
 
-    included-in : {q i k c : ℕ} → LookaheadsFrom g t (FirstBy codes nul fst) p q → Includes g t (FirstBy codes nul fst) p q i k c → (σ : List ℕ) → KernelAt g t q i k σ → In c σ
+    included-in : {p q i k c : ℕ} → LookaheadsFrom g t (FirstBy codes nul fst) p q → Includes g t (FirstBy codes nul fst) p q i k c → (σ : List ℕ) → KernelAt g t q i k σ → In c σ
     included-in L (by-move {i = i} {k = k} {c = c} {X = X} {β = β} l car go) σ m = L .of-move X i k c β σ (l .action) (l .line) (l .next) car go m
     included-in L (by-group {i = i} {c = c} {d = d} e {γ = γ} {r = r} δs εs ent er split car f) σ m = L .of-group e i d c γ σ r δs εs ent er split car f m
 
-    covers : (q : ℕ) → LookaheadsFrom g t (FirstBy codes nul fst) p q → StateCovers kernels grown lookaheads lines codes q
-    covers q L = record { each = λ l low e. record { covered = λ c lc on. go l c low e lc (a .only (l * 64 + c) on) } }
-      where
-        go : (l c : ℕ) → l < lines → stateAt kernels l ≡ q → c < codes
-            → On none (l * 64 + c) ⊎ FlagAsked (Includes g t (FirstBy codes nul fst) p) kernels lines codes (l * 64 + c) → On lookaheads (l * 64 + c)
-        go l c low e lc (inl on) = all-off n is-none on
-        go l c low e lc (inr f) =
-            in-covered c low (included-in (subst (LookaheadsFrom g t (FirstBy codes nul fst) p) (sym e) L) (flag-line l c few (omega (arith, lc, few)) f .1))
+    covers : (q : ℕ) → LookaheadsBelow g t (FirstBy codes nul fst) n q → StateCovers kernels grown lookaheads lines codes q
+    covers q L = record {
+      each = λ l low e. record {
+        covered = λ c lc on.
+            let x = flag-line l c few (omega (arith, lc, few)) (a .only (l * 64 + c) on) .1 in
+            in-covered c low (included-in (subst (LookaheadsBelow g t (FirstBy codes nul fst) n) (sym e) L .from (x .state) (x .above) (x .below)) (x .includes));
+      };
+    }
 
-    pub narrows-from : {fs fs′ : List ℕ} → Narrows (StateCovers kernels grown lookaheads lines codes) fs fs′ → Narrows (LookaheadsFrom g t (FirstBy codes nul fst) p) fs fs′
-    narrows-from w = narrows-map meets covers w
+    -- states whose lines are asked for more than they have are those whose lookaheads are too few
+    pub narrows-below : {fs fs′ : List ℕ} → Narrows (StateCovers kernels grown lookaheads lines codes) fs fs′ → Narrows (LookaheadsBelow g t (FirstBy codes nul fst) n) fs fs′
+    narrows-below w = narrows-map meets covers w
 
   -- ---- the goal
   module _ (some-entry : 1 ≤ strings) {row none grown : List ℕ} {s : ℕ} (is-s : s ≡ getD entries 1 0) (is-row : row ≡ set (replicate 64 0) 0 1) (n : ℕ) (is-none : none ≡ replicate n 0)

@@ -1,6 +1,7 @@
 -- Reply 8 by the state that an inclusion comes from: document 01 asks them of the state whose lookaheads are too few ("narrow").
 use Prim.Native.Nat.{ℕ, zero, suc, _≤_, _<_, _+_}
 use mathlib.Core.Path.{_≡_}
+use native.Mathlib.Omega.{arith}
 use mathlib.Core.List.{List, _∷_, _++_}
 use mathlib.Core.Option.{some}
 use lib.ListN.{length}
@@ -8,6 +9,7 @@ use Rattle.language.specs.Grammar.{Grammar, Rule, ruleAt, concat}
 use Rattle.language.specs.Sentence.{In}
 use Rattle.leftcorner.specs.Table.{Table, Action, nextState, Goes}
 use Rattle.leftcorner.specs.Construction.{entryItem, EntryAt, KernelAt, ActionAt, Carries, WellFormed, LookaheadsMeet}
+use Rattle.inclusions.specs.Included.{Includes}
 
 module _ (g : Grammar) (t : Table) where
   -- "The goal's entry context includes 0."
@@ -22,23 +24,39 @@ module _ (g : Grammar) (t : Table) (F : List ℕ → ℕ → ℕ → Type 0) whe
     pub of-group : (k i d c : ℕ) (γ σ : List ℕ) (r : Rule) (δs εs : List (List ℕ)) → EntryAt g t k q γ → ruleAt g i ≡ some r → r .groups ≡ δs ++ γ ∷ εs
         → Carries g t F p i (length (r .before)) d → F (concat εs) d c → KernelAt g t q (entryItem g t k) zero σ → In c σ
 
+  -- the same for the items of the states 1 .. n - 1
+  pub record LookaheadsBelow (n q : ℕ) : Type 0 where
+    pub from : (p : ℕ) → 1 ≤ p → p < n → LookaheadsFrom p q
+
+  -- one of these states asks of q's item i with dot k the lookahead c
+  pub record IncludesBelow (n q i k c : ℕ) : Type 0 where
+    pub state : ℕ
+    pub above : 1 ≤ state
+    pub below : state < n
+    pub includes : Includes g t F state q i k c
+
   -- states outside 1 .. states have no items
   carries-state : WellFormed g t → {p i k d : ℕ} → Carries g t F p i k d → (1 ≤ p) × (p ≤ t .states)
   carries-state W {p} {i} {k} (Carries.in-kernel {σ = σ} h m) = W .kernel-state p i k σ h
   carries-state W (Carries.in-closure j h go e l f) = carries-state W h
 
   -- reply 8 at q, source by source
-  pub lookaheads-all : WellFormed g t → (q : ℕ) → ((p : ℕ) → 1 ≤ p → p ≤ t .states → LookaheadsFrom p q) → GoalMeets g t q → LookaheadsMeet g t F q
-  lookaheads-all W q all goal = record {
-    of-move = λ p X i k d β σ x a n h. let s = carries-state W h in all p (s .0) (s .1) .of-move X i k d β σ x a n h;
-    of-group = λ k p i d c γ σ r δs εs e er eg h. let s = carries-state W h in all p (s .0) (s .1) .of-group k i d c γ σ r δs εs e er eg h;
+  pub lookaheads-all : WellFormed g t → {n : ℕ} → t .states < n → (q : ℕ) → LookaheadsBelow n q → GoalMeets g t q → LookaheadsMeet g t F q
+  lookaheads-all W {n} above q all goal = record {
+    of-move = λ p X i k d β σ x a nx h. at p h .of-move X i k d β σ x a nx h;
+    of-group = λ k p i d c γ σ r δs εs e er eg h. at p h .of-group k i d c γ σ r δs εs e er eg h;
     of-goal = goal .of-goal;
   }
+    where
+      at : (p : ℕ) {i k d : ℕ} → Carries g t F p i k d → LookaheadsFrom p q
+      at p h = let s = carries-state W h in all .from p (s .0) (omega (arith, s .1, above))
 
-  pub lookaheads-from : (q : ℕ) → LookaheadsMeet g t F q → (p : ℕ) → LookaheadsFrom p q
-  lookaheads-from q m p = record {
-    of-move = λ X i k d β σ x. m .of-move p X i k d β σ x;
-    of-group = λ k i d c γ σ r δs εs. m .of-group k p i d c γ σ r δs εs;
+  pub lookaheads-below : (n q : ℕ) → LookaheadsMeet g t F q → LookaheadsBelow n q
+  lookaheads-below n q m = record {
+    from = λ p a b. record {
+      of-move = λ X i k d β σ x. m .of-move p X i k d β σ x;
+      of-group = λ k i d c γ σ r δs εs. m .of-group k p i d c γ σ r δs εs;
+    };
   }
 
   pub lookaheads-goal : (q : ℕ) → LookaheadsMeet g t F q → GoalMeets g t q

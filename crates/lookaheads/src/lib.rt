@@ -1,21 +1,16 @@
-// The inclusions that lookaheads must meet, by the state that they come from; states whose lookaheads are too few are flagged.
+// The inclusions that lookaheads must meet; states whose lookaheads are too few are flagged.
 ghost use mathlib.Core.Path.{_≡_};
 ghost use mathlib.Core.List.{List};
-ghost use Prim.Native.Nat.{ℕ, suc, _+_, _*_, _<_, _≤_};
+ghost use Prim.Native.Nat.{ℕ, _*_, _<_, _≤_};
 ghost use lib.ListN.{length};
 ghost use Rattle.language.specs.Grammar.{Grammar};
 ghost use Rattle.leftcorner.specs.Table.{Table};
 ghost use Rattle.fixpoint.specs.Flags.{Decides};
 ghost use Rattle.memory.specs.Held.{Held};
 ghost use Rattle.kernel_lines.specs.Lines.{Lines, Linked};
-ghost use Rattle.closure.specs.FirstBy.{FirstBy};
-ghost use Rattle.closure.specs.Expansion.{HoldsClosure};
-ghost use Rattle.moves.specs.Moves.{Cells};
-ghost use Rattle.entry_list.specs.Uses.{HoldsUses};
-ghost use Rattle.inclusions.specs.Asks.{Sourced};
 ghost use Rattle.lookaheads.specs.Narrow.{Narrows};
 ghost use Rattle.lookaheads.specs.Memory.{Covers, StateCovers};
-ghost use Rattle.lookaheads.specs.Sources.{LookaheadsFrom, GoalMeets};
+ghost use Rattle.lookaheads.specs.Sources.{GoalMeets};
 
 fn wide(x: u8) -> usize
     ensures { λ r. ⌜ (r ≡ x) × (r < 256) ⌝ }
@@ -43,7 +38,7 @@ fn covers(grown: &[u8], lookaheads: &[u8], lines: usize, l: usize, codes: usize)
 }
 
 // Flags the states of the lines that are asked for more than they have.
-fn mark_states(
+pub fn mark_narrow(
     kernels: &[u8],
     grown: &[u8],
     lookaheads: &[u8],
@@ -66,59 +61,6 @@ fn mark_states(
         narrow[s] = 1;
         l += 1;
     }
-}
-
-// Flags the states whose lookaheads are too few because of p.
-pub fn mark_narrow(
-    items: &[u8],
-    kernels: &[u8],
-    links: &[usize],
-    lookaheads: &[u8],
-    kinds: &[u8],
-    values: &[u8],
-    gotos: &[u8],
-    entries: &[u8],
-    uses: &[u8],
-    nul: &[u8],
-    fst: &[u8],
-    present: &[u8],
-    follow: &[u8],
-    count: usize,
-    rules: usize,
-    lines: usize,
-    codes: usize,
-    p: usize,
-    narrow: &mut [u8],
-)
-    requires { ⌜ Sourced (now items) (now kernels) (now links) (now entries) (now uses) (now nul) (now fst) count rules lines codes ⌝ }
-    requires { ⌜ Cells (now kinds) (now values) (now gotos) ⌝ }
-    requires { ⌜ (p < 256) × (length (now present) ≡ 64) × (length (now follow) ≡ 4096) × (lines * 64 ≤ length (now lookaheads)) × (length (now narrow) ≡ 256) ⌝ }
-    ensures { λ _. ⌜ length (now (narrow .exit)) ≡ 256 ⌝ }
-    ensures { λ _. ⌜ ((g : Grammar) (t : Table) (strings : ℕ) → Held g t (now (items .entry)) (now (entries .entry)) (now (kernels .entry)) (now (lookaheads .entry)) (now (kinds .entry)) (now (values .entry)) (now (gotos .entry)) rules strings lines → codes ≡ suc (g .terminals) → HoldsClosure g t (FirstBy codes (now (nul .entry)) (now (fst .entry))) p (now (present .entry)) (now (follow .entry)) → HoldsUses (now (uses .entry)) g t → Narrows (LookaheadsFrom g t (FirstBy codes (now (nul .entry)) (now (fst .entry))) p) (now (narrow .entry)) (now (narrow .exit))) ⌝ }
-{
-    let mut grown = [0u8; 65536];
-    inclusions::add_inclusions(
-        items,
-        kernels,
-        links,
-        lookaheads,
-        kinds,
-        values,
-        gotos,
-        entries,
-        uses,
-        nul,
-        fst,
-        present,
-        follow,
-        count,
-        rules,
-        lines,
-        codes,
-        p,
-        &mut grown,
-    );
-    mark_states(kernels, &grown, lookaheads, lines, count, codes, narrow);
 }
 
 // Flags the state of the goal's entry where it does not have code 0.
@@ -156,5 +98,5 @@ pub fn mark_goal(
         0,
         &mut grown,
     );
-    mark_states(kernels, &grown, lookaheads, lines, count, 1, narrow);
+    mark_narrow(kernels, &grown, lookaheads, lines, count, 1, narrow);
 }

@@ -1,8 +1,10 @@
 use native.Mathlib.Omega.{arith}
 use mathlib.Core.Path.{refl, _∙_}
+use Prim.Native.Nat.{ℕ}
+use lib.ListN.{length-replicate}
 use borrow.Author.Needs.{needs}
 use Rattle.judge.proofs.StateLaws.{within}
-use Rattle.judge.proofs.PassLaws.{few-codes-of, two-of, shaped-less, holds-of, terminals-are, pass-verdict}
+use Rattle.judge.proofs.PassLaws.{lines-room, few-codes-of, two-of, shaped-less, holds-of, terminals-are, pass-verdict}
 use Rattle.judge.proofs.judge_entered.Statement.{statement}
 use Rattle.judge.proofs.judge_entered.Tie as tie
 
@@ -68,6 +70,16 @@ judge-states-requires c κs = let s = c .before .before .before .before .before 
     let k = c .before .before .before .before .before .before .before .before .before .before .before .before .before .before .before .before .before .before .find-sets .kept in let m = c .before .before .before .before .before .before .before .before .before .before .before .prepare-rules in
     (S, (record { linked = c .before .before .before .before .before .before .before .link-lines .ensures; uses-room = p .2; nul-room = k .1 .1 .1 .0; fst-room = k .1 .1 .1 .1 .0; starts-room = m .kept .1 .1 .1 .1 .1 .1 .0; through-room = m .kept .1 .1 .1 .1 .1 .1 .1 .0; prepared = m .ensures; few-codes = few-codes-of (p .0) }, (p .1, refl)))
 
+slice-aggregate-mark-narrow : tie.Need-slice-aggregate-mark-narrow
+slice-aggregate-mark-narrow c = search needs
+
+slice-aggregate-mark-narrow-2 : tie.Need-slice-aggregate-mark-narrow-2
+slice-aggregate-mark-narrow-2 c = search needs
+
+mark-narrow-requires : tie.Need-mark-narrow-requires
+mark-narrow-requires c κs = let s = c .before .before .before .before .before .before .before .before .before .before .before .before .before .before .before .before .before .before .before .before .before .before .before .before .before .before .before .before .before .before .before .before .before .before in let S = s .pre .0 in let p = s .pre .1 in
+    (S .some-lines, (few-codes-of (p .0), lines-room (S .some-lines .few) (c .before .before .before .judge-states .ensures .0), S .codes-room, refl))
+
 slice-aggregate-mark-goal : tie.Need-slice-aggregate-mark-goal
 slice-aggregate-mark-goal c = search needs
 
@@ -75,22 +87,22 @@ slice-aggregate-mark-goal-2 : tie.Need-slice-aggregate-mark-goal-2
 slice-aggregate-mark-goal-2 c = search needs
 
 mark-goal-requires : tie.Need-mark-goal-requires
-mark-goal-requires c κs = let s = c .before .before .before .before .before .before .before .before .before .before .before .before .before .before .before .before .before .before .before .before .before .before .before .before .before .before .before .before .before .before .before .before .before .before in let S = s .pre .0 in let p = s .pre .1 in
-    (S .some-lines, (c .before .before .before .before .before .before .before .before .before .before .before .link-lines .ensures, (S .few-rules, S .codes-room, two-of (S .entries-room), c .before .before .before .judge-states .ensures .0)))
+mark-goal-requires c κs = let s = c .before .before .before .before .before .before .before .before .before .before .before .before .before .before .before .before .before .before .before .before .before .before .before .before .before .before .before .before .before .before .before .before .before .before .before .before .before .before in let S = s .pre .0 in let p = s .pre .1 in
+    (S .some-lines, (c .before .before .before .before .before .before .before .before .before .before .before .before .before .before .before .link-lines .ensures, (S .few-rules, S .codes-room, two-of (S .entries-room), c .before .before .before .mark-narrow .ensures .narrowing .long ∙ length-replicate {A = ℕ} 256 0)))
 
 slice-aggregate-lowest-set : tie.Need-slice-aggregate-lowest-set
 slice-aggregate-lowest-set c = search needs
 
 lowest-set-requires : tie.Need-lowest-set-requires
-lowest-set-requires c κs = let s = c .before .before .before .before .before .before .before .before .before .before .before .before .before .before .before .before .before .before .before .before .before .before .before .before .before .before .before .before .before .before .before .before .before .before .before .before .before in let S = s .pre .0 in let p = s .pre .1 in
+lowest-set-requires c κs = let s = c .before .before .before .before .before .before .before .before .before .before .before .before .before .before .before .before .before .before .before .before .before .before .before .before .before .before .before .before .before .before .before .before .before .before .before .before .before .before .before .before .before in let S = s .pre .0 in let p = s .pre .1 in
     (p .1, c .before .before .mark-goal .ensures .0)
 
 answer-requires : tie.Need-answer-requires
 answer-requires c κs = search needs
 
 returns : tie.Need-returns
-returns c = λ g t G U E. c .answer .ensures ∙ pass-verdict g t G E (c .before .before .before .before .before .before .before .before .before .before .before .before .before .before .before .before .before .before .before .before .before .before .before .before .before .before .before .find-sets .ensures g (holds-of (G .held)) (terminals-are (G .code-count))) _ _ _ _
-    (c .before .before .before .before .before .before .before .before .judge-states .ensures .1 g t G U) (c .before .before .before .before .mark-goal .ensures .1 g t _ _ _ _ (c .before .before .before .before .before .before .before .before .before .before .before .before .before .before .before .before .before .before .before .before .before .before .before .before .before .before .before .before .before .before .before .before .before .before .before .before .before .before .before .pre .0 .some-strings) (G .held)) (c .before .lowest-set .ensures)
+returns c = λ g t G U E. c .answer .ensures ∙ pass-verdict g t G E (c .before .before .before .before .before .before .before .before .before .before .before .before .before .before .before .before .before .before .before .before .before .before .before .before .before .before .before .before .before .before .before .find-sets .ensures g (holds-of (G .held)) (terminals-are (G .code-count))) _ _ _ _
+    (c .before .before .before .before .before .before .before .before .before .before .before .before .judge-states .ensures .1 g t G U) 256 refl (c .before .before .before .before .before .before .before .before .mark-narrow .ensures) (c .before .before .before .before .mark-goal .ensures .1 g t _ _ _ _ (c .before .before .before .before .before .before .before .before .before .before .before .before .before .before .before .before .before .before .before .before .before .before .before .before .before .before .before .before .before .before .before .before .before .before .before .before .before .before .before .before .before .before .before .pre .0 .some-strings) (G .held)) (c .before .lowest-set .ensures)
 
 pub judge-entered-spec : {M : Type 1} → statement M
 judge-entered-spec =
@@ -115,6 +127,9 @@ judge-entered-spec =
     slice-aggregate-judge-states-5
     slice-aggregate-judge-states-6
     judge-states-requires
+    slice-aggregate-mark-narrow
+    slice-aggregate-mark-narrow-2
+    mark-narrow-requires
     slice-aggregate-mark-goal
     slice-aggregate-mark-goal-2
     mark-goal-requires

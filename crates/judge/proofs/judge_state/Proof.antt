@@ -1,8 +1,9 @@
-use mathlib.Core.Path.{refl}
+use mathlib.Core.Path.{refl, _∙_}
 use native.Mathlib.Omega.{arith}
 use borrow.Author.Needs.{needs}
 use Rattle.moves.specs.Flags.{present-of}
 use Rattle.judge.proofs.StateLaws.{within, in-room, few-items, readable-of, ready-of, sourced-of, memory-of, held-at}
+use Rattle.judge.proofs.PassLaws.{lines-room}
 use Rattle.judge.proofs.judge_state.Statement.{statement}
 use Rattle.judge.proofs.judge_state.Tie as tie
 
@@ -39,15 +40,15 @@ items-meet-requires : tie.Need-items-meet-requires
 items-meet-requires c κs = let s = c .before .before .before .before .before .before .before .before .before .before .before .before .before .before .before .before .before .before .before .before .before .before .before .before .before .before in let S = s .pre .0 in let C = s .pre .1 .0 in let low = s .pre .1 .1 .1 in
     (readable-of S C (search needs), (S .cells-room, ((in-room low (S .named-room), c .before .before .before .flag-moves .ensures .0), (low, S .few-rules, S .few-strings, in-room (omega (arith, S .few-strings)) (S .entries-room)))))
 
-slice-aggregate-mark-narrow : tie.Need-slice-aggregate-mark-narrow
-slice-aggregate-mark-narrow c = search needs
+slice-aggregate-add-inclusions : tie.Need-slice-aggregate-add-inclusions
+slice-aggregate-add-inclusions c = search needs
 
-slice-aggregate-mark-narrow-2 : tie.Need-slice-aggregate-mark-narrow-2
-slice-aggregate-mark-narrow-2 c = search needs
+slice-aggregate-add-inclusions-2 : tie.Need-slice-aggregate-add-inclusions-2
+slice-aggregate-add-inclusions-2 c = search needs
 
-mark-narrow-requires : tie.Need-mark-narrow-requires
-mark-narrow-requires c κs = let s = c .before .before .before .before .before .before .before .before .before .before .before .before .before .before .before .before .before .before .before .before .before .before .before .before .before .before .before .before .before .before in let S = s .pre .0 in let C = s .pre .1 .0 in let low = s .pre .1 .1 .1 in
-    (sourced-of S C, (S .cells-room, (low, c .before .before .before .before .before .before .before .before .before .before .before .before .close-state .kept .1 .1 .1 .1 .1 .1 .1 .1 .1 .1 .1 .1 .0, c .before .before .before .before .before .before .before .before .before .before .before .before .close-state .kept .1 .1 .1 .1 .1 .1 .1 .1 .1 .1 .1 .1 .1 .0, S .codes-room, s .pre .1 .1 .2)))
+add-inclusions-requires : tie.Need-add-inclusions-requires
+add-inclusions-requires c κs = let s = c .before .before .before .before .before .before .before .before .before .before .before .before .before .before .before .before .before .before .before .before .before .before .before .before .before .before .before .before .before .before in let S = s .pre .0 in let C = s .pre .1 .0 in let low = s .pre .1 .1 .1 in
+    (sourced-of S C, (S .cells-room, (low, c .before .before .before .before .before .before .before .before .before .before .before .before .close-state .kept .1 .1 .1 .1 .1 .1 .1 .1 .1 .1 .1 .1 .0, c .before .before .before .before .before .before .before .before .before .before .before .before .close-state .kept .1 .1 .1 .1 .1 .1 .1 .1 .1 .1 .1 .1 .1 .0, S .codes-room, lines-room (S .some-lines .few) (s .pre .1 .1 .2))))
 
 slice-aggregate-ask-cells : tie.Need-slice-aggregate-ask-cells
 slice-aggregate-ask-cells c = search needs
@@ -80,7 +81,7 @@ same-length c = search needs
 
 returns : tie.Need-returns
 returns c = (
-  c .before .before .before .before .before .before .before .before .before .before .before .mark-narrow .ensures .0,
+  c .before .before .before .before .before .before .before .before .before .before .before .add-inclusions .ensures .0 .long ∙ c .before .before .before .before .before .before .before .before .before .before .before .before .before .before .before .before .before .before .before .before .before .before .before .before .before .before .before .before .before .before .before .before .before .before .before .before .before .before .before .before .before .before .pre .1 .1 .2,
   λ g t states G U l.
       let H = G .held in
       let K = c .before .before .before .before .before .before .before .before .before .before .before .before .before .before .before .before .before .before .before .before .before .before .before .before .close-state .ensures g t (memory-of G) in
@@ -90,7 +91,7 @@ returns c = (
         items-meet = c .before .before .before .before .before .before .before .before .before .before .before .before .before .before .before .items-meet .ensures g t (held-at G (present-of K) M (c .before .before .before .before .before .before .before .before .before .before .before .before .before .before .before .before .before .before .before .before .before .before .before .before .before .before .before .before .before .before .before .before .before .before .before .before .before .before .before .before .before .before .pre .1 .1 .0) l);
         cells-agree = A .0;
         cells-meet = λ e. c .cells-meet .ensures g t _ _ _ _ _ _ _ _ _ H (G .code-count) M (A .1 e);
-        narrows = c .before .before .before .before .before .before .before .before .before .before .before .mark-narrow .ensures .1 g t _ H (G .code-count) K U;
+        adds = c .before .before .before .before .before .before .before .before .before .before .before .add-inclusions .ensures .1 g t _ H (G .code-count) K U;
       },
 )
 
@@ -108,9 +109,9 @@ judge-state-spec =
     slice-aggregate-items-meet
     slice-aggregate-items-meet-2
     items-meet-requires
-    slice-aggregate-mark-narrow
-    slice-aggregate-mark-narrow-2
-    mark-narrow-requires
+    slice-aggregate-add-inclusions
+    slice-aggregate-add-inclusions-2
+    add-inclusions-requires
     slice-aggregate-ask-cells
     slice-aggregate-ask-cells-2
     slice-aggregate-ask-cells-3

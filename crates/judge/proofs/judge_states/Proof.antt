@@ -1,6 +1,6 @@
 use Prim.Native.Nat.{ℕ, _+_, _-_, _≤_, _<_}
 use native.Mathlib.Omega.{arith}
-use mathlib.Core.Path.{_≡_, ap, _∙_}
+use mathlib.Core.Path.{_≡_, sym, ap, _∙_}
 use borrow.Author.Needs.{needs}
 use lib.ListN.{length, length-replicate}
 use Rattle.language.specs.Grammar.{Grammar}
@@ -16,16 +16,16 @@ use Rattle.judge.proofs.judge_states.Statement.{statement}
 use Rattle.judge.proofs.judge_states.Tie as tie
 
 abbrev Inv-loop : tie.InvT-loop
-Inv-loop items entries kernels links lookaheads kinds values gotos named uses nul fst starts through rules strings lines codes states narrow₀ wrong₀ clash₀ other₀ q₀ narrow wrong clash other q =
-    (1 ≤ q) × (q ≤ states + 1) × (length narrow ≡ 256) × ((g : Grammar) (t : Table) → Given g t items entries kernels lookaheads kinds values gotos named rules strings lines states codes
-    → HoldsUses uses g t → Found g t (FirstBy codes nul fst) q wrong clash other narrow)
+Inv-loop items entries kernels links lookaheads kinds values gotos named uses nul fst starts through rules strings lines codes states grown₀ wrong₀ clash₀ other₀ q₀ grown wrong clash other q =
+    (1 ≤ q) × (q ≤ states + 1) × (length grown ≡ 65536) × ((g : Grammar) (t : Table) → Given g t items entries kernels lookaheads kinds values gotos named rules strings lines states codes
+    → HoldsUses uses g t → Found g t (FirstBy codes nul fst) kernels lines codes q wrong clash other grown)
 
 abbrev μ-loop : tie.MeasureT-loop
-μ-loop items entries kernels links lookaheads kinds values gotos named uses nul fst starts through rules strings lines codes states narrow₀ wrong₀ clash₀ other₀ q₀ narrow wrong clash other q =
+μ-loop items entries kernels links lookaheads kinds values gotos named uses nul fst starts through rules strings lines codes states grown₀ wrong₀ clash₀ other₀ q₀ grown wrong clash other q =
     states + 1 - q
 
 loop-holds : tie.Need-loop-holds Inv-loop μ-loop
-loop-holds c = let z = c .before .before .before .before .before .before .before .before .before .before .before .before .before .before .before .pre .1 .1 .1 in (omega arith, omega arith, ap length z ∙ length-replicate {A = ℕ} 256 0, λ g t G U. found-start g t _ (zeros-of 256 z))
+loop-holds c = let z = c .before .before .before .before .before .before .before .before .before .before .before .before .before .before .before .pre .1 .1 .1 in (omega arith, omega arith, ap length z ∙ length-replicate {A = ℕ} 65536 0, λ g t G U. found-start g t _ _ _ _ (zeros-of 65536 z))
 
 judge-state-requires : tie.Need-judge-state-requires Inv-loop μ-loop
 judge-state-requires c κs = let s = c .before .before .before .before .before .before .before .before .before .before .before .before .before .before .before .before .before .before in let i = c .before .before .loop .inv in (s .pre .0, (s .pre .1 .0, (i .0, low-state (c .before .loop-test .taken) (s .pre .1 .1 .0), i .2)))
@@ -54,7 +54,7 @@ loop-again c = let i = c .before .before .before .before .before .before .before
 )
 
 same-length : tie.Need-same-length Inv-loop μ-loop
-same-length c = search needs
+same-length c = c .before .loop .inv .2 ∙ sym (ap length (c .before .before .before .before .before .before .before .before .before .before .before .before .before .before .before .before .before .pre .1 .1 .1) ∙ length-replicate {A = ℕ} 65536 0)
 
 returns : tie.Need-returns Inv-loop μ-loop
 returns c = let i = c .before .loop .inv in (i .2, λ g t G U. found-end g t _ (i .1) (c .loop-test .left) (i .3 g t G U))

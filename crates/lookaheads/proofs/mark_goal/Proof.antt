@@ -29,20 +29,20 @@ add-lines-requires : tie.Need-add-lines-requires
 add-lines-requires c κs = let p = c .before .before .before .before .before .before .before .before .before .pre in
     (p .0, (p .1 .0, (c .before .before .wide .ensures .1, omega arith, search needs, omega (arith, p .0 .few, length-replicate {A = ℕ} 65536 0))))
 
-slice-aggregate-mark-states : tie.Need-slice-aggregate-mark-states
-slice-aggregate-mark-states c = search needs
+slice-aggregate-mark-narrow : tie.Need-slice-aggregate-mark-narrow
+slice-aggregate-mark-narrow c = search needs
 
-mark-states-requires : tie.Need-mark-states-requires
-mark-states-requires c κs = let p = c .before .before .before .before .before .before .before .before .before .before .before .before .before .pre in
+mark-narrow-requires : tie.Need-mark-narrow-requires
+mark-narrow-requires c κs = let p = c .before .before .before .before .before .before .before .before .before .before .before .before .before .pre in
     (p .0, (omega arith, omega (arith, p .0 .few, c .before .before .before .add-lines .ensures .long, length-replicate {A = ℕ} 65536 0), p .1 .1 .1, p .1 .1 .3))
 
 same-length : tie.Need-same-length
-same-length c = c .before .before .mark-states .ensures .narrowing .long
+same-length c = c .before .before .mark-narrow .ensures .narrowing .long
 
 returns : tie.Need-returns
 returns c = (
-  c .before .before .mark-states .ensures .narrowing .long ∙ c .before .before .before .before .before .before .before .before .before .before .before .before .before .before .before .before .pre .1 .1 .3,
-  λ g t items kinds values gotos u H. goal-narrows g t H u (c .before .before .before .before .before .before .before .before .before .wide .ensures .0) refl 65536 refl (c .before .before .before .before .before .before .add-lines .ensures) (c .before .before .mark-states .ensures),
+  c .before .before .mark-narrow .ensures .narrowing .long ∙ c .before .before .before .before .before .before .before .before .before .before .before .before .before .before .before .before .pre .1 .1 .3,
+  λ g t items kinds values gotos u H. goal-narrows g t H u (c .before .before .before .before .before .before .before .before .before .wide .ensures .0) refl 65536 refl (c .before .before .before .before .before .before .add-lines .ensures) (c .before .before .mark-narrow .ensures),
 )
 
 pub mark-goal-spec : {M : Type 1} → statement M
@@ -56,7 +56,7 @@ mark-goal-spec =
     add-add-lines
     slice-aggregate-add-lines-2
     add-lines-requires
-    slice-aggregate-mark-states
-    mark-states-requires
+    slice-aggregate-mark-narrow
+    mark-narrow-requires
     same-length
     returns)

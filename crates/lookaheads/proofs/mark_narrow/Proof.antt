@@ -1,42 +1,72 @@
-use Rattle.lookaheads.proofs.MeetLaws.{narrows-from}
-use mathlib.Core.Path.{refl, _∙_}
-use Prim.Native.Nat.{ℕ}
+use Rattle.lookaheads.proofs.NarrowLaws.{LinesTo, lines-start, lines-covered, lines-lacking, lines-all}
+use mathlib.Core.Path.{refl}
+use Prim.Native.Nat.{_≤_, _-_}
 use native.Mathlib.Omega.{arith}
 use borrow.Author.Needs.{needs}
-use lib.ListN.{length-replicate}
 use Rattle.lookaheads.proofs.mark_narrow.Statement.{statement}
 use Rattle.lookaheads.proofs.mark_narrow.Tie as tie
 
-slice-aggregate-add-inclusions : tie.Need-slice-aggregate-add-inclusions
-slice-aggregate-add-inclusions c = search needs
+abbrev Inv-loop : tie.InvT-loop
+Inv-loop kernels grown lookaheads lines count codes narrow₀ l₀ narrow l = (l ≤ lines) × LinesTo kernels grown lookaheads lines codes narrow₀ narrow l
 
-add-inclusions-requires : tie.Need-add-inclusions-requires
-add-inclusions-requires c κs = let p = c .before .before .before .before .before .before .before .before .before .before .before .before .before .before .before .pre in
-    (p .0, (p .1 .0, (p .1 .1 .0, p .1 .1 .1, p .1 .1 .2, p .1 .1 .3, omega (arith, p .0 .lined .some-lines .few, length-replicate {A = ℕ} 65536 0))))
+abbrev μ-loop : tie.MeasureT-loop
+μ-loop kernels grown lookaheads lines count codes narrow₀ l₀ narrow l = lines - l
 
-slice-aggregate-mark-states : tie.Need-slice-aggregate-mark-states
-slice-aggregate-mark-states c = search needs
+loop-holds : tie.Need-loop-holds Inv-loop μ-loop
+loop-holds c = (omega arith, lines-start _)
 
-mark-states-requires : tie.Need-mark-states-requires
-mark-states-requires c κs = let p = c .before .before .before .before .before .before .before .before .before .before .before .before .before .before .before .before .before .before .before .pre in
-    (p .0 .lined .some-lines, (p .0 .ready .few-codes, omega (arith, p .0 .lined .some-lines .few, c .before .before .before .add-inclusions .ensures .0 .long, length-replicate {A = ℕ} 65536 0), p .1 .1 .3, p .1 .1 .4))
+covers-requires : tie.Need-covers-requires Inv-loop μ-loop
+covers-requires c κs = let p = c .before .before .before .before .before .before .pre in (c .loop-test .taken, p .0 .few, p .1 .0, p .1 .1, p .1 .2)
 
-same-length : tie.Need-same-length
-same-length c = c .before .before .mark-states .ensures .narrowing .long
+add-l : tie.Need-add-l Inv-loop μ-loop
+add-l c = search needs
 
-returns : tie.Need-returns
-returns c = (
-  c .before .before .mark-states .ensures .narrowing .long ∙ c .before .before .before .before .before .before .before .before .before .before .before .before .before .before .before .before .before .before .before .before .before .before .pre .1 .1 .4,
-  λ g t strings H e C U. narrows-from g t H _ _ e 65536 refl (c .before .before .before .before .before .before .add-inclusions .ensures .1 g t strings H e C U) (c .before .before .mark-states .ensures),
+loop-less : tie.Need-loop-less Inv-loop μ-loop
+loop-less c = search needs
+
+loop-again : tie.Need-loop-again Inv-loop μ-loop
+loop-again c = (omega arith, lines-covered (c .before .before .before .loop .inv .1) (c .before .covers .ensures .yes (c .if1 .taken)))
+
+state-of-requires : tie.Need-state-of-requires Inv-loop μ-loop
+state-of-requires c κs = (c .before .before .before .before .before .before .before .before .pre .0, c .before .before .loop-test .taken)
+
+slice-write-narrow : tie.Need-slice-write-narrow Inv-loop μ-loop
+slice-write-narrow c = omega (arith, c .state-of .ensures .1, c .before .before .before .before .loop .inv .1 .narrowing .long, c .before .before .before .before .before .before .before .before .before .pre .1 .3)
+
+add-l-2 : tie.Need-add-l-2 Inv-loop μ-loop
+add-l-2 c = search needs
+
+loop-less-2 : tie.Need-loop-less-2 Inv-loop μ-loop
+loop-less-2 c = search needs
+
+loop-again-2 : tie.Need-loop-again-2 Inv-loop μ-loop
+loop-again-2 c = (
+  omega arith,
+  lines-lacking (c .before .before .before .before .loop .inv .1) (c .before .before .covers .ensures .no (c .before .if1 .left)) (c .before .before .before .loop-test .taken) (c .state-of .ensures .0) refl
+      (omega (arith, c .state-of .ensures .1, c .before .before .before .before .loop .inv .1 .narrowing .long, c .before .before .before .before .before .before .before .before .before .pre .1 .3)),
 )
+
+same-length : tie.Need-same-length Inv-loop μ-loop
+same-length c = c .before .loop .inv .1 .narrowing .long
+
+returns : tie.Need-returns Inv-loop μ-loop
+returns c = lines-all (c .before .loop .inv .1) (c .loop-test .left)
 
 pub mark-narrow-spec : {M : Type 1} → statement M
 mark-narrow-spec =
     tie.close
     (tie.spec
-    slice-aggregate-add-inclusions
-    add-inclusions-requires
-    slice-aggregate-mark-states
-    mark-states-requires
+    Inv-loop
+    μ-loop
+    loop-holds
+    covers-requires
+    add-l
+    loop-less
+    loop-again
+    state-of-requires
+    slice-write-narrow
+    add-l-2
+    loop-less-2
+    loop-again-2
     same-length
     returns)
