@@ -1,4 +1,4 @@
-/* How long reading takes: grammar books and scan files of 4, 16 and 64 KiB, best of many runs.
+/* How long reading takes: grammar books, table books and scan files of 4, 16 and 64 KiB, best of many runs.
    rt staticlib buraigue_c && gcc -O2 bench/read.c target/staticlib/libburaigue_c.a -o target/bench-read && target/bench-read */
 #include <stdint.h>
 #include <stdio.h>
@@ -6,6 +6,7 @@
 #include <time.h>
 
 uint64_t buraigue_read_grammar(const uint8_t *book, size_t n, uint8_t *items, size_t m, uint64_t *place, size_t k);
+uint64_t buraigue_check_tables(const uint8_t *grammar, size_t n, const uint8_t *book, size_t m, uint64_t *place, size_t k);
 uint64_t buraigue_read_scans(const uint8_t *file, size_t n, uint8_t *tokens, size_t m, uint64_t *place, size_t k);
 
 static uint8_t book[65537], items[16640], tokens[65536];
@@ -34,28 +35,51 @@ static size_t grammar_book(size_t size) {
     return at;
 }
 
+static const char grammar[] = "G,63,1,1,64\nR,64,^,1,1,1,1,1,1,1,1,1,1,1,1,1,1,1\n";
+
+/* kernel lines with every code; the last line is refused, so that the book is read whole and not checked */
+static size_t table_book(size_t size) {
+    size_t at = sprintf((char *)book, "T,255,1\nE,1,64\n");
+    for (int i = 0; at + 224 < size; i++) {
+        at += sprintf((char *)book + at, "K,%d,1,%d", 1 + i % 255, i / 255);
+        for (int c = 0; c < 64; c++) at += sprintf((char *)book + at, ",%d", c);
+        book[at++] = '\n';
+    }
+    return at + sprintf((char *)book + at, "S,1,1,256\n");
+}
+
 static size_t scan_file(size_t size) {
     size_t at = 0;
     for (int i = 0; at + 20 < size; i++) at += sprintf((char *)book + at, "%c,W%012d\n", "DGPETF"[i % 6], i);
     return at;
 }
 
-static void measure(const char *what, size_t n, int scans) {
+enum what { GRAMMAR, TABLE, SCANS };
+
+static uint64_t read_once(enum what what, size_t n, uint64_t *place) {
+    if (what == GRAMMAR) return buraigue_read_grammar(book, n, items, sizeof items, place, 1);
+    if (what == TABLE) return buraigue_check_tables((const uint8_t *)grammar, sizeof grammar - 1, book, n, place, 1);
+    return buraigue_read_scans(book, n, tokens, sizeof tokens, place, 1);
+}
+
+static void measure(enum what what, size_t n) {
+    static const char *names[] = {"grammar", "table", "scans"};
     double best = 1e9;
     uint64_t place = 0, number = 99;
     for (int i = 0; i < 400; i++) {
         double t = now();
-        number = scans ? buraigue_read_scans(book, n, tokens, sizeof tokens, &place, 1)
-                       : buraigue_read_grammar(book, n, items, sizeof items, &place, 1);
+        number = read_once(what, n, &place);
         t = now() - t;
         if (t < best) best = t;
     }
-    printf("%-8s %6zu bytes  reply %llu,%llu  %8.1f us  %6.2f ns a byte\n", what, n, (unsigned long long)number, (unsigned long long)place, best, best * 1e3 / n);
+    printf("%-8s %6zu bytes  reply %llu,%llu  %8.1f us  %6.2f ns a byte\n", names[what], n, (unsigned long long)number, (unsigned long long)place, best,
+           best * 1e3 / n);
 }
 
 int main(void) {
     size_t sizes[] = {4096, 16384, 65536};
-    for (int i = 0; i < 3; i++) measure("grammar", grammar_book(sizes[i]), 0);
-    for (int i = 0; i < 3; i++) measure("scans", scan_file(sizes[i]), 1);
+    for (int i = 0; i < 3; i++) measure(GRAMMAR, grammar_book(sizes[i]));
+    for (int i = 0; i < 3; i++) measure(TABLE, table_book(sizes[i]));
+    for (int i = 0; i < 3; i++) measure(SCANS, scan_file(sizes[i]));
     return 0;
 }

@@ -11,8 +11,8 @@ check-tables-requires c κs = search needs
 place-requires : tie.Need-place-requires
 place-requires c κs = search needs
 
-put-place-requires : tie.Need-put-place-requires
-put-place-requires c κs = search needs
+put-first-requires : tie.Need-put-first-requires
+put-first-requires c κs = search needs
 
 number-requires : tie.Need-number-requires
 number-requires c κs = search needs
@@ -23,7 +23,7 @@ same-length c = search needs
 returns : tie.Need-returns
 returns c =
     let e = c .before .before .before .before .before .before .check-tables .ensures in
-    (number-told (c .number .ensures) e, place-told (now (c .before .before .before .before .before .before .before .before .before .before .args .place)) (c .before .before .before .put-place .ensures) (c .before .before .before .before .place .ensures) e)
+    (number-told (c .number .ensures) e, place-told (now (c .before .before .before .before .before .before .before .before .before .before .args .place)) (c .before .before .before .put-first .ensures) (c .before .before .before .before .place .ensures) e)
 
 pub buraigue-check-tables-spec : {M : Type 1} → statement M
 buraigue-check-tables-spec =
@@ -31,7 +31,7 @@ buraigue-check-tables-spec =
     (tie.spec
     check-tables-requires
     place-requires
-    put-place-requires
+    put-first-requires
     number-requires
     same-length
     returns)

@@ -16,8 +16,8 @@ as-reply-requires c κs = search needs
 place-requires : tie.Need-place-requires
 place-requires c κs = search needs
 
-put-place-requires : tie.Need-put-place-requires
-put-place-requires c κs = search needs
+put-first-requires : tie.Need-put-first-requires
+put-first-requires c κs = search needs
 
 number-requires : tie.Need-number-requires
 number-requires c κs = search needs
@@ -31,7 +31,7 @@ same-length-2 c = search needs
 returns : tie.Need-returns
 returns c =
     let e = c .before .before .before .before .before .before .as-reply .ensures ∙ ap asReply (c .before .before .before .before .before .before .before .before .before .read-grammar .ensures .0) in
-    (number-told (c .number .ensures) e, (place-told (now (c .before .before .before .before .before .before .before .before .before .before .before .before .before .before .args .place)) (c .before .before .before .put-place .ensures) (c .before .before .before .before .place .ensures) e, search needs))
+    (number-told (c .number .ensures) e, (place-told (now (c .before .before .before .before .before .before .before .before .before .before .before .before .before .before .args .place)) (c .before .before .before .put-first .ensures) (c .before .before .before .before .place .ensures) e, search needs))
 
 pub buraigue-read-grammar-spec : {M : Type 1} → statement M
 buraigue-read-grammar-spec =
@@ -40,7 +40,7 @@ buraigue-read-grammar-spec =
     read-grammar-requires
     as-reply-requires
     place-requires
-    put-place-requires
+    put-first-requires
     number-requires
     same-length
     same-length-2

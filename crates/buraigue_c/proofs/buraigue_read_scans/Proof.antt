@@ -11,8 +11,8 @@ read-scans-requires c κs = search needs
 place-requires : tie.Need-place-requires
 place-requires c κs = search needs
 
-put-place-requires : tie.Need-put-place-requires
-put-place-requires c κs = search needs
+put-first-requires : tie.Need-put-first-requires
+put-first-requires c κs = search needs
 
 number-requires : tie.Need-number-requires
 number-requires c κs = search needs
@@ -26,7 +26,7 @@ same-length-2 c = search needs
 returns : tie.Need-returns
 returns c =
     let e = c .before .before .before .before .before .before .before .before .read-scans .ensures .0 in
-    (number-told (c .number .ensures) e, (place-told (now (c .before .before .before .before .before .before .before .before .before .before .before .before .before .args .place)) (c .before .before .before .put-place .ensures) (c .before .before .before .before .place .ensures) e, search needs))
+    (number-told (c .number .ensures) e, (place-told (now (c .before .before .before .before .before .before .before .before .before .before .before .before .before .args .place)) (c .before .before .before .put-first .ensures) (c .before .before .before .before .place .ensures) e, search needs))
 
 pub buraigue-read-scans-spec : {M : Type 1} → statement M
 buraigue-read-scans-spec =
@@ -34,7 +34,7 @@ buraigue-read-scans-spec =
     (tie.spec
     read-scans-requires
     place-requires
-    put-place-requires
+    put-first-requires
     number-requires
     same-length
     same-length-2

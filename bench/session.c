@@ -1,0 +1,82 @@
+/* How long a session takes, beside the parser that bison generates for the same grammar: 65,535 tokens of D and a long day of the hospital's grammar,
+   best of many runs. The walk alone is the whole call less the same call with no token: that one reads and checks both books.
+   rt staticlib buraigue_c && bench/session.sh */
+#include "bison.h"
+#include <stdint.h>
+#include <stdio.h>
+#include <string.h>
+#include <time.h>
+
+uint64_t buraigue_run_session(const uint8_t *grammar, size_t g, const uint8_t *tables, size_t t, const uint8_t *tokens, size_t n, uint8_t *stack, size_t s,
+                              uint8_t *listing, size_t l, uint64_t *place, size_t p, uint64_t *rules, size_t r, uint64_t *units, size_t u);
+int d_session(struct session *s);
+int hospital_session(struct session *s);
+
+static uint8_t grammar[65537], tables[65537], tokens[65535], stack[65536], listing[1 << 18], other[1 << 18];
+
+/* works of a day: an intake, an issue, a return, a discard, a temperature, a pooling, a transfer, a control, a remark, a quarantine */
+static const uint8_t works[] = {11, 13, 1, 4, 2, 3, 5, 6, 22, 6, 21, 19, 7, 1, 2, 3, 12, 20, 10, 15, 14, 1, 3, 26, 27, 19, 20, 10, 16, 1, 13, 18, 10, 17, 1, 10, 10,
+                                18, 10, 28, 1, 1, 1, 29, 1, 5, 30, 10, 11, 13, 1, 1, 12, 31, 18, 10, 32, 19, 6, 7, 6, 20, 10, 23, 25, 25, 25, 24, 33, 1, 1, 34, 20, 10};
+
+static double now(void) {
+    struct timespec t;
+    clock_gettime(CLOCK_MONOTONIC, &t);
+    return t.tv_sec * 1e6 + t.tv_nsec / 1e3;
+}
+
+static size_t load(const char *path, uint8_t *to) {
+    FILE *f = fopen(path, "rb");
+    if (!f) return 0;
+    size_t n = fread(to, 1, 65537, f);
+    fclose(f);
+    return n;
+}
+
+static size_t day(void) {
+    size_t n = 0;
+    tokens[n++] = 8;
+    tokens[n++] = 10;
+    while (n + sizeof works + 2 <= sizeof tokens) {
+        memcpy(tokens + n, works, sizeof works);
+        n += sizeof works;
+    }
+    tokens[n++] = 9;
+    tokens[n++] = 10;
+    return n;
+}
+
+static size_t bags(void) {
+    for (size_t i = 0; i < sizeof tokens; i++) tokens[i] = i % 3 + 1;
+    return sizeof tokens;
+}
+
+static void measure(const char *what, size_t g, size_t t, size_t n, int (*parse)(struct session *)) {
+    double whole = 1e9, empty = 1e9, bison = 1e9;
+    uint64_t number = 99, place = 0, rules = 0, units = 0, unused = 0;
+    struct session s = {tokens, n, 0, 0, 0, other};
+    int failed = 1;
+    for (int i = 0; i < 200; i++) {
+        double a = now();
+        buraigue_run_session(grammar, g, tables, t, tokens, 0, stack, sizeof stack, listing, sizeof listing, &unused, 1, &unused, 1, &unused, 1);
+        double b = now();
+        number = buraigue_run_session(grammar, g, tables, t, tokens, n, stack, sizeof stack, listing, sizeof listing, &place, 1, &rules, 1, &units, 1);
+        double c = now();
+        failed = parse(&s);
+        double d = now();
+        if (b - a < empty) empty = b - a;
+        if (c - b < whole) whole = c - b;
+        if (d - c < bison) bison = d - c;
+    }
+    double walk = whole - empty;
+    printf("%-9s %zu tokens  reply %llu,%llu,%llu,%llu  call %.0f us, without tokens %.0f us  walk %.1f M tokens/s  bison %s %lu,%lu  %.1f M tokens/s  ratio %.2f\n", what, n,
+           (unsigned long long)number, (unsigned long long)place, (unsigned long long)rules, (unsigned long long)units, whole, empty, n / walk,
+           failed ? "failed" : "whole", s.rules, s.units, n / bison, bison / walk);
+}
+
+int main(void) {
+    size_t g = load("examples/d.grammar", grammar), t = load("examples/d.tables", tables);
+    measure("d", g, t, bags(), d_session);
+    g = load("examples/hospital.grammar", grammar), t = load("examples/hospital.tables", tables);
+    measure("hospital", g, t, day(), hospital_session);
+    return 0;
+}
