@@ -13,7 +13,7 @@ use Rattle.language.specs.FirstLaws.{right-productive, terminal-productive}
 use Rattle.language.specs.Strings.{AllDeclared, string-derives}
 use Rattle.language.specs.WellFormed as grammar
 use Rattle.leftcorner.specs.Table.{Table}
-use Rattle.leftcorner.specs.Construction.{MeetsWith, Meets}
+use Rattle.leftcorner.specs.Construction.{WellFormed, MeetsWith, Meets}
 use Rattle.leftcorner.specs.Claim.{_↔_}
 use Rattle.leftcorner.specs.Swap.{swap}
 use Rattle.fixpoint.specs.Least.{least-every}
@@ -29,8 +29,9 @@ use Rattle.verdict.specs.CellsDecided.{agree?, cells?}
 use Rattle.verdict.specs.Verdict.{verdict, accepts, refused}
 use Rattle.lalr.specs.States.{range}
 use Rattle.lalr.specs.Lists.{in-range, range-in}
-use Rattle.lalr.specs.Limits.{declared}
+use Rattle.lalr.specs.Limits.{Limits, declared}
 use Rattle.lalr.specs.Built.{built}
+use Rattle.lalr.specs.BuiltForm.{built-form}
 use Rattle.lalr.specs.Book.{buildReply, buildSlice}
 use Rattle.lalr.specs.Readable.{Readable, readable}
 use Rattle.lalr.specs.BookLaws.{limits, accepted-writes, book-meets, conflict-actions}
@@ -54,7 +55,7 @@ module _ (g : Grammar) where
   first-in β d c (inl h) = let w = starts-terminal β c h in inr (in-range 1 (g .terminals) c (w .0) (omega (arith, w .1)))
   first-in β d c (inr h) = inl (h .1)
 
-  codes-low : (c : ℕ) → In c terminalCodes → c ≤ g .terminals
+  pub codes-low : (c : ℕ) → In c terminalCodes → c ≤ g .terminals
   codes-low c m = let r = range-in 1 (g .terminals) c m in omega (arith, r .1)
 
   -- ---- the builder
@@ -86,6 +87,10 @@ module _ (g : Grammar) where
       to = λ h. rules-first g (right-productive g W P) (λ X m. symbol-productive (a X m)) h;
       from = λ h. first-rules g h;
     }
+
+    -- where the limits are kept, the book has the form of a table book
+    pub builder-form : Limits g → WellFormed g (built g (FirstByRules g) (first? g) terminalCodes first-in)
+    builder-form L = built-form g (FirstByRules g) (first? g) terminalCodes first-in L codes-low first-some reach
 
     module _ (room : ℕ) (written : builderReply room ≡ Accepted 0) where
       writes-by-rules : MeetsWith g builderTable (FirstByRules g)

@@ -18,6 +18,7 @@ pub mod CellLaws
 pub mod CellCases
 pub mod Once
 pub mod BuiltForm
+pub mod ItemForm
 pub mod MeetsBuilt
 pub mod Readable
 pub mod Least
