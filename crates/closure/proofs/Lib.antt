@@ -3,5 +3,6 @@ pub mod PrepareLaws
 pub mod KernelLaws
 pub mod StepLaws
 pub mod ItemLaws
+pub mod ExpandLaws
 pub mod ReachLaws
 pub mod UseLaws

@@ -4,27 +4,27 @@ use native.Mathlib.Omega.{arith}
 use mathlib.Core.Path.{_≡_, refl, sym, subst, subst₂, _∙_}
 use mathlib.Core.Logic.{_⊎_, inl, inr}
 use mathlib.Core.List.{List}
-use mathlib.Core.Option.{some}
 use lib.ListN.{replicate}
-use Rattle.language.specs.Grammar.{Grammar, Rule, ruleAt}
-use Rattle.language.specs.GrammarLaws.{rule-range, range-rule}
+use Rattle.language.specs.Grammar.{Grammar}
+use Rattle.language.specs.GrammarLaws.{rule-range}
 use Rattle.language.specs.Sentence.{In}
 use Rattle.leftcorner.specs.Table.{Table, Goes}
-use Rattle.leftcorner.specs.Construction.{KernelAt, Has, in-kernel, in-closure, Carries}
-use Rattle.items.specs.Layout.{Shaped, leftAt}
+use Rattle.leftcorner.specs.Construction.{KernelAt, Carries}
+use Rattle.items.specs.Layout.{Shaped}
 use Rattle.memory.specs.Memory.{itemAt, dotAt}
 use Rattle.fixpoint.specs.Flags.{On, Marks}
 use Rattle.fixpoint.specs.Least.{Clauses, Least, seed, by, Met, least-every, least-join}
 use Rattle.fixpoint.proofs.PassLaws.{all-off}
-use Rattle.closure.specs.Expansion.{Expanded, Follows, HoldsClosure}
+use Rattle.closure.specs.Expansion.{Follows, HoldsClosure}
 use Rattle.closure.specs.FirstBy.{FirstBy, first-low}
 use Rattle.closure.specs.Rests.{restAt}
 use Rattle.closure.specs.Adds.{Adds}
 use Rattle.closure.specs.Prepared.{Prepared}
 use Rattle.closure.specs.Kernel.{BeforeNonterminal, FollowsNonterminal, KernelBefore, KernelFollows}
-use Rattle.closure.specs.Steps.{Expansion, expansions, Gives, Following, followings, Covered}
+use Rattle.closure.specs.Steps.{expansions, Gives, Following, followings, Covered}
 use Rattle.closure.specs.InMemory.{InMemory, LineIs}
-use Rattle.closure.proofs.ItemLaws.{ItemHeld, item-held, goes-before, before-goes, line-of, line-at}
+use Rattle.closure.proofs.ItemLaws.{ItemHeld, item-held, goes-before, line-of, line-at}
+use Rattle.closure.proofs.ExpandLaws.{RulesIn, Seeds, goes-at, goes-to, rule-in, in-rule, has-least, least-expanded}
 use Rattle.closure.proofs.StepLaws.{next-low}
 
 -- lookaheads stay below `codes` where those of kernel lines do
@@ -74,82 +74,44 @@ module _ (m kernels lookaheads nul fst starts through : List ℕ) (items rules l
       (g : Grammar) (t : Table) (H : InMemory m kernels lookaheads rules lines codes g t) where
     -- ---- rules and lines
 
-    held-rule : (j : ℕ) {r : Rule} → ruleAt g j ≡ some r → ItemHeld m g t j
-    held-rule j {r = r} e =
-        item-held m g t (H .holds-items) j (inl (r, e)) (shaped .lengths j (omega (arith, rule-range g j e .1, H .rule-count)))
-
     held-line : {p i k l : ℕ} → LineIs kernels lines p i k l → ItemHeld m g t i
     held-line {p = p} {i = i} {k = k} {l = l} d =
         let r = line-at g t (H .holds-kernels) (H .line-count) d in
         item-held m g t (H .holds-items) i (H .item-declared p i k (r .0) (r .1)) (shaped .lengths i (omega (arith, low l (d .within), d .item)))
 
-    rule-in : (j : ℕ) {r : Rule} → ruleAt g j ≡ some r → (1 ≤ j) × (j ≤ rules) × (leftAt m j ≡ 64 + (r .left - 64))
-    rule-in j {r = r} e =
-        let u = rule-range g j e in
-        (u .0, omega (arith, u .1, H .rule-count), omega (arith, H .holds-items .rule-row j e .left-is, H .left-kind j e))
-
-    -- a rule of memory
-    in-rule : (j : ℕ) → 1 ≤ j → j ≤ rules → (r : Rule) × (ruleAt g j ≡ some r) × (leftAt m j ≡ r .left)
-    in-rule j l u = let r = range-rule g j l (omega (arith, H .rule-count)) in (r .0, r .1, H .holds-items .rule-row j (r .1) .left-is)
-
-    stands-at : {i k b : ℕ} {β : List ℕ} → ItemHeld m g t i → Goes g t i k (64 + b) β → BeforeNonterminal m i k b
-    stands-at h go = let r = goes-before m g t h go in record { before = r .0; symbol = r .1 }
-
-    goes-at : {i k b : ℕ} → ItemHeld m g t i → BeforeNonterminal m i k b → Goes g t i k (64 + b) (restAt m i (k + 1))
-    goes-at {i = i} {k = k} h s = subst (λ (X : ℕ). Goes g t i k X (restAt m i (k + 1))) (s .symbol) (before-goes m g t h (s .before))
+    rows : RulesIn m rules g t
+    rows = record {
+      holds-rules = λ j e. item-held m g t (H .holds-items) j (inl (_, e)) (shaped .lengths j (omega (arith, rule-range g j e .1, H .rule-count)));
+      rule-count = H .rule-count;
+      left-is = λ j e. H .holds-items .rule-row j e .left-is;
+      left-kind = H .left-kind;
+    }
 
     -- ---- what is expanded
 
     abbrev Present : ℕ → Type 0
     Present = Least (expansions m rules) (KernelBefore m kernels lines q)
 
-    goes-to : {i k X Y : ℕ} {β : List ℕ} → X ≡ Y → Goes g t i k X β → Goes g t i k Y β
-    goes-to {i = i} {k = k} {β = β} e go = subst (λ (Z : ℕ). Goes g t i k Z β) e go
-
-    has-least : {i k : ℕ} → Has g t q i k → (b : ℕ) (β : List ℕ) → Goes g t i k (64 + b) β → Present b
-    has-least {i = i} {k = k} (in-kernel h) b β go =
-        let l = line-of g t (H .holds-kernels) (H .line-count) h in
-        let d = l .1 in
-        let s = stands-at (held-line d) go in
-        seed (record {
-          line = l .0;
-          within = d .within;
-          state = d .state;
-          holds = subst₂ (λ (j n : ℕ). BeforeNonterminal m j n b) (sym (d .item)) (sym (d .dot)) s;
-        })
-    has-least (in-closure {X = X} j {β = α} {r = r} h up e f) b β go =
-        let u = rule-in j e in
-        let z : X ≡ 64 + (r .left - 64) = omega (arith, H .left-kind j e, f) in
-        by (record { rule = j; left = r .left - 64; first = b }) (record { above = u .0; below = u .1; left = u .2; stands = stands-at (held-rule j e) go })
-        (λ x q. subst Present (sym q) (has-least h (r .left - 64) α (goes-to z up)))
-
-    least-expanded : {b : ℕ} → Present b → Expanded g t q (64 + b)
-    least-expanded p = least-every (expansions m rules) (λ (b : ℕ). Expanded g t q (64 + b)) seeds step p
+    seeds : Seeds m rules g t q (KernelBefore m kernels lines q)
+    seeds = record { held = λ i k σ h. held-line (line-of g t (H .holds-kernels) (H .line-count) h .1); seeded = seeded; seed-of = seed-of }
       where
-        seeds : (b : ℕ) → KernelBefore m kernels lines q b → Expanded g t q (64 + b)
-        seeds b w =
+        seeded : (i k b : ℕ) (σ : List ℕ) → KernelAt g t q i k σ → BeforeNonterminal m i k b → KernelBefore m kernels lines q b
+        seeded i k b σ h s =
+            let l = line-of g t (H .holds-kernels) (H .line-count) h in
+            let d = l .1 in
+            record {
+              line = l .0;
+              within = d .within;
+              state = d .state;
+              holds = subst₂ (λ (j n : ℕ). BeforeNonterminal m j n b) (sym (d .item)) (sym (d .dot)) s;
+            }
+
+        seed-of : (b : ℕ) → KernelBefore m kernels lines q b → (i : ℕ) × (k : ℕ) × (σ : List ℕ) × KernelAt g t q i k σ × BeforeNonterminal m i k b
+        seed-of b w =
             let d : LineIs kernels lines q (itemAt kernels (w .line)) (dotAt kernels (w .line)) (w .line)
             = record { within = w .within; state = w .state; item = refl; dot = refl } in
             let r = line-at g t (H .holds-kernels) (H .line-count) d in
-            record {
-              item = itemAt kernels (w .line);
-              dot = dotAt kernels (w .line);
-              rest = restAt m (itemAt kernels (w .line)) (dotAt kernels (w .line) + 1);
-              has = in-kernel (r .1);
-              goes = goes-at (held-line d) (w .holds);
-            }
-
-        step : (s : Expansion) → Met (expansions m rules) (λ (b : ℕ). Expanded g t q (64 + b)) s
-        step s ok ns =
-            let r = in-rule (s .rule) (ok .above) (ok .below) in
-            let x = ns (s .left) refl in
-            record {
-              item = s .rule;
-              dot = zero;
-              rest = restAt m (s .rule) 1;
-              has = in-closure (s .rule) (x .has) (x .goes) (r .1) (sym (r .2) ∙ ok .left);
-              goes = goes-at (held-rule (s .rule) (r .1)) (ok .stands);
-            }
+            (itemAt kernels (w .line), dotAt kernels (w .line), r .0, r .1, w .holds)
 
     -- ---- what can follow
 
@@ -196,16 +158,16 @@ module _ (m kernels lookaheads nul fst starts through : List ℕ) (items rules l
                 });
           })
       carries-least {d = d} (Carries.in-closure {d = a} {X = X} j {β = α} {r = r} h up e x y) b c β go f =
-          let u = rule-in j e in
+          let u = rule-in g t rows j e in
           let z : X ≡ 64 + (r .left - 64) = omega (arith, H .left-kind j e, x) in
-          let v = goes-before m g t (held-rule j e) go in
+          let v = goes-before m g t (rows .holds-rules j e) go in
           let ld = first-low codes nul fst (code-low h) y in
           by (record { rule = j; left = r .left - 64; first = b; code = d; next = c }) (
             record { above = u .0; below = u .1; left = u .2; stands = record { before = v .0; symbol = v .1 } },
             ld,
             gives j d c (u .0) (u .1) ld (subst (λ (γ : List ℕ). First γ d c) (sym (v .2)) f),
           )
-          (λ s q. subst Follow (sym q) (carries-least h (r .left - 64) d α (goes-to z up) y))
+          (λ s q. subst Follow (sym q) (carries-least h (r .left - 64) d α (goes-to m g t z up) y))
 
       -- a place, and the nonterminal and code that stand there
       abbrev Placed : ℕ → Type 0
@@ -231,7 +193,7 @@ module _ (m kernels lookaheads nul fst starts through : List ℕ) (items rules l
                 rest = restAt m (itemAt kernels (w .line)) (dotAt kernels (w .line) + 1);
                 carries = Carries.in-kernel (r .1)
                     (H .holds-kernels .on-code (w .line) q (itemAt kernels (w .line)) (dotAt kernels (w .line)) (f .code) (r .2) (omega (arith, f .low)) (f .on));
-                goes = goes-at (held-line d) (f .stands);
+                goes = goes-at m g t (held-line d) (f .stands);
                 first = f .first;
               })
 
@@ -240,7 +202,7 @@ module _ (m kernels lookaheads nul fst starts through : List ℕ) (items rules l
               let n = next-low m rules codes starts through s (ok .1) (ok .2) in
               let eb : s .first ≡ b = omega arith in
               let ec : s .next ≡ c = omega arith in
-              let r = in-rule (s .rule) (ok .0 .above) (ok .0 .below) in
+              let r = in-rule g t rows (s .rule) (ok .0 .above) (ok .0 .below) in
               let x = ns (s .left * 64 + s .code) refl (s .left) (s .code) (ok .1) refl in
               subst₂ (λ (a z : ℕ). Follows g t First q (64 + a) z) eb ec
               (record {
@@ -249,7 +211,7 @@ module _ (m kernels lookaheads nul fst starts through : List ℕ) (items rules l
                 code = s .code;
                 rest = restAt m (s .rule) 1;
                 carries = Carries.in-closure (s .rule) (x .carries) (x .goes) (r .1) (sym (r .2) ∙ ok .0 .left) (x .first);
-                goes = goes-at (held-rule (s .rule) (r .1)) (ok .0 .stands);
+                goes = goes-at m g t (rows .holds-rules (s .rule) (r .1)) (ok .0 .stands);
                 first = given (s .rule) (s .code) (s .next) (ok .0 .above) (ok .0 .below) (ok .2);
               })
 
@@ -258,8 +220,8 @@ module _ (m kernels lookaheads nul fst starts through : List ℕ) (items rules l
 
       pub holds-closure : {present follow : List ℕ} → Marks Present present → Marks Follow follow → HoldsClosure g t First q present follow
       holds-closure {follow = follow} a w = record {
-        present-only = λ b l on. least-expanded (a .only b on);
-        present-every = λ b l x. a .every b (has-least (x .has) b (x .rest) (x .goes));
+        present-only = λ b l on. least-expanded g t rows seeds (a .only b on);
+        present-every = λ b l x. a .every b (has-least g t rows seeds (x .has) b (x .rest) (x .goes));
         follow-only = λ b c lb lc on. least-follows (w .only (b * 64 + c) on) b c (low-code b c lc on) refl;
         follow-every = λ b c lb lc x. w .every (b * 64 + c) (carries-least (x .carries) b c (x .rest) (x .goes) (x .first));
       }

@@ -271,7 +271,7 @@ fn first_nonterminal(m: &[u8], items: usize, i: usize) -> usize
 }
 
 // Flags what the rules of flagged nonterminals begin with, until a pass adds nothing.
-fn close_present(m: &[u8], items: usize, rules: usize, present: &mut [u8])
+pub fn close_present(m: &[u8], items: usize, rules: usize, present: &mut [u8])
     requires { ⌜ Shaped (now m) items ⌝ }
     requires { ⌜ rules ≤ items ⌝ }
     requires { ⌜ length (now present) ≡ 64 ⌝ }

@@ -53,7 +53,7 @@ target-kept e (inr m) = inr (still-in e m)
 -- ---- a set that joins
 
 -- the list after a set, by whether it was there
-noted : (ks : List Kernel) (Φ : List Kernel → Type 0) (m : Kernel) → Φ ks → ((m ≡ [] → ⊥) → (In m ks → ⊥) → Φ (ks ++ m ∷ [])) → Φ (note ks m)
+pub noted : (ks : List Kernel) (Φ : List Kernel → Type 0) (m : Kernel) → Φ ks → ((m ≡ [] → ⊥) → (In m ks → ⊥) → Φ (ks ++ m ∷ [])) → Φ (note ks m)
 unfolding note
 noted ks Φ [] p f = p
 noted ks Φ (x ∷ m) p f = joined ks Φ (x ∷ m) (λ _. p) (f (λ e. clash cc))
@@ -68,7 +68,7 @@ pub record Fits (ks : List Kernel) : Type 0 where
   pub states : length ks ≤ 255
   pub lines : total ks ≤ 1023
 
-total-and : (a b : List Kernel) → total (a ++ b) ≡ total a + total b
+pub total-and : (a b : List Kernel) → total (a ++ b) ≡ total a + total b
 total-and [] b = omega arith
 total-and (k ∷ a) b = omega (arith, total-and a b)
 
@@ -79,7 +79,7 @@ fits-back {a = a} {b = b} x f = record {
 }
 
 -- the list after a set, by whether there was room
-noted-if : (ks : List Kernel) (Φ : List Kernel → Type 0) (m : Kernel) → ((Fits ks → ⊥) → Φ ks) → (Fits ks → Φ (note ks m)) → Φ (noteIf ks m)
+pub noted-if : (ks : List Kernel) (Φ : List Kernel → Type 0) (m : Kernel) → ((Fits ks → ⊥) → Φ ks) → (Fits ks → Φ (note ks m)) → Φ (noteIf ks m)
 unfolding noteIf
 noted-if ks Φ m p f = go (ltb 255 (length ks)) (ltb 1023 (total ks)) refl refl
   where
@@ -92,7 +92,7 @@ noted-if ks Φ m p f = go (ltb 255 (length ks)) (ltb 1023 (total ks)) refl refl
 after : (ks : List Kernel) (Φ : List Kernel → Type 0) (m : Kernel) → Φ ks → ((m ≡ [] → ⊥) → (In m ks → ⊥) → Φ (ks ++ m ∷ [])) → Φ (noteIf ks m)
 after ks Φ m p f = noted-if ks Φ m (λ _. p) (λ _. noted ks Φ m p f)
 
-after-extends : (ks : List Kernel) (m : Kernel) → Extends ks (noteIf ks m)
+pub after-extends : (ks : List Kernel) (m : Kernel) → Extends ks (noteIf ks m)
 after-extends ks m = after ks (λ (l : List Kernel). Extends ks l) m (stays ks) (λ _ _. record { more = m ∷ []; is = refl })
 
 after-distinct : (ks : List Kernel) (m : Kernel) → Distinct ks → Distinct (noteIf ks m)
@@ -144,7 +144,7 @@ module _ (move : Kernel → ℕ → Kernel) where
           let w : getD (ks ++ m ∷ []) p [] ≡ m = ap (λ (n : ℕ). getD (ks ++ m ∷ []) n []) z ∙ getD-end ks m in
           record { from = q; symbol = X; earlier = omega (arith, l, z); is = w ∙ ap (λ (h : Kernel). move h X) (sym (kept big q l ∙ is)); filled = λ h. f (sym w ∙ h) }
 
-  leave-extends : (xs : List ℕ) (k : Kernel) (ks : List Kernel) → Extends ks (leave move k xs ks)
+  pub leave-extends : (xs : List ℕ) (k : Kernel) (ks : List Kernel) → Extends ks (leave move k xs ks)
   unfolding leave
   leave-extends [] k ks = stays ks
   leave-extends (x ∷ xs) k ks = extends-trans (after-extends ks (move k x)) (leave-extends xs k (noteIf ks (move k x)))

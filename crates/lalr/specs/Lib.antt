@@ -4,6 +4,7 @@ pub mod EntryLaws
 pub mod States
 pub mod Lists
 pub mod Discovery
+pub mod DiscoverySteps
 pub mod Over
 pub mod Limits
 pub mod MoveLaws

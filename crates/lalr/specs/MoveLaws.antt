@@ -2,13 +2,13 @@
 use Prim.Native.Nat.{ℕ, _+_, _*_, _≤_, _<_}
 use native.Mathlib.Omega.{arith}
 use mathlib.Core.Path.{_≡_, refl, sym, subst}
-use mathlib.Core.List.{List, []}
+use mathlib.Core.List.{List, [], _∷_}
 use lib.ListN.{length}
 use Rattle.language.specs.Grammar.{Grammar}
-use Rattle.language.specs.Sentence.{In}
+use Rattle.language.specs.Sentence.{In, here}
 use Rattle.language.specs.WellFormed as grammar
 use Rattle.language.specs.Member.{in-map}
-use Rattle.leftcorner.specs.Construction.{KernelAt, MovedBy, moved}
+use Rattle.leftcorner.specs.Construction.{KernelAt, Has, in-kernel, in-closure, MovedBy, moved}
 use Rattle.verdict.specs.ItemsDecided.{moved?}
 use Rattle.verdict.specs.Closure.{image-in}
 use Rattle.lalr.specs.Strings.{entryStrings}
@@ -22,6 +22,10 @@ item-of i n l = omega (arith, l)
 
 pub dot-of : (i n : ℕ) → n < 16 → dotOf (i * 16 + n) ≡ n
 dot-of i n l = omega (arith, l)
+
+none-in : (l : List ℕ) → ((x : ℕ) → In x l → ⊥) → l ≡ []
+none-in [] f = refl
+none-in (x ∷ l) f = absurd (f x here)
 
 module _ (g : Grammar) where
   -- the kernel items of `alone` are those of the set
@@ -41,6 +45,17 @@ module _ (g : Grammar) where
   pub move-rising : (k : Kernel) (X : ℕ) → RisingFrom 0 (move g k X)
   unfolding move
   move-rising k X = keep-rising (λ x. MovedBy g (alone g k) 1 X (itemOf x) (dotOf x)) (λ x. moved? g (alone g k) 1 X (itemOf x) (dotOf x)) 0 4096
+
+  -- nothing moves from no items
+  pub move-nothing : (X : ℕ) → move g [] X ≡ []
+  move-nothing X = none-in (move g [] X) (λ x m. nowhere (move-only [] X x m))
+    where
+      nothing : {i n : ℕ} → Has g (alone g []) 1 i n → ⊥
+      nothing (in-kernel m) = elim (alone-line {k = []} m .1) [ ]
+      nothing (in-closure j h go e l) = nothing h
+
+      nowhere : {i n : ℕ} → MovedBy g (alone g []) 1 X i n → ⊥
+      nowhere (moved h go) = nothing h
 
   -- where the grammar was read and its entries are within the limit
   module _ (W : grammar.WellFormed g) (few : length (entryStrings g) ≤ 127) where
@@ -72,6 +87,10 @@ module _ (g : Grammar) where
     -- the symbol is one that states are left by
     pub moved-symbol : (k : Kernel) {X i n : ℕ} → MovedBy g (alone g k) 1 X i n → In X (range 1 127)
     moved-symbol k {X = X} m = let s = small k m in in-range 1 127 X (s .low) (omega (arith, s .high))
+
+    -- and no other
+    pub move-outside : (k : Kernel) (X : ℕ) → (In X (range 1 127) → ⊥) → move g k X ≡ []
+    move-outside k X f = none-in (move g k X) (λ x m. f (moved-symbol k (move-only k X x m)))
 
     -- the rising list of the moved items is the move's
     pub move-is : (k m : Kernel) (X : ℕ) → RisingFrom 0 m → ((x : ℕ) → In x m → MovedBy g (alone g k) 1 X (itemOf x) (dotOf x))

@@ -12,7 +12,7 @@ use Rattle.language.specs.Member.{in-cons}
 use Rattle.leftcorner.specs.Construction.{MovedBy}
 use Rattle.lalr.specs.Strings.{entryStrings}
 use Rattle.lalr.specs.Distinct.{Distinct, kept, longer}
-use Rattle.lalr.specs.States.{Kernel, find, alone, move, entryKernels, states, kernelOf, goto}
+use Rattle.lalr.specs.States.{Kernel, find, alone, move, explore, entryKernels, states, kernelOf, goto}
 use Rattle.lalr.specs.Lists.{RisingFrom}
 use Rattle.lalr.specs.Discovery.{Target, Found, states-found, find-is, find-at}
 use Rattle.lalr.specs.Limits.{Limits}
@@ -33,11 +33,11 @@ module _ (g : Grammar) where
   kernels-distinct a (γ ∷ l) =
       (λ m. let r = kernels-in (suc a) l (a * 16 ∷ []) m in let e = r .2 in let z : a * 16 ≡ r .0 * 16 = cc in omega (arith, z, r .1), kernels-distinct (suc a) l)
 
-  kernels-length : (a : ℕ) (l : List (List ℕ)) → length (entryKernels g a l) ≡ length l
+  pub kernels-length : (a : ℕ) (l : List (List ℕ)) → length (entryKernels g a l) ≡ length l
   kernels-length a [] = refl
   kernels-length a (γ ∷ l) = ap suc (kernels-length (suc a) l)
 
-  kernel-at : (a : ℕ) (l : List (List ℕ)) (j : ℕ) → j < length l → getD (entryKernels g a l) j [] ≡ (a + j) * 16 ∷ []
+  pub kernel-at : (a : ℕ) (l : List (List ℕ)) (j : ℕ) → j < length l → getD (entryKernels g a l) j [] ≡ (a + j) * 16 ∷ []
   kernel-at a [] j h = absurd (omega (arith, h))
   kernel-at a (γ ∷ l) zero h = let z : a ≡ a + 0 = omega arith in ap (λ (n : ℕ). n * 16 ∷ []) z
   kernel-at a (γ ∷ l) (suc j) h = let z : suc a + j ≡ a + suc j = omega arith in kernel-at (suc a) l j (omega (arith, h)) ∙ ap (λ (n : ℕ). n * 16 ∷ []) z
@@ -45,6 +45,10 @@ module _ (g : Grammar) where
   -- the kernel sets that the discovery starts from
   abbrev pub firstKernels : List Kernel
   firstKernels = entryKernels g (suc (length (g .rules))) (entryStrings g)
+
+  pub states-are : states g ≡ explore (move g) 255 0 firstKernels
+  unfolding states
+  states-are = refl
 
   pub found : Found (move g) firstKernels (length (states g)) (states g)
   unfolding states
@@ -64,6 +68,11 @@ module _ (g : Grammar) where
       kept (found .from) j (omega (arith, h, kernels-length (suc (length (g .rules))) (entryStrings g)))
       ∙ kernel-at (suc (length (g .rules))) (entryStrings g) j h ∙ ap (λ (n : ℕ). n * 16 ∷ []) z
 
+  -- a state with the moved items is the one that is gone to
+  pub goto-at : (q X s : ℕ) → s < length (states g) → getD (states g) s [] ≡ move g (kernelOf g q) X → goto g q X ≡ suc s
+  unfolding goto
+  goto-at q X s l e = ap suc (ap (λ (k : Kernel). find k (states g)) (sym e) ∙ find-at (states g) s states-distinct l)
+
   -- a state after the entries is the target of an earlier one
   pub record Reached (q : ℕ) : Type 0 where
     pub from : ℕ
@@ -79,7 +88,6 @@ module _ (g : Grammar) where
   some-in (x ∷ k) f = (x, here)
 
   pub reached : (q : ℕ) → length (entryStrings g) < q → q ≤ length (states g) → Reached q
-  unfolding goto
   reached zero l h = absurd (omega (arith, l))
   reached (suc p) l h =
       let c = found .origin p (omega (arith, l, kernels-length (suc (length (g .rules))) (entryStrings g))) h in
@@ -90,7 +98,7 @@ module _ (g : Grammar) where
         earlier = omega (arith, c .earlier);
         kernel = c .is;
         some-item = some-in (move g (kernelOf g (suc (c .from))) (c .symbol)) (λ e. c .filled (c .is ∙ e));
-        back = ap suc (ap (λ (k : Kernel). find k (states g)) (sym (c .is)) ∙ find-at (states g) p states-distinct h);
+        back = goto-at (suc (c .from)) (c .symbol) p h (c .is);
       }
 
   -- every state is an entry's, or reached

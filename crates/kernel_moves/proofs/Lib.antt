@@ -1,0 +1,4 @@
+pub mod NumberLaws
+pub mod PickLaws
+pub mod MovedLaws
+pub mod HasLaws

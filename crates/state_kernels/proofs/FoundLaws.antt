@@ -1,0 +1,124 @@
+-- What is found is the grammar's: all its states with their lines and next states, or too many.
+use Prim.Native.Nat.{ℕ, zero, suc, _+_, _*_, _-_, _≤_, _<_}
+use native.Mathlib.Decide.{decLt}
+use native.Mathlib.Numerals.{add-one}
+use native.Mathlib.Omega.{arith}
+use mathlib.Core.Path.{_≡_, refl, sym, ap, subst, _∙_}
+use mathlib.Core.Logic.{_⊎_, inl, inr}
+use mathlib.Core.List.{List, [], _∷_}
+use lib.ListN.{length, getD, take, drop, List·getD-eq-default}
+use lib.Seq.{getD-take, getD-drop, length-take-le}
+use Rattle.language.specs.Grammar.{Grammar}
+use Rattle.language.specs.GrammarLaws.{in-string}
+use Rattle.lalr.specs.States.{Kernel, itemOf, dotOf, total, move, kernelOf, goto}
+use Rattle.lalr.specs.States as lalr
+use Rattle.lalr.specs.Discovery.{Fits}
+use Rattle.lalr.specs.MoveLaws.{move-nothing}
+use Rattle.lalr.specs.StateLaws.{goto-at}
+use Rattle.memory.specs.Memory.{stateAt, itemAt, dotAt}
+use Rattle.kernel_moves.specs.Held.{HoldsGrammar}
+use Rattle.kernel_moves.specs.Moved.{Numbered}
+use Rattle.state_kernels.specs.Sets.{part, setsIn, Bounds, Leads}
+use Rattle.state_kernels.specs.Cells.{shiftKind, Cell}
+use Rattle.state_kernels.specs.Exploring.{Explored}
+use Rattle.state_kernels.specs.Lines.{LineOf, LinesOf}
+use Rattle.state_kernels.specs.Discovered.{firstLine, HoldsSets, ifMoves, nextState, HoldsNext, HoldsStates}
+use Rattle.state_kernels.proofs.PartLaws.{part-length}
+use Rattle.state_kernels.proofs.SetLaws.{sets-length, sets-at, sets-take, sets-sum, sets-total, start-low}
+use Rattle.state_kernels.proofs.JoinLaws.{fits}
+use Rattle.state_kernels.proofs.LeaveLaws.{not-fits}
+
+-- the numbers fit the lines
+pub number-low : (sets : List ℕ) (lines count : ℕ) → lines ≤ length sets → count ≤ 254 → Numbered count (take lines sets) → (l : ℕ) → l < lines → getD sets l 0 < 4096
+number-low sets lines count room few N l h =
+    let b = N (getD (take lines sets) l 0) (in-string (take lines sets) l (omega (arith, h, length-take-le lines sets room))) in
+    omega (arith, b .1, getD-take lines sets l 0 h)
+
+-- ---- kernel lines
+
+module _ {sets starts : List ℕ} {states lines : ℕ} (B : Bounds sets starts states lines) where
+  first-line : (p : ℕ) → p ≤ states → firstLine (setsIn sets starts states) p ≡ getD starts p 0
+  first-line p l = ap total (sets-take sets starts states p l) ∙ sets-sum B p l
+
+  pub lines-hold : (kernels : List ℕ) → LinesOf sets starts states kernels → HoldsSets kernels starts (setsIn sets starts states)
+  lines-hold kernels L = record {
+    line-state = λ p j l h. let r = at p j l h in r .state ∙ add-one p;
+    line-item = λ p j l h. let r = at p j l h in r .item ∙ ap itemOf (number p j l h);
+    line-dot = λ p j l h. let r = at p j l h in r .dot ∙ ap dotOf (number p j l h);
+    start-is = λ p l. sym (first-line p (omega (arith, l, sets-length sets starts states)));
+  }
+    where
+      within : (p j : ℕ) → p < states → j < length (getD (setsIn sets starts states) p []) → j < getD starts (p + 1) 0 - getD starts p 0
+      within p j l h =
+          omega (arith, h, ap length (sets-at sets starts states p l), part-length sets (getD starts p 0) (getD starts (p + 1) 0) (omega (arith, start-low B (p + 1) (omega arith), B .room)))
+
+      at : (p j : ℕ) → p < length (setsIn sets starts states) → j < length (getD (setsIn sets starts states) p [])
+          → LineOf kernels (firstLine (setsIn sets starts states) p + j) (p + 1) (getD sets (getD starts p 0 + j) 0)
+      at p j l h =
+          let u : p < states = omega (arith, l, sets-length sets starts states) in
+          let w = within p j u h in
+          subst (λ (n : ℕ). LineOf kernels (n + j) (p + 1) (getD sets (getD starts p 0 + j) 0)) (sym (first-line p (omega arith)))
+          (L .line p (getD starts p 0 + j) u (omega arith) (omega (arith, w, B .rise p u)))
+
+      number : (p j : ℕ) → p < length (setsIn sets starts states) → j < length (getD (setsIn sets starts states) p [])
+          → getD sets (getD starts p 0 + j) 0 ≡ getD (getD (setsIn sets starts states) p []) j 0
+      number p j l h =
+          let u : p < states = omega (arith, l, sets-length sets starts states) in
+          sym (ap (λ (k : Kernel). getD k j 0) (sets-at sets starts states p u)
+          ∙ getD-take (getD starts (p + 1) 0 - getD starts p 0) (drop (getD starts p 0) sets) j 0 (within p j u h) ∙ getD-drop (getD starts p 0) sets j 0)
+
+-- ---- next states
+
+module _ (g : Grammar) where
+  next-none : (q X : ℕ) → move g (kernelOf g q) X ≡ [] → 0 ≡ nextState g q X
+  unfolding nextState
+  next-none q X e = sym (ap (λ (m : Kernel). ifMoves m (goto g q X)) e)
+
+  next-some : (q X : ℕ) → (move g (kernelOf g q) X ≡ [] → ⊥) → goto g q X ≡ nextState g q X
+  unfolding nextState
+  next-some q X f = go (move g (kernelOf g q) X) f
+    where
+      go : (m : Kernel) → (m ≡ [] → ⊥) → goto g q X ≡ ifMoves m (goto g q X)
+      go [] f = absurd (f refl)
+      go (x ∷ m) f = refl
+
+  leads-is : (q X v : ℕ) → Leads (lalr.states g) (move g (kernelOf g q) X) v → v ≡ nextState g q X
+  leads-is q X zero e = next-none q X e
+  leads-is q X (suc s) h = sym (goto-at g q X s (h .0) (h .1)) ∙ next-some q X (h .2)
+
+  cells-hold : {kinds values gotos : List ℕ} → ((q X : ℕ) → X < 128 → Cell kinds values gotos q X (nextState g q X)) → HoldsNext g kinds values gotos
+  cells-hold {gotos = gotos} C = record {
+    kind-is = λ q c l. C q c (omega (arith, l)) .kind l;
+    value-is = λ q c l. C q c (omega (arith, l)) .value l;
+    goto-is = λ q b l. let z : q * 64 + b ≡ q * 64 + (64 + b - 64) = omega arith in ap (λ (n : ℕ). getD gotos n 0) z ∙ C q (64 + b) (omega (arith, l)) .next (omega arith);
+  }
+
+module _ {items : List ℕ} {rules strings : ℕ} {sets starts kinds values gotos : List ℕ} {states lines : ℕ} (E : Explored items rules strings sets starts kinds values gotos states lines)
+    (g : Grammar) (H : HoldsGrammar items rules strings g) where
+  pub too-many : (255 < states) ⊎ (1023 < lines) → Fits (lalr.states g) → ⊥
+  too-many h f = not-fits (E .bounds) h (subst Fits (E .sets-are g H) f)
+
+  module _ (few-states : states ≤ 255) (few-lines : lines ≤ 1023) where
+    cells-are : (q X : ℕ) → X < 128 → Cell kinds values gotos q X (nextState g q X)
+    cells-are zero X l = subst (Cell kinds values gotos 0 X) (next-none g 0 X (move-nothing g X)) (E .blank few-states few-lines 0 X l (inl refl))
+    cells-are (suc p) X l = go (decLt p states)
+      where
+        go : Dec (p < states) → Cell kinds values gotos (suc p) X (nextState g (suc p) X)
+        go (yes h) =
+            let r = E .next few-states few-lines g H p X h l in
+            subst (Cell kinds values gotos (suc p) X)
+            (leads-is g (suc p) X (r .0) (subst (λ (ks : List Kernel). Leads ks (move g (getD ks p []) X) (r .0)) (sym (E .sets-are g H)) (r .2))) (r .1)
+        go (no f) =
+            let long : length (lalr.states g) ≤ p = omega (arith, f, ap length (E .sets-are g H), sets-length sets starts states) in
+            let none : getD (lalr.states g) p [] ≡ [] = List·getD-eq-default (lalr.states g) [] long in
+            subst (Cell kinds values gotos (suc p) X) (next-none g (suc p) X (ap (λ (k : Kernel). move g k X) none ∙ move-nothing g X))
+            (E .blank few-states few-lines (suc p) X l (inr (omega (arith, f))))
+
+    pub holds-states : {kernels : List ℕ} → LinesOf sets starts states kernels → HoldsStates g kernels starts kinds values gotos states lines
+    holds-states {kernels} L = record {
+      fits = subst Fits (sym (E .sets-are g H)) (fits (E .bounds) few-states few-lines);
+      state-count = ap length (E .sets-are g H) ∙ sets-length sets starts states;
+      line-count = ap total (E .sets-are g H) ∙ sets-total (E .bounds);
+      holds-sets = subst (HoldsSets kernels starts) (sym (E .sets-are g H)) (lines-hold (E .bounds) kernels L);
+      holds-next = cells-hold g cells-are;
+    }

@@ -1,0 +1,109 @@
+use mathlib.Core.Path.{_≡_, refl, sym, ap, subst, _∙_}
+use mathlib.Core.Logic.{⊎-elim}
+use Prim.Native.Nat.{ℕ, zero, suc, _+_, _*_, _≤_, _<_, _-_}
+use native.Mathlib.Omega.{arith}
+use borrow.Author.Count.{below-more, below-none}
+use lib.ListN.{length, getD, set, length-set, replicate}
+use borrow.Author.Needs.{needs}
+use mathlib.Core.Logic.{inl, inr}
+use Rattle.state_kernels.proofs.FoundLaws.{number-low, too-many, holds-states}
+use Rattle.state_kernels.proofs.find_states.Statement.{statement}
+use Rattle.state_kernels.proofs.find_states.Tie as tie
+use Rattle.state_kernels.proofs.find_states.Reads as reads
+use Rattle.state_kernels.proofs.find_states.Lts as lts
+use Rattle.state_kernels.proofs.explore_states.Reads as explore-states-reads
+use Rattle.state_kernels.proofs.seed_entries.Reads as seed-entries-reads
+use Rattle.state_kernels.proofs.write_lines.Reads as write-lines-reads
+
+slice-aggregate-seed-entries : tie.Need-slice-aggregate-seed-entries
+slice-aggregate-seed-entries c = search needs
+
+seed-entries-requires : tie.Need-seed-entries-requires
+seed-entries-requires c κs = search needs
+
+slice-aggregate-explore-states : tie.Need-slice-aggregate-explore-states
+slice-aggregate-explore-states c = search needs
+
+explore-states-requires : tie.Need-explore-states-requires
+explore-states-requires c κs = let p = c .before .before .before .before .before .before .before .before .before .before .before .before .before .before .before .before .before .pre in (p .0, ((p .1 .0 .0, p .1 .0 .1, search needs, search needs), (c .before .before .before .before .before .before .before .before .seed-entries .ensures, (p .1 .1 .0, p .1 .1 .1))))
+
+same-length : tie.Need-same-length
+same-length c = search needs
+
+same-length-2 : tie.Need-same-length-2
+same-length-2 c = search needs
+
+same-length-3 : tie.Need-same-length-3
+same-length-3 c = search needs
+
+same-length-4 : tie.Need-same-length-4
+same-length-4 c = search needs
+
+returns : tie.Need-returns
+returns c = λ g H. too-many (c .before .before .before .before .before .before .before .before .before .before .explore-states .ensures) g H (inl (c .if1 .taken))
+
+same-length-5 : tie.Need-same-length-5
+same-length-5 c = search needs
+
+same-length-6 : tie.Need-same-length-6
+same-length-6 c = search needs
+
+same-length-7 : tie.Need-same-length-7
+same-length-7 c = search needs
+
+same-length-8 : tie.Need-same-length-8
+same-length-8 c = search needs
+
+returns-2 : tie.Need-returns-2
+returns-2 c = λ g H. too-many (c .before .before .before .before .before .before .before .before .before .before .before .explore-states .ensures) g H (inr (c .if2 .taken))
+
+slice-aggregate-write-lines : tie.Need-slice-aggregate-write-lines
+slice-aggregate-write-lines c = search needs
+
+write-lines-requires : tie.Need-write-lines-requires
+write-lines-requires c κs = let p = c .before .before .before .before .before .before .before .before .before .before .before .before .before .before .before .before .before .before .before .before .before .before .before .before .before .before .before .before .before .before .before .before .pre in let e = c .before .before .before .before .before .before .before .before .before .before .before .before .before .before .explore-states .ensures in (e .bounds, ((c .before .before .before .before .if1 .left, omega (arith, c .before .before .before .if2 .left, p .1 .0 .2)), number-low _ _ _ (e .bounds .room) (omega (arith, p .1 .0 .0, p .1 .0 .1)) (e .numbered)))
+
+same-length-9 : tie.Need-same-length-9
+same-length-9 c = search needs
+
+same-length-10 : tie.Need-same-length-10
+same-length-10 c = search needs
+
+same-length-11 : tie.Need-same-length-11
+same-length-11 c = search needs
+
+same-length-12 : tie.Need-same-length-12
+same-length-12 c = search needs
+
+same-length-13 : tie.Need-same-length-13
+same-length-13 c = search needs
+
+returns-3 : tie.Need-returns-3
+returns-3 c = λ g H. holds-states (c .before .before .before .before .before .before .before .before .before .before .before .before .before .before .before .before .before .explore-states .ensures) g H (c .before .before .before .before .before .before .before .if1 .left) (c .before .before .before .before .before .before .if2 .left) (c .before .before .write-lines .ensures)
+
+pub find-states-spec : {M : Type 1} → statement M
+find-states-spec =
+    tie.close
+    (tie.spec
+    slice-aggregate-seed-entries
+    seed-entries-requires
+    slice-aggregate-explore-states
+    explore-states-requires
+    same-length
+    same-length-2
+    same-length-3
+    same-length-4
+    returns
+    same-length-5
+    same-length-6
+    same-length-7
+    same-length-8
+    returns-2
+    slice-aggregate-write-lines
+    write-lines-requires
+    same-length-9
+    same-length-10
+    same-length-11
+    same-length-12
+    same-length-13
+    returns-3)
