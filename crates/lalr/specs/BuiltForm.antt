@@ -9,11 +9,11 @@ use mathlib.Core.Option.{some}
 use borrow.Author.Tests.{ltb-true, ltb-false}
 use lib.Dec.{ltb}
 use lib.ListN.{length}
-use Rattle.language.specs.Grammar.{Grammar, Rule, at, ruleAt, concat, IsTerminal, IsNonterminal}
+use Rattle.language.specs.Grammar.{Grammar, Rule, ruleAt, concat, IsTerminal, IsNonterminal}
 use Rattle.language.specs.Sentence.{In, Reachable}
 use Rattle.language.specs.Strings.{AllDeclared}
 use Rattle.language.specs.GrammarLaws.{at-below}
-use Rattle.leftcorner.specs.Table.{EntryLine, Action, S, N, L, Table}
+use Rattle.leftcorner.specs.Table.{Action, S, N, L, Table}
 use Rattle.leftcorner.specs.Construction.{entryItem, EntryAt, KernelAt, ActionAt, MovedBy, moved, WellFormed, Asked, to-move, to-announce, to-pop}
 use Rattle.leftcorner.specs.Closure.{has-of}
 use Rattle.leftcorner.specs.ReadOff.{clash}
@@ -21,7 +21,7 @@ use Rattle.lalr.specs.Strings.{entryStrings, entryLines}
 use Rattle.lalr.specs.EntryLaws.{entry-at, entry-line, one-entry}
 use Rattle.lalr.specs.States.{Kernel, itemOf, range, alone, states, kernelOf, goto}
 use Rattle.lalr.specs.Lists.{in-range, range-in}
-use Rattle.lalr.specs.Over.{asked-over}
+use Rattle.lalr.specs.Over.{symbols-over, asked-over}
 use Rattle.lalr.specs.Limits.{Limits, bounded, code-low, symbols-item}
 use Rattle.lalr.specs.MoveLaws.{move-only}
 use Rattle.lalr.specs.StateLaws.{more-states, entry-kernel, Reached, entry-or}
@@ -30,6 +30,34 @@ use Rattle.lalr.specs.LineLaws.{itemTable, same-entries, code-every, Lin
 use Rattle.lalr.specs.Carried.{looked, first-low, look-low}
 use Rattle.lalr.specs.Live.{in-one, every-live}
 use Rattle.lalr.specs.CellLaws.{cell, cell-moves, of-in, in-of}
+
+-- a table that has the entries of g
+module _ (g : Grammar) (L : Limits g) (t : Table) (same : t .entries ≡ entryLines 1 (entryStrings g)) where
+  -- entry q's line
+  pub entry-of : (q : ℕ) → 1 ≤ q → q ≤ length (entryStrings g) → (γ : List ℕ) × EntryAt g t q q γ
+  entry-of zero l h = absurd (omega (arith, l))
+  entry-of (suc j) l h = let a = at-below (entryStrings g) j h in (a .0, entry-at g t same j (a .1))
+
+  -- item i is a rule, or an entry's
+  abbrev pub Known : ℕ → Type 0
+  Known i = ((r : Rule) × (ruleAt g i ≡ some r)) ⊎ ((j : ℕ) × (s : ℕ) × (γ : List ℕ) × (i ≡ entryItem g t j) × EntryAt g t j s γ)
+
+  moved-known : (k : Kernel) {X i n : ℕ} → MovedBy g (alone g k) 1 X i n → Known i
+  moved-known k {i = i} (moved h go) =
+      let w = bounded g (L .formed) (alone g k) refl go .within in
+      let s = ap length (symbols-over g (alone g k) t (sym same) i) in
+      symbols-item g (L .formed) t same i (omega (arith, w, s))
+
+  -- every kernel item is one
+  pub kernel-known : (q x : ℕ) → 1 ≤ q → q ≤ length (states g) → In x (kernelOf g q) → Known (itemOf x)
+  kernel-known q x l h m = go (entry-or g q h)
+    where
+      go : (q ≤ length (entryStrings g)) ⊎ Reached g q → Known (itemOf x)
+      go (inl e) =
+          let k = in-one (subst (λ (z : Kernel). In x z) (entry-kernel g q l e) m) in
+          let w = entry-of q l e in
+          inr (q, q, w .0, omega (arith, k), w .1)
+      go (inr r) = moved-known (kernelOf g (r .from)) (move-only g (kernelOf g (r .from)) (r .symbol) x (subst (λ (z : Kernel). In x z) (r .kernel) m))
 
 module _ (g : Grammar) (F : List ℕ → ℕ → ℕ → Type 0) (F? : (β : List ℕ) (d c : ℕ) → Dec (F β d c)) (first-codes : List ℕ)
     (F-in : (β : List ℕ) (d c : ℕ) → F β d c → (c ≡ d) ⊎ In c first-codes) where
@@ -134,35 +162,6 @@ module _ (g : Grammar) (F : List ℕ → ℕ → ℕ → Type 0) (F? : (β : Lis
         go false h e (inl k) = absurd (omega (arith, ltb-false X 64 h, k .1, L .formed .few-terminals))
         go false h e (inr k) = k
 
-    abbrev Known : ℕ → Type 0
-    Known i = ((r : Rule) × (ruleAt g i ≡ some r)) ⊎ ((j : ℕ) × (s : ℕ) × (γ : List ℕ) × (i ≡ entryItem g fullTable j) × EntryAt g fullTable j s γ)
-
-    -- entry q's line
-    pub entry-of : (q : ℕ) → 1 ≤ q → q ≤ length (entryStrings g) → (γ : List ℕ) × EntryAt g fullTable q q γ
-    entry-of zero l h = absurd (omega (arith, l))
-    entry-of (suc j) l h = let a = at-below (entryStrings g) j h in (a .0, entry-at g fullTable built-entries j (a .1))
-
-    moved-known : (k : Kernel) {X i n : ℕ} → MovedBy g (alone g k) 1 X i n → Known i
-    moved-known k {i = i} (moved h go) = over (symbols-item g (L .formed) (alone g k) refl i (let w = bounded g (L .formed) (alone g k) refl go .within in omega (arith, w)))
-      where
-        over : ((r : Rule) × (ruleAt g i ≡ some r)) ⊎ ((j : ℕ) × (s : ℕ) × (γ : List ℕ) × (i ≡ entryItem g (alone g k) j) × EntryAt g (alone g k) j s γ) → Known i
-        over (inl r) = inl r
-        over (inr e) = inr (e .0, e .1, e .2, e .3, entry-over (e .0) (e .4))
-          where
-            entry-over : (j : ℕ) {s : ℕ} {γ : List ℕ} → EntryAt g (alone g k) j s γ → EntryAt g fullTable j s γ
-            entry-over zero e = e
-            entry-over (suc j) e = ap (λ (l : List EntryLine). at l j) built-entries ∙ e
-
-    kernel-known : (q x : ℕ) → 1 ≤ q → q ≤ length (states g) → In x (kernelOf g q) → Known (itemOf x)
-    kernel-known q x l h m = go (entry-or g q h)
-      where
-        go : (q ≤ length (entryStrings g)) ⊎ Reached g q → Known (itemOf x)
-        go (inl e) =
-            let k = in-one (subst (λ (z : Kernel). In x z) (entry-kernel g q l e) m) in
-            let w = entry-of q l e in
-            inr (q, q, w .0, omega (arith, k), w .1)
-        go (inr r) = moved-known (kernelOf g (r .from)) (move-only g (kernelOf g (r .from)) (r .symbol) x (subst (λ (z : Kernel). In x z) (r .kernel) m))
-
     module _ (F-some : (β : List ℕ) → AllDeclared g β → (d : ℕ) → (c : ℕ) × F β d c) (reach : (X : ℕ) → IsNonterminal g X → Reachable g X) where
       some-code : (q i k : ℕ) (σ : List ℕ) → KernelAt g fullTable q i k σ → (d : ℕ) × In d σ
       some-code q i k σ m =
@@ -178,7 +177,7 @@ module _ (g : Grammar) (F : List ℕ → ℕ → ℕ → Type 0) (F? : (β : Lis
         one-entry = one-entry g fullTable built-entries;
         one-action = λ q X x y a c. let u = action-is q X x a .holds in let v = action-is q X y c .holds in let w : x ≡ y = cc in w;
         some-code = some-code;
-        item-declared = λ q i k σ m. let l = built-line q i k σ m in subst Known (sym (l .item)) (kernel-known q (l .number) (l .low) (l .high) (l .stands));
+        item-declared = λ q i k σ m. let l = built-line q i k σ m in subst (Known g L fullTable built-entries) (sym (l .item)) (kernel-known g L fullTable built-entries q (l .number) (l .low) (l .high) (l .stands));
         kernel-state = λ q i k σ m. let l = built-line q i k σ m in (l .low, omega (arith, l .high, states-both));
         entry-state = λ k s γ e. let l = entry-line g fullTable built-entries k e in (omega (arith, l .0, l .1), omega (arith, l .0, l .2, more-states g, states-both));
         action-state = λ q X x a. let w = action-is q X x a in (w .low, omega (arith, w .high, states-both));

@@ -46,6 +46,14 @@ module _ (g : Grammar) (W : grammar.WellFormed g) (t : Table) (same : t .entries
   wanted-short (of-goal e) = omega (arith, ap length e)
   wanted-short {γ = γ} (of-group i {r = r} e m) = omega (arith, W .formed i e .short, length-append (r .before) (concat (r .groups)), group-short γ (r .groups) m)
 
+  pub wanted-filled : {γ : List ℕ} → Wanted g γ → 1 ≤ length γ
+  wanted-filled (of-goal e) = omega (arith, ap length e)
+  wanted-filled {γ = γ} (of-group i e m) = filled γ (W .formed i e .filled γ m)
+    where
+      filled : (γ : List ℕ) → (γ ≡ [] → ⊥) → 1 ≤ length γ
+      filled [] f = absurd (f refl)
+      filled (x ∷ γ) f = omega arith
+
   right-short : (i : ℕ) (o : Option Rule) → ruleAt g i ≡ o → length (rightOf o) ≤ 15
   right-short i none e = omega arith
   right-short i (some r) e = W .formed i e .short

@@ -107,7 +107,7 @@ module _ (g : Grammar) (F : List ℕ → ℕ → ℕ → Type 0) (F? : (β : Lis
     where
       go : (q ≤ length (entryStrings g)) ⊎ Reached g q
           → ((k : ℕ) × (γ : List ℕ) × EntryAt g u k q γ) ⊎ ((p : ℕ) × (X : ℕ) × (x : Action) × ActionAt g u p X x × (nextState x ≡ some q))
-      go (inl e) = let r = entry-of g F F? first-codes F-in L codes-low q l e in inl (q, r .0, r .1)
+      go (inl e) = let r = entry-of g L (fullTable g F F? first-codes F-in) (built-entries g F F? first-codes F-in) q l e in inl (q, r .0, r .1)
       go (inr r) =
           let p = r .from in
           let X = r .symbol in

@@ -11,7 +11,7 @@ use Rattle.language.specs.Sentence.{In, here, there}
 use Rattle.language.specs.GrammarLaws.{rule-range}
 use Rattle.language.specs.Strings.{AllDeclared}
 use Rattle.leftcorner.specs.Table.{E, Action, S, N, A, P, Table, symbolsOf, nextState}
-use Rattle.leftcorner.specs.Construction.{Wanted, of-goal, of-group, EntryAt, KernelAt, ActionAt, MovedBy, moved, Asked, to-announce, to-pop, WellFormed}
+use Rattle.leftcorner.specs.Construction.{EntryAt, KernelAt, ActionAt, MovedBy, moved, Asked, to-announce, to-pop, WellFormed}
 use Rattle.leftcorner.specs.ItemStrings.{wanted-declared}
 use Rattle.lalr.specs.Strings.{entryStrings, entryLines}
 use Rattle.lalr.specs.Distinct.{in-at}
@@ -19,7 +19,7 @@ use Rattle.lalr.specs.EntryLaws.{goal-at, some-entry, strings-distinct, 
 use Rattle.lalr.specs.States.{Kernel, itemOf, dotOf, alone, states, kernelOf, total}
 use Rattle.lalr.specs.Lists.{RisingFrom}
 use Rattle.lalr.specs.Over.{symbols-over}
-use Rattle.lalr.specs.Limits.{Limits, declared, bounded, wanted-short}
+use Rattle.lalr.specs.Limits.{Limits, declared, bounded, wanted-short, wanted-filled}
 use Rattle.lalr.specs.MoveLaws.{move-only}
 use Rattle.lalr.specs.StateLaws.{more-states, entry-kernel, kernels-rising, Reached, entry-or}
 use Rattle.lalr.specs.Built.{items, built}
@@ -93,21 +93,13 @@ module _ (g : Grammar) (F : List ℕ → ℕ → ℕ → Type 0) (F? : (β : Lis
 
   -- ---- entry lines
 
-  wanted-filled : {γ : List ℕ} → Wanted g γ → 1 ≤ length γ
-  wanted-filled (of-goal e) = omega (arith, ap length e)
-  wanted-filled {γ = γ} (of-group i e m) = filled γ (L .formed .formed i e .filled γ m)
-    where
-      filled : (γ : List ℕ) → (γ ≡ [] → ⊥) → 1 ≤ length γ
-      filled [] f = absurd (f refl)
-      filled (x ∷ γ) f = omega arith
-
   entry-form : (s : ℕ) (γ : List ℕ) → In (E s γ) (u .entries) → EntryForm g u s γ
   entry-form s γ m =
       let a = in-at m in
       let w = entry-line g u same (suc (a .0)) (a .1) in
       record {
         state = R .entry-state (suc (a .0)) s γ (a .1);
-        some-symbol = wanted-filled (w .3);
+        some-symbol = wanted-filled g (L .formed) u same (w .3);
         short = wanted-short g (L .formed) u same (w .3);
         symbols = wanted-declared g u (declared g (L .formed)) γ (w .3);
       }

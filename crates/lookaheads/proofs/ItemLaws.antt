@@ -18,10 +18,10 @@ use Rattle.carried.specs.Rows.{FirstsAt}
 use Rattle.carried.proofs.FirstLaws.{at-zero}
 use Rattle.entry_list.specs.Parts.{GroupEnd}
 use Rattle.lookaheads.specs.Narrow.{Narrowing, Narrows}
-use Rattle.lookaheads.specs.Groups.{groupEnd, groupFrom, groupBegin}
+use Rattle.inclusions.specs.Groups.{groupEnd, groupFrom, groupBegin}
 use Rattle.lookaheads.specs.Memory.{Covers, LineCovers, LinesCover, LinesOf, MoveMeets, GroupMeets, GroupsMeet, ItemMeets, LinesMeet, RuleMeets, RulesMeet}
 use Rattle.lookaheads.proofs.NarrowLaws.{narrows-none, narrows-map, narrowing-then, off-before, narrows-both}
-use Rattle.lookaheads.proofs.GroupLaws.{end-found, group-next, group-order}
+use Rattle.inclusions.proofs.GroupLaws.{end-found, group-next, group-order}
 
 -- ---- a row of codes
 pub covers-none : {from to : List ℕ} {start at : ℕ} → Covers from start to at 0

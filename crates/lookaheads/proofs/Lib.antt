@@ -1,5 +1,3 @@
 pub mod NarrowLaws
-pub mod GroupLaws
 pub mod ItemLaws
-pub mod RuleLaws
 pub mod MeetLaws

@@ -35,11 +35,11 @@ use Rattle.carried.proofs.CarryLaws.{row-declared, row-carries, carries-row}
 use Rattle.entry_list.specs.Uses.{HoldsUses}
 use Rattle.entry_list.proofs.GroupLaws.{baseOf}
 use Rattle.lookaheads.specs.Narrow.{Narrows}
-use Rattle.lookaheads.specs.Groups.{groupBegin}
+use Rattle.inclusions.specs.Groups.{groupBegin}
 use Rattle.lookaheads.specs.Memory.{Covers, LinesCover, LinesOf, MoveMeets, GroupMeets, GroupsMeet, ItemMeets, LinesMeet, RulesMeet}
 use Rattle.lookaheads.specs.Sources.{LookaheadsFrom, GoalMeets}
 use Rattle.lookaheads.proofs.NarrowLaws.{narrows-map, narrows-both}
-use Rattle.lookaheads.proofs.RuleLaws.{found-entry, base-low, begin-at, rest-at, use-at, find-group}
+use Rattle.inclusions.proofs.RuleLaws.{found-entry, base-low, begin-at, rest-at, use-at, find-group}
 
 module _ (g : Grammar) (t : Table) {items entries kernels lookaheads kinds values gotos : List ℕ} {rules strings lines : ℕ}
     (H : Held g t items entries kernels lookaheads kinds values gotos rules strings lines) where

@@ -1,4 +1,3 @@
 pub mod Narrow
-pub mod Groups
 pub mod Memory
 pub mod Sources

@@ -8,7 +8,7 @@ use Rattle.fixpoint.specs.Flags.{On}
 use Rattle.memory.specs.Memory.{stateAt, itemAt, dotAt}
 use Rattle.moves.specs.Moves.{symbolAfter, nextAt, Present, Lined, Cells}
 use Rattle.carried.specs.Rows.{Ready, FirstsAt}
-use Rattle.lookaheads.specs.Groups.{groupBegin}
+use Rattle.inclusions.specs.Groups.{groupBegin}
 
 -- each code that is flagged in one row is flagged in another
 pub record Covers (from : List ℕ) (start : ℕ) (to : List ℕ) (at codes : ℕ) : Type 0 where

@@ -9,7 +9,7 @@ use borrow.Author.Tests.{eq-eqb, ne-eqb}
 use lib.Dec.{eqb}
 use Rattle.items.specs.Layout.{lengthAt, startAt}
 use Rattle.entry_list.specs.Parts.{GroupEnd}
-use Rattle.lookaheads.specs.Groups.{beginFrom, groupEnd, groupFrom}
+use Rattle.inclusions.specs.Groups.{beginFrom, groupEnd, groupFrom}
 
 module _ (items : List ℕ) (i : ℕ) where
   begin-is : (a n k : ℕ) → a < k → k + n ≡ lengthAt items i → ((x : ℕ) → a < x → x < k → startAt items i x ≡ 0) → GroupEnd items i a (beginFrom items i k n)

@@ -24,8 +24,8 @@ use Rattle.closure.proofs.ItemLaws.{item-held}
 use Rattle.entry_list.specs.Uses.{HoldsUses}
 use Rattle.entry_list.proofs.GroupLaws.{baseOf, right-length}
 use Rattle.entry_list.proofs.GroupLaws as groups
-use Rattle.lookaheads.specs.Groups.{groupEnd, groupFrom, groupBegin}
-use Rattle.lookaheads.proofs.GroupLaws.{end-is, group-next, group-order}
+use Rattle.inclusions.specs.Groups.{groupEnd, groupFrom, groupBegin}
+use Rattle.inclusions.proofs.GroupLaws.{end-is, group-next, group-order}
 
 -- ---- lists
 split-list : {A : Type 0} (l : List A) (j : ℕ) → j < length l → (δs : List A) × (γ : A) × (εs : List A) × (l ≡ δs ++ γ ∷ εs) × (length δs ≡ j)

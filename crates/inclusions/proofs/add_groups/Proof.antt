@@ -1,0 +1,77 @@
+use Rattle.inclusions.proofs.AskLaws.{GroupsTo, groups-start, groups-more, groups-all}
+use Rattle.items.specs.Layout.{lengthAt}
+use mathlib.Core.Path.{_≡_, refl, _∙_}
+use Prim.Native.Nat.{_≤_, _-_}
+use native.Mathlib.Omega.{arith}
+use borrow.Author.Needs.{needs}
+use Rattle.inclusions.proofs.add_groups.Statement.{statement}
+use Rattle.inclusions.proofs.add_groups.Tie as tie
+
+abbrev Inv-loop : tie.InvT-loop
+Inv-loop items kernels links entries uses nul fst from count rules lines codes i start grown₀ n a₀ j₀ grown a j = (n ≡ lengthAt items i) × (n ≤ 15) × GroupsTo items kernels entries uses nul fst from rules lines codes i start grown₀ grown a j
+
+abbrev μ-loop : tie.MeasureT-loop
+μ-loop items kernels links entries uses nul fst from count rules lines codes i start grown₀ n a₀ j₀ grown a j = n - a
+
+length-of-requires : tie.Need-length-of-requires Inv-loop μ-loop
+length-of-requires c κs = (c .before .before .before .before .before .before .before .before .before .pre .0 .lined .shaped, omega (arith, c .before .before .before .before .before .before .before .before .before .pre .1 .0, c .before .before .before .before .before .before .before .before .before .pre .0 .rules-within))
+
+mark-of-requires : tie.Need-mark-of-requires Inv-loop μ-loop
+mark-of-requires c κs = (c .before .before .before .before .before .before .before .before .before .before .pre .0 .lined .shaped, omega (arith, c .before .before .before .before .before .before .before .before .before .before .pre .1 .0, c .before .before .before .before .before .before .before .before .before .before .pre .0 .rules-within))
+
+loop-holds : tie.Need-loop-holds Inv-loop μ-loop
+loop-holds c = (c .before .length-of .ensures .0, c .before .length-of .ensures .1, groups-start _ (c .mark-of .ensures .0))
+
+group-end-requires : tie.Need-group-end-requires Inv-loop μ-loop
+group-end-requires c κs = (c .before .before .before .before .before .before .before .before .before .before .before .before .before .pre .0 .lined .shaped, (omega (arith, c .before .before .before .before .before .before .before .before .before .before .before .before .before .pre .1 .0, c .before .before .before .before .before .before .before .before .before .before .before .before .before .pre .0 .rules-within), omega arith, c .before .loop .inv .0, c .before .loop .inv .1))
+
+mul-wide : tie.Need-mul-wide Inv-loop μ-loop
+mul-wide c = search needs
+
+add-wide : tie.Need-add-wide Inv-loop μ-loop
+add-wide c = search needs
+
+shared-slice-read-wide : tie.Need-shared-slice-read-wide Inv-loop μ-loop
+shared-slice-read-wide c = search needs
+
+wide-requires : tie.Need-wide-requires Inv-loop μ-loop
+wide-requires c κs = search needs
+
+add-group-requires : tie.Need-add-group-requires Inv-loop μ-loop
+add-group-requires c κs = (c .before .before .before .before .before .before .before .before .before .before .before .before .before .before .before .before .before .pre .0, (omega (arith, c .before .before .before .before .before .before .before .before .before .before .before .before .before .before .before .before .before .pre .1 .0, c .before .before .before .before .before .before .before .before .before .before .before .before .before .before .before .before .before .pre .0 .rules-within), c .before .wide .ensures .1, c .before .before .before .before .before .before .before .before .before .before .before .before .before .before .before .before .before .pre .1 .1, omega (arith, c .before .before .before .before .before .loop .inv .2 .adding .long, c .before .before .before .before .before .before .before .before .before .before .before .before .before .before .before .before .before .pre .1 .2)))
+
+add-j : tie.Need-add-j Inv-loop μ-loop
+add-j c = search needs
+
+loop-less : tie.Need-loop-less Inv-loop μ-loop
+loop-less c = search needs
+
+loop-again : tie.Need-loop-again Inv-loop μ-loop
+loop-again c = (c .before .before .before .before .before .before .before .before .loop .inv .0, c .before .before .before .before .before .before .before .before .loop .inv .1, groups-more (c .before .before .before .before .before .before .before .before .loop .inv .2) (omega (arith, c .before .before .before .before .before .before .before .before .loop .inv .0)) (c .before .before .before .before .before .before .group-end .ensures) (c .before .before .before .before .wide .ensures .0) refl (c .before .before .add-group .ensures))
+
+same-length : tie.Need-same-length Inv-loop μ-loop
+same-length c = search needs
+
+returns : tie.Need-returns Inv-loop μ-loop
+returns c = groups-all (c .before .loop .inv .2) (omega (arith, c .before .loop .inv .0))
+
+pub add-groups-spec : {M : Type 1} → statement M
+add-groups-spec =
+    tie.close
+    (tie.spec
+    Inv-loop
+    μ-loop
+    length-of-requires
+    mark-of-requires
+    loop-holds
+    group-end-requires
+    mul-wide
+    add-wide
+    shared-slice-read-wide
+    wide-requires
+    add-group-requires
+    add-j
+    loop-less
+    loop-again
+    same-length
+    returns)

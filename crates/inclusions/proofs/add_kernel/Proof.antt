@@ -1,0 +1,72 @@
+use Rattle.inclusions.specs.Asks.{KernelAsks}
+use Rattle.inclusions.proofs.AddingLaws.{LinesTo, lines-start, lines-more, lines-all}
+use Rattle.inclusions.proofs.AskLaws.{line-item}
+use Prim.Native.Nat.{_-_}
+use native.Mathlib.Omega.{arith}
+use borrow.Author.Needs.{needs}
+use Rattle.inclusions.proofs.add_kernel.Statement.{statement}
+use Rattle.inclusions.proofs.add_kernel.Tie as tie
+
+abbrev Inv-loop : tie.InvT-loop
+Inv-loop items kernels links lookaheads kinds values gotos entries uses nul fst count rules lines codes p grown₀ next₀ grown next =
+    LinesTo (KernelAsks items kernels lookaheads kinds values gotos entries uses nul fst rules lines codes p) kernels lines p grown₀ grown next
+
+abbrev μ-loop : tie.MeasureT-loop
+μ-loop items kernels links lookaheads kinds values gotos entries uses nul fst count rules lines codes p grown₀ next₀ grown next = next
+
+last-line-requires : tie.Need-last-line-requires Inv-loop μ-loop
+last-line-requires c κs = (c .before .before .before .before .before .before .before .before .before .before .before .before .pre .0 .lined .linked, c .before .before .before .before .before .before .before .before .before .before .before .before .pre .1 .1 .0)
+
+loop-holds : tie.Need-loop-holds Inv-loop μ-loop
+loop-holds c = lines-start _ (c .last-line .ensures .0)
+
+sub-l : tie.Need-sub-l Inv-loop μ-loop
+sub-l c = search needs
+
+item-of-requires : tie.Need-item-of-requires Inv-loop μ-loop
+item-of-requires c κs = (c .before .before .before .before .before .before .before .before .before .before .before .before .before .before .before .pre .0 .lined .some-lines, omega (arith, c .before .loop .inv .passed .low))
+
+dot-of-requires : tie.Need-dot-of-requires Inv-loop μ-loop
+dot-of-requires c κs = (c .before .before .before .before .before .before .before .before .before .before .before .before .before .before .before .before .pre .0 .lined .some-lines, omega (arith, c .before .before .loop .inv .passed .low))
+
+mul-add-item : tie.Need-mul-add-item Inv-loop μ-loop
+mul-add-item c = search needs
+
+add-item-requires : tie.Need-add-item-requires Inv-loop μ-loop
+add-item-requires c κs = let p = c .before .before .before .before .before .before .before .before .before .before .before .before .before .before .before .before .before .before .pre in let o = c .before .before .before .before .loop .inv in
+    (p .0, (p .1 .0, (p .1 .1 .0, c .before .before .item-of .ensures .1, c .before .dot-of .ensures .1, omega (arith, o .passed .low, p .1 .1 .1), omega (arith, o .adding .long, p .1 .1 .2))))
+
+line-before-requires : tie.Need-line-before-requires Inv-loop μ-loop
+line-before-requires c κs = (c .before .before .before .before .before .before .before .before .before .before .before .before .before .before .before .before .before .before .before .before .before .pre .0 .lined .linked, (omega (arith, c .before .before .before .before .before .before .before .loop .inv .passed .low), c .before .before .before .before .before .before .before .before .before .before .before .before .before .before .before .before .before .before .before .before .before .pre .0 .lined .some-lines .few))
+
+loop-less : tie.Need-loop-less Inv-loop μ-loop
+loop-less c = search needs
+
+loop-again : tie.Need-loop-again Inv-loop μ-loop
+loop-again c = lines-more (c .before .before .before .before .before .before .before .before .loop .inv) (λ e. omega (arith, e))
+    (line-item (c .before .before .before .before .before .before .before .before .loop .next - 1) (c .before .before .before .before .before .before .item-of .ensures .0) (c .before .before .before .before .before .dot-of .ensures .0) (c .before .before .before .add-item .ensures)) (c .line-before .ensures .0)
+
+same-length : tie.Need-same-length Inv-loop μ-loop
+same-length c = c .before .loop .inv .adding .long
+
+returns : tie.Need-returns Inv-loop μ-loop
+returns c = lines-all (c .before .loop .inv) (omega arith)
+
+pub add-kernel-spec : {M : Type 1} → statement M
+add-kernel-spec =
+    tie.close
+    (tie.spec
+    Inv-loop
+    μ-loop
+    last-line-requires
+    loop-holds
+    sub-l
+    item-of-requires
+    dot-of-requires
+    mul-add-item
+    add-item-requires
+    line-before-requires
+    loop-less
+    loop-again
+    same-length
+    returns)

@@ -1,0 +1,4 @@
+pub mod PassLaws
+pub mod TableLaws
+pub mod LookLaws
+pub mod FindLaws

@@ -1,0 +1,242 @@
+-- What the passes flag is what the smallest lookaheads are.
+use Prim.Native.Nat.{ℕ, zero, suc, _+_, _*_, _≤_, _<_}
+use mathlib.Core.Path.{_≡_, refl, sym, ap, subst, _∙_}
+use mathlib.Core.Logic.{_⊎_, inl, inr}
+use mathlib.Core.List.{List, [], _∷_, _++_}
+use mathlib.Core.Option.{some}
+use native.Mathlib.Omega.{arith}
+use lib.ListN.{length}
+use Rattle.language.specs.Grammar.{Grammar, Rule, ruleAt, concat}
+use Rattle.language.specs.GrammarLaws.{rule-range}
+use Rattle.language.specs.Sentence.{In, here}
+use Rattle.leftcorner.specs.Table.{Table, Goes}
+use Rattle.leftcorner.specs.Construction.{entryItem, EntryAt, KernelAt, Has, MovedBy, moved, Carries, in-kernel, in-closure}
+use Rattle.leftcorner.specs.Closure.{has-of}
+use Rattle.fixpoint.specs.Flags.{On}
+use Rattle.memory.specs.Memory.{stateAt, itemAt, dotAt}
+use Rattle.closure.specs.FirstBy.{FirstBy, first-low}
+use Rattle.closure.specs.InMemory.{DeclaredItem, InMemory, LineIs}
+use Rattle.closure.specs.Expansion.{HoldsClosure}
+use Rattle.closure.proofs.ItemLaws.{line-at}
+use Rattle.moves.specs.Moves.{nextAt}
+use Rattle.carried.specs.Rows.{RowOf}
+use Rattle.carried.proofs.CarryLaws.{Carried, row-item, row-in, in-row}
+use Rattle.inclusions.specs.Included.{Included, by-move, by-group, FlagAsked}
+use Rattle.inclusions.proofs.IncludeLaws.{NextIn, asked-included, included-asked}
+use Rattle.inclusions.proofs.FlagLaws.{flag-map, flag-at, flag-line}
+use Rattle.lalr.specs.Strings.{entryStrings}
+use Rattle.lalr.specs.EntryLaws.{entry-line, entry-number, found-entry, some-entry}
+use Rattle.lalr.specs.States.{Kernel, itemOf, dotOf, alone, states, kernelOf, goto}
+use Rattle.lalr.specs.Over.{goes-over, moved-over}
+use Rattle.lalr.specs.MoveLaws.{item-of, dot-of, line-alone, move-only, in-move, moved-dot}
+use Rattle.lalr.specs.StateLaws.{more-states, entry-kernel, Reached, entry-or, goes-to}
+use Rattle.lalr.specs.Lookaheads.{bare, entryOf, Lookahead}
+use Rattle.lalr.specs.Lookaheads as look
+use Rattle.lalr.specs.Carried.{group-wanted}
+use Rattle.lalr.specs.Live.{in-one}
+use Rattle.least_lookaheads.specs.StatesHeld.{entryTable, LineOf, StatesHeld, HoldsLookaheads}
+use Rattle.least_lookaheads.specs.Passes.{ClosureIs, SomeAsks, StateMet}
+use Rattle.least_lookaheads.proofs.TableLaws.{held-entries, flagTable, flagged, flags-held}
+
+moved-past : {g : Grammar} {t : Table} {q X i n : ℕ} → MovedBy g t q X i n → 1 ≤ n
+moved-past (moved h go) = omega arith
+
+-- every flag is that of a lookahead
+pub record Sound (g : Grammar) (nul fst kernels : List ℕ) (lines codes : ℕ) (fs : List ℕ) : Type 0 where
+  pub flag : (y : ℕ) → On fs y → FlagAsked (Lookahead g (FirstBy codes nul fst)) kernels lines codes y
+
+module _ (g : Grammar) {items entries uses kernels kinds values gotos : List ℕ} {rules strings lines all codes : ℕ}
+    (S : StatesHeld g items entries uses kernels kinds values gotos rules strings lines all codes) (nul fst fs : List ℕ) (few : codes ≤ 64)
+    (s : Sound g nul fst kernels lines codes fs) where
+  abbrev t : Table
+  t = flagTable g S fs
+
+  memory : InMemory items kernels fs rules lines codes g t
+  memory = flags-held g S fs few (s .flag)
+
+  -- a flag of a line, and a lookahead of its item
+  pub look-at : (l d : ℕ) → l < lines → d < 64 → On fs (l * 64 + d) → Lookahead g (FirstBy codes nul fst) (stateAt kernels l) (itemAt kernels l) (dotAt kernels l) d
+  look-at l d within low on = flag-line l d few low (s .flag (l * 64 + d) on) .1
+
+  at-place : {q i k q′ i′ k′ d : ℕ} → q′ ≡ q → i′ ≡ i → k′ ≡ k → Lookahead g (FirstBy codes nul fst) q′ i′ k′ d → Lookahead g (FirstBy codes nul fst) q i k d
+  at-place {q} {i} {k} {q′} {i′} {k′} {d} a b c h =
+      subst (λ (x : ℕ). Lookahead g (FirstBy codes nul fst) x i k d) a
+      (subst (λ (x : ℕ). Lookahead g (FirstBy codes nul fst) q′ x k d) b (subst (λ (x : ℕ). Lookahead g (FirstBy codes nul fst) q′ i′ x d) c h))
+
+  looked : {q i k d : ℕ} → Carries g t (FirstBy codes nul fst) q i k d → Lookahead g (FirstBy codes nul fst) q i k d
+  looked {d = d} (in-kernel h m) =
+      let f = flagged g S fs h in
+      let c = f .code d m in
+      at-place (f .state) (f .item) (f .dot) (look-at (f .line) d (f .within) (c .1) (c .0))
+  looked (in-closure j h go e l f) = look.of-closure j (looked h) (goes-over g t (bare g) refl go) e l f
+
+  -- ---- states and moves
+  has-state : {q i k : ℕ} → Has g t q i k → (1 ≤ q) × (q ≤ length (states g))
+  has-state {q = q} (Has.in-kernel h) =
+      let f = flagged g S fs h in
+      let l = S .line-of (f .line) (f .within) in
+      subst (λ (x : ℕ). (1 ≤ x) × (x ≤ length (states g))) (f .state) (l .low, l .high)
+  has-state (Has.in-closure j h go e l) = has-state h
+
+  to-alone : (q i k : ℕ) (σ : List ℕ) → KernelAt g t q i k σ → (τ : List ℕ) × KernelAt g (alone g (kernelOf g q)) 1 i k τ
+  to-alone q i k σ h =
+      let f = flagged g S fs h in
+      let l = S .line-of (f .line) (f .within) in
+      let w = line-alone g (subst (λ (x : ℕ). In (l .number) (kernelOf g x)) (f .state) (l .stands)) in
+      ([], subst (λ (x : ℕ). KernelAt g (alone g (kernelOf g q)) 1 x k []) (sym (l .item) ∙ f .item)
+          (subst (λ (x : ℕ). KernelAt g (alone g (kernelOf g q)) 1 (itemOf (l .number)) x []) (sym (l .dot) ∙ f .dot) w))
+
+  moves : {q i k X : ℕ} {β : List ℕ} → Has g t q i k → Goes g t i k X β → MovedBy g (alone g (kernelOf g q)) 1 X i (suc k)
+  moves {q = q} h go = moved-over g t (alone g (kernelOf g q)) refl q 1 (to-alone q) (moved h go)
+
+  next-goto : {q i k X : ℕ} {β : List ℕ} → Has g t q i k → Goes g t i k X β → nextAt kinds values gotos q X ≡ goto g q X
+  next-goto {q} {i} {k} {X} h go =
+      let p = has-state h in
+      S .next-is q X (i * 16 + suc k) (p .0) (p .1) (in-move g (S .limits .formed) (S .limits .few-entries) (kernelOf g q) (moves h go))
+
+  -- ---- what is asked
+  row-declared : {p i k start : ℕ} {present follow from : List ℕ} → RowOf items kernels fs present follow rules lines p i k from start → DeclaredItem g (entryTable g) i
+  row-declared R = go (row-item g t memory R)
+    where
+      entry : (j : ℕ) {u : ℕ} {γ : List ℕ} → EntryAt g t j u γ → EntryAt g (entryTable g) j u γ
+      entry zero e = e
+      entry (suc j) e = e
+
+      go : {i : ℕ} → DeclaredItem g t i → DeclaredItem g (entryTable g) i
+      go (inl r) = inl r
+      go (inr (j, u, γ, ei, e)) = inr (j, u, γ, ei, entry j e)
+
+  module _ {p : ℕ} {present follow : List ℕ} (C : ClosureIs items kernels fs nul fst rules lines codes p present follow) where
+    closed : HoldsClosure g t (FirstBy codes nul fst) p present follow
+    closed = C .holds g t memory
+
+    carries : {i k d : ℕ} → Carried items kernels fs present follow rules lines codes p i k d → Carries g t (FirstBy codes nul fst) p i k d
+    carries c = row-in g t memory (S .limits .formed) few nul fst closed (c .row) (c .low) (c .on)
+
+    look-asked : {q i k c : ℕ} → Included g (entryTable g) (FirstBy codes nul fst) (NextIn kinds values gotos p) (Carried items kernels fs present follow rules lines codes p) q i k c
+        → Lookahead g (FirstBy codes nul fst) q i k c
+    look-asked (by-move {X = X} nx car go) =
+        let h = carries car in
+        let e = next-goto (has-of g t h) (goes-over g (entryTable g) t refl go) in
+        at-place (sym e ∙ nx .is-next) refl refl (look.of-move (looked h) (goes-over g (entryTable g) (bare g) refl go))
+    look-asked (by-group {i = i} e {γ = γ} δs εs ent er split car f) =
+        let n : entryOf g γ ≡ e = entry-number g (entryTable g) refl e ent in
+        let u = entry-line g (entryTable g) refl e ent in
+        at-place (n ∙ sym (u .0)) (ap (λ (x : ℕ). length (g .rules) + x) n) refl (look.of-group i δs γ εs er (looked (carries car)) split f)
+
+  pub sound-asked : {y : ℕ} → SomeAsks items kernels fs kinds values gotos entries uses nul fst rules lines codes all y → FlagAsked (Lookahead g (FirstBy codes nul fst)) kernels lines codes y
+  sound-asked a = flag-map (λ q i k c. look-asked (a .closure))
+      (asked-included g (entryTable g) (held-entries g S) (S .holds-uses) nul fst codes kernels fs kinds values gotos (a .present) (a .follow) lines (a .state)
+        (λ i k start from. row-declared) (a .asks))
+
+  -- ---- where all that is asked is flagged
+  module _ (goal : (l : ℕ) → LineIs kernels lines 1 (rules + 1) 0 l → On fs (l * 64 + 0))
+      (met : (p : ℕ) → 1 ≤ p → p ≤ all → StateMet items kernels fs kinds values gotos entries uses nul fst rules lines codes fs p) where
+    line-is : {q i k q′ i′ k′ l : ℕ} → q ≡ q′ → i ≡ i′ → k ≡ k′ → LineIs kernels lines q i k l → LineIs kernels lines q′ i′ k′ l
+    line-is a b c d = record { within = d .within; state = d .state ∙ a; item = d .item ∙ b; dot = d .dot ∙ c }
+
+    on-carries : {q i k d l : ℕ} → LineIs kernels lines q i k l → d < 64 → On fs (l * 64 + d) → Carries g t (FirstBy codes nul fst) q i k d
+    on-carries {q} {i} {k} {d} {l} w low on =
+        let r = line-at g t (memory .holds-kernels) (memory .line-count) w in
+        in-kernel (r .1) (memory .holds-kernels .on-code l q i k d (r .2) low on)
+
+    -- what state p asks of a line
+    asked-on : {p q i k c l : ℕ} (m : StateMet items kernels fs kinds values gotos entries uses nul fst rules lines codes fs p) → LineIs kernels lines q i k l → c < codes
+        → Included g (entryTable g) (FirstBy codes nul fst) (NextIn kinds values gotos p) (Carried items kernels fs (m .present) (m .follow) rules lines codes p) q i k c
+        → On fs (l * 64 + c)
+    asked-on {p = p} {c = c} {l = l} m w low h =
+        m .every (l * 64 + c)
+        (included-asked g (entryTable g) (held-entries g S) (S .holds-uses) nul fst codes kernels fs kinds values gotos (m .present) (m .follow) lines p (λ i k start from. row-declared)
+        (flag-at l w low refl h))
+
+    met-of : {p i k d : ℕ} → Carries g t (FirstBy codes nul fst) p i k d → StateMet items kernels fs kinds values gotos entries uses nul fst rules lines codes fs p
+    met-of {p} h = let r = has-state (has-of g t h) in met p (r .0) (omega (arith, r .1, S .state-count))
+
+    rowed : {p i k d : ℕ} (h : Carries g t (FirstBy codes nul fst) p i k d) (m : StateMet items kernels fs kinds values gotos entries uses nul fst rules lines codes fs p)
+        → Carried items kernels fs (m .present) (m .follow) rules lines codes p i k d
+    rowed h m = in-row g t memory (S .limits .formed) few nul fst (m .closure .holds g t memory) h
+
+    move-on : {q i k d X l : ℕ} {β : List ℕ} → Carries g t (FirstBy codes nul fst) q i k d → Goes g (bare g) i k X β → LineIs kernels lines (goto g q X) i (suc k) l → On fs (l * 64 + d)
+    move-on {q} {i} {k} {d} {X} h go w =
+        let m = met-of h in
+        let r = rowed h m in
+        let go′ = goes-over g (bare g) t refl go in
+        let y = goes-to g (S .limits) q X i (suc k) (has-state (has-of g t h) .0) (has-state (has-of g t h) .1) (moves (has-of g t h) go′) in
+        asked-on m w (r .low)
+        (by-move (record { some-state = λ z. omega (arith, z, y .low); is-next = next-goto (has-of g t h) go′ }) r (goes-over g (bare g) (entryTable g) refl go))
+
+    group-on : {q d c l : ℕ} (i : ℕ) {r : Rule} (δs : List (List ℕ)) (γ : List ℕ) (εs : List (List ℕ)) → ruleAt g i ≡ some r
+        → Carries g t (FirstBy codes nul fst) q i (length (r .before)) d → r .groups ≡ δs ++ γ ∷ εs → FirstBy codes nul fst (concat εs) d c
+        → LineIs kernels lines (entryOf g γ) (entryItem g (bare g) (entryOf g γ)) zero l → On fs (l * 64 + c)
+    group-on i δs γ εs e h split f w =
+        let m = met-of h in
+        let r = rowed h m in
+        asked-on m w (first-low codes nul fst (r .low) f)
+        (by-group (entryOf g γ) δs εs (found-entry g (entryTable g) refl (group-wanted g i δs γ εs e split)) e split r f)
+
+    -- the line of an entry
+    entry-at : (e : ℕ) → 1 ≤ e → e ≤ length (entryStrings g) → (l : ℕ) × LineIs kernels lines e (length (g .rules) + e) 0 l
+    entry-at e low high =
+        let k = entry-kernel g e low high in
+        let x = (length (g .rules) + e) * 16 in
+        let r = S .of-line e x low (omega (arith, high, more-states g)) (subst (λ (z : Kernel). In x z) (sym k) here) in
+        (r .0, line-is refl (omega arith) (omega arith) (r .1))
+
+    -- the line of an item that has moved
+    moved-at : {q i k X : ℕ} {β : List ℕ} → Has g t q i k → Goes g t i k X β → (l : ℕ) × LineIs kernels lines (goto g q X) i (suc k) l
+    moved-at {q} {i} {k} {X} h go =
+        let p = has-state h in
+        let a = moves h go in
+        let n = moved-dot g (S .limits .formed) (S .limits .few-entries) (kernelOf g q) a in
+        let y = goes-to g (S .limits) q X i (suc k) (p .0) (p .1) a in
+        let r = S .of-line (goto g q X) (i * 16 + suc k) (y .low) (y .high)
+        (subst (λ (z : Kernel). In (i * 16 + suc k) z) (sym (y .kernel)) (in-move g (S .limits .formed) (S .limits .few-entries) (kernelOf g q) a)) in
+        (r .0, line-is refl (item-of i (suc k) n) (dot-of i (suc k) n) (r .1))
+
+    goal-on : {l : ℕ} → LineIs kernels lines 1 (entryItem g (bare g) 1) zero l → On fs (l * 64 + 0)
+    goal-on {l} w = goal l (line-is refl (omega (arith, S .rule-count)) refl w)
+
+    low-code : {q i k d : ℕ} → Carries g t (FirstBy codes nul fst) q i k d → d < 64
+    low-code h = let r = rowed h (met-of h) in omega (arith, r .low, few)
+
+    carried : {q i k d : ℕ} → Lookahead g (FirstBy codes nul fst) q i k d → Carries g t (FirstBy codes nul fst) q i k d
+    carried look.of-goal = let r = entry-at 1 (omega arith) (some-entry g) in on-carries (r .1) (omega arith) (goal-on (r .1))
+    carried (look.of-closure j h go e l f) = in-closure j (carried h) (goes-over g (bare g) t refl go) e l f
+    carried (look.of-move h go) =
+        let c = carried h in
+        let r = moved-at (has-of g t c) (goes-over g (bare g) t refl go) in
+        on-carries (r .1) (low-code c) (move-on c go (r .1))
+    carried (look.of-group {c = x} i δs γ εs e h p f) =
+        let c = carried h in
+        let u = entry-line g (bare g) refl (entryOf g γ) (found-entry g (bare g) refl (group-wanted g i δs γ εs e p)) in
+        let r = entry-at (entryOf g γ) (u .1) (u .2) in
+        let w = rowed c (met-of c) in
+        let low = first-low codes nul fst (w .low) f in
+        on-carries (r .1) (omega (arith, low, few)) (group-on i δs γ εs e c p f (r .1))
+
+    -- no kernel item is a rule with its dot at 0
+    no-rule : {q j l : ℕ} {r : Rule} → ruleAt g j ≡ some r → LineIs kernels lines q j zero l → ⊥
+    no-rule {q} {j} {l} e w = go (S .line-of l (w .within))
+      where
+        go : LineOf g kernels l → ⊥
+        go o = pick (entry-or g (stateAt kernels l) (o .high))
+          where
+            pick : (stateAt kernels l ≤ length (entryStrings g)) ⊎ Reached g (stateAt kernels l) → ⊥
+            pick (inl high) =
+                let x = in-one (subst (λ (z : Kernel). In (o .number) z) (entry-kernel g (stateAt kernels l) (o .low) high) (o .stands)) in
+                omega (arith, x, o .item, o .low, w .item, rule-range g j e .1)
+            pick (inr c) =
+                let m = move-only g (kernelOf g (c .from)) (c .symbol) (o .number) (subst (λ (z : Kernel). In (o .number) z) (c .kernel) (o .stands)) in
+                omega (arith, moved-past m, o .dot, w .dot)
+
+    every-on : {q i k d l : ℕ} → Lookahead g (FirstBy codes nul fst) q i k d → LineIs kernels lines q i k l → On fs (l * 64 + d)
+    every-on look.of-goal w = goal-on w
+    every-on (look.of-closure j h go e l f) w = absurd (no-rule e w)
+    every-on (look.of-move h go) w = move-on (carried h) go w
+    every-on (look.of-group i δs γ εs e h p f) w = group-on i δs γ εs e (carried h) p f w
+
+    pub holds-all : HoldsLookaheads (Lookahead g (FirstBy codes nul fst)) kernels fs lines
+    holds-all = record {
+      only = λ l c within low on. look-at l c within low on;
+      every = λ l c within h. every-on h (record { within = within; state = refl; item = refl; dot = refl });
+    }

@@ -1,0 +1,51 @@
+use Rattle.least_lookaheads.specs.Passes.{StatesAdd}
+use Rattle.least_lookaheads.proofs.PassLaws.{states-start, states-more, states-end}
+use mathlib.Core.Path.{refl}
+use Prim.Native.Nat.{_+_, _≤_, _-_}
+use native.Mathlib.Omega.{arith}
+use borrow.Author.Needs.{needs}
+use Rattle.least_lookaheads.proofs.ask_states.Statement.{statement}
+use Rattle.least_lookaheads.proofs.ask_states.Tie as tie
+
+abbrev Inv-loop : tie.InvT-loop
+Inv-loop items kernels links lookaheads kinds values gotos entries uses nul fst starts through count rules lines codes all grown₀ p₀ grown p =
+    (1 ≤ p) × (p ≤ all + 1) × StatesAdd items kernels lookaheads kinds values gotos entries uses nul fst rules lines codes all p grown₀ grown
+
+abbrev μ-loop : tie.MeasureT-loop
+μ-loop items kernels links lookaheads kinds values gotos entries uses nul fst starts through count rules lines codes all grown₀ p₀ grown p = all + 1 - p
+
+loop-holds : tie.Need-loop-holds Inv-loop μ-loop
+loop-holds c = (omega arith, omega arith, states-start _)
+
+ask-state-requires : tie.Need-ask-state-requires Inv-loop μ-loop
+ask-state-requires c κs = let p = c .before .before .before .before .before .before .before .before .before .before .before .before .before .before .before .before .before .pre in
+    (p .0, (p .1 .0, (p .1 .1 .0, (p .1 .1 .1 .0, (omega (arith, p .1 .1 .1 .1 .0), p .1 .1 .1 .1 .1, omega (arith, c .before .before .loop .inv .2 .long, p .1 .1 .1 .1 .2))))))
+
+add-p : tie.Need-add-p Inv-loop μ-loop
+add-p c = omega (arith, c .before .before .before .before .before .before .before .before .before .before .before .before .before .before .before .before .before .before .before .before .pre .1 .1 .1 .1 .0)
+
+loop-less : tie.Need-loop-less Inv-loop μ-loop
+loop-less c = search needs
+
+loop-again : tie.Need-loop-again Inv-loop μ-loop
+loop-again c = let o = c .before .before .before .before .before .loop .inv in (omega arith, omega arith, states-more (o .2) (o .0) (omega arith) refl (c .before .before .ask-state .ensures))
+
+same-length : tie.Need-same-length Inv-loop μ-loop
+same-length c = c .before .loop .inv .2 .long
+
+returns : tie.Need-returns Inv-loop μ-loop
+returns c = let o = c .before .loop .inv in states-end (omega (arith, o .1)) (o .2)
+
+pub ask-states-spec : {M : Type 1} → statement M
+ask-states-spec =
+    tie.close
+    (tie.spec
+    Inv-loop
+    μ-loop
+    loop-holds
+    ask-state-requires
+    add-p
+    loop-less
+    loop-again
+    same-length
+    returns)

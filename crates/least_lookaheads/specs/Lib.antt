@@ -1,0 +1,2 @@
+pub mod StatesHeld
+pub mod Passes
