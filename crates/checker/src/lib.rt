@@ -1,4 +1,78 @@
 // The checker of tables, over both books.
+use reply::Reply;
+use table::TableReply;
+ghost use mathlib.Core.Path.{_≡_};
+ghost use Rattle.table.specs.Memory.{replyOf, slices, Rooms, Holds};
+ghost use Rattle.checker.specs.Checked.{checkedOf, verdictOf};
 
-// Where the verdict is defined; the call stands on it.
-pub fn theory() {}
+// Reads and judges both books. Tables that are accepted are then in the slices; a refusal leaves zeros.
+pub fn load_tables(
+    grammar: &[u8],
+    book: &[u8],
+    items: &mut [u8],
+    entry_states: &mut [u8],
+    kernels: &mut [u8],
+    lookaheads: &mut [u8],
+    kinds: &mut [u8],
+    values: &mut [u8],
+    gotos: &mut [u8],
+    named: &mut [u8],
+) -> TableReply
+    requires { ⌜ Rooms (slices (now items) (now «entry_states») (now kernels) (now lookaheads) (now kinds) (now values) (now gotos) (now named)) ⌝ }
+    ensures { λ r. ⌜ r ≡ replyOf (checkedOf (now (grammar .entry)) (now (book .entry))) ⌝ }
+    ensures { λ r. ⌜ Holds (checkedOf (now (grammar .entry)) (now (book .entry))) (slices (now (items .entry)) (now («entry_states» .entry)) (now (kernels .entry)) (now (lookaheads .entry)) (now (kinds .entry)) (now (values .entry)) (now (gotos .entry)) (now (named .entry))) (slices (now (items .exit)) (now («entry_states» .exit)) (now (kernels .exit)) (now (lookaheads .exit)) (now (kinds .exit)) (now (values .exit)) (now (gotos .exit)) (now (named .exit))) ⌝ }
+{
+    let answer = table::read_tables(grammar, book, items, entry_states, kernels, lookaheads, kinds, values, gotos, named);
+    let TableReply::Read(counts) = answer else {
+        return answer;
+    };
+    let heading = counts.grammar;
+    let verdict = judge::judge(
+        items,
+        entry_states,
+        kernels,
+        lookaheads,
+        kinds,
+        values,
+        gotos,
+        named,
+        heading.terminals,
+        heading.goal,
+        heading.rules,
+        counts.entries,
+        counts.kernels,
+        counts.states,
+    );
+    if let Reply::Refused(why) = verdict {
+        table::clear_all(items, entry_states, kernels, lookaheads, kinds, values, gotos, named);
+        return TableReply::Refused(why);
+    }
+    answer
+}
+
+// The verdict on both books.
+pub fn check_tables(grammar: &[u8], book: &[u8]) -> Reply
+    ensures { λ r. ⌜ r ≡ verdictOf (now (grammar .entry)) (now (book .entry)) ⌝ }
+{
+    let mut items = [0u8; table::ITEMS];
+    let mut entry_states = [0u8; table::ENTRY_STATES];
+    let mut kernels = [0u8; table::KERNELS];
+    let mut lookaheads = [0u8; table::LOOKAHEADS];
+    let mut kinds = [0u8; table::CELLS];
+    let mut values = [0u8; table::CELLS];
+    let mut gotos = [0u8; table::CELLS];
+    let mut named = [0u8; table::NAMED];
+    let answer = load_tables(
+        grammar,
+        book,
+        &mut items,
+        &mut entry_states,
+        &mut kernels,
+        &mut lookaheads,
+        &mut kinds,
+        &mut values,
+        &mut gotos,
+        &mut named,
+    );
+    table::as_reply(answer)
+}

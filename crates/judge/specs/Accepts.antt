@@ -23,6 +23,7 @@ use Rattle.verdict.specs.ItemsDecided.{items?}
 use Rattle.verdict.specs.EntriesDecided.{entries?}
 use Rattle.verdict.specs.LookaheadsDecided.{lookaheads?}
 use Rattle.verdict.specs.CellsDecided.{agree?, cells?}
+use Rattle.verdict.specs.Verdict as verdict
 use Rattle.verdict.specs.Verdict.{verdict, meets, accepts}
 
 module _ (g : Grammar) where
@@ -47,6 +48,10 @@ module _ (g : Grammar) where
   tableVerdict t =
       verdict g t (FirstByRules g) (entries? g t) (items? g t) (lookaheads? g t (FirstByRules g) (first? g) codes code-in)
       (agree? g t (FirstByRules g) (first? g) codes code-in) (cells? g t (FirstByRules g) (first? g) codes code-in)
+
+  pub accepted-zero : (t : Table) {n : ℕ} → tableVerdict t ≡ Accepted n → n ≡ 0
+  unfolding tableVerdict
+  accepted-zero t e = verdict.accepted-zero g t (FirstByRules g) _ _ _ _ _ e
 
   -- first by rules is first, for strings of declared symbols
   module _ (P : AllProductive g) (R : RightProductive g) where

@@ -4,7 +4,7 @@ use mathlib.Core.Path.{_≡_, refl, sym, ap, _∙_}
 use mathlib.Core.List.{List}
 use mathlib.Core.Bool.{true, false}
 use native.Mathlib.Omega.{arith}
-use borrow.Author.Tests.{lt-ltb, le-ltb, leb-true}
+use borrow.Author.Tests.{lt-ltb, le-ltb, le-leb, leb-true}
 use lib.Dec.{leb}
 use lib.ListN.{length, replicate}
 use Rattle.language.specs.Grammar.{Grammar}
@@ -184,6 +184,13 @@ rooms-tell b e =
       gotos-room = leb-true 16640 (length (b .gotos)) (g .0);
       named-room = leb-true 256 (length (b .named)) (g .1);
     }
+
+pub has-room : (b : Slices) → Rooms b → hasRoom b ≡ true
+unfolding roomFor
+has-room b r =
+    simp (le-leb 16640 (length (b .items)) (r .items-room), le-leb 256 (length (b .states)) (r .states-room), le-leb 4096 (length (b .kernels)) (r .kernels-room),
+      le-leb 65536 (length (b .lookaheads)) (r .lookaheads-room), le-leb 16640 (length (b .kinds)) (r .kinds-room), le-leb 16640 (length (b .values)) (r .values-room),
+      le-leb 16640 (length (b .gotos)) (r .gotos-room), le-leb 256 (length (b .named)) (r .named-room))
 
 pub room-tells : (b : Slices) → hasRoom b ≡ true → Roomy b
 room-tells b e = let r = rooms-tell b e in record { items-room = r .items-room; kinds-room = r .kinds-room; gotos-room = r .gotos-room }

@@ -193,7 +193,8 @@ fn read_book(
     }
 }
 
-fn clear_all(
+// Zeros in each slice.
+pub fn clear_all(
     items: &mut [u8],
     entry_states: &mut [u8],
     kernels: &mut [u8],

@@ -79,6 +79,14 @@ else-zero : {Φ : Type 0} (d : Dec Φ) (r : Reply) → or-else d (refused ItemMi
 else-zero (yes p) r e = (p, e)
 else-zero (no f) r e = let z : _≡_ {A = ℕ} 0 1 = cc in absurd (omega arith)
 
+first-accepted : (n : Kind) (o : Option ℕ) (r : Reply) {k : ℕ} → first-of n o r ≡ Accepted k → r ≡ Accepted k
+first-accepted n (some q) r e = let z : _≡_ {A = ℕ} 0 1 = cc in absurd (omega arith)
+first-accepted n none r e = e
+
+else-accepted : {Φ : Type 0} (d : Dec Φ) (r : Reply) {k : ℕ} → or-else d (refused ItemMismatch 0) r ≡ Accepted k → r ≡ Accepted k
+else-accepted (yes p) r e = e
+else-accepted (no f) r e = let z : _≡_ {A = ℕ} 0 1 = cc in absurd (omega arith)
+
 first-none : (n : Kind) (o : Option ℕ) (r : Reply) → o ≡ none → first-of n o r ≡ r
 first-none n o r e = ap (λ (p : Option ℕ). first-of n p r) e
 
@@ -187,6 +195,17 @@ module _ (g : Grammar) (t : Table) (F : List ℕ → ℕ → ℕ → Type 0) (en
           agree = everywhere (CellsAgree g t F) off-agree (none-fails (CellsAgree g t F) agree? (suc (t .states)) (d .0));
           cells = everywhere (CellsMeet g t F) off-cells (none-fails (CellsMeet g t F) cells? (suc (t .states)) (f .0));
         }
+
+  -- no token is read: "tokens read, else 0"
+  pub accepted-zero : {n : ℕ} → verdict ≡ Accepted n → n ≡ 0
+  unfolding verdict
+  accepted-zero {n} e =
+      let a = else-accepted entries? after-entries e in
+      let b = first-accepted ItemMismatch (lowest (ItemsMeet g t) items? (suc (t .states))) after-items a in
+      let c = first-accepted MissingLookahead (lowest (LookaheadsMeet g t F) lookaheads? (suc (t .states))) after-lookaheads b in
+      let d = first-accepted Conflict (lowest (CellsAgree g t F) agree? (suc (t .states))) after-agree c in
+      let f : Accepted 0 ≡ Accepted n = first-accepted CellMismatch (lowest (CellsMeet g t F) cells? (suc (t .states))) (Accepted 0) d in
+      cc
 
   pub past-entries : EntriesMeet g t → verdict ≡ after-entries
   unfolding verdict

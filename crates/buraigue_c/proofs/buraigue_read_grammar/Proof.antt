@@ -1,16 +1,11 @@
+-- `buraigue_c::buraigue_read_grammar` meets its contract. Assumes nothing.
 use mathlib.Core.Path.{ap, _∙_}
-use Rattle.reply.specs.Reply.{numberOf}
 use Rattle.grammar.specs.Memory.{asReply}
+use denote.Ref.{now}
 use borrow.Author.Needs.{needs}
+use Rattle.buraigue_c.proofs.ReplyLaws.{number-told, place-told}
 use Rattle.buraigue_c.proofs.buraigue_read_grammar.Statement.{statement}
 use Rattle.buraigue_c.proofs.buraigue_read_grammar.Tie as tie
-use Rattle.buraigue_c.proofs.buraigue_read_grammar.Reads as reads
-use Rattle.buraigue_c.proofs.buraigue_read_grammar.Lts as lts
-use Rattle.buraigue_c.proofs.put_place.Reads as put-place-reads
-use Rattle.grammar.proofs.as_reply.Reads as as-reply-reads
-use Rattle.grammar.proofs.read_grammar.Reads as read-grammar-reads
-use Rattle.reply.proofs.number.Reads as number-reads
-use Rattle.reply.proofs.place.Reads as place-reads
 
 read-grammar-requires : tie.Need-read-grammar-requires
 read-grammar-requires c κs = search needs
@@ -34,10 +29,9 @@ same-length-2 : tie.Need-same-length-2
 same-length-2 c = search needs
 
 returns : tie.Need-returns
-returns c = (
-  c .number .ensures ∙ ap numberOf (c .before .before .before .before .before .before .as-reply .ensures ∙ ap asReply (c .before .before .before .before .before .before .before .before .before .read-grammar .ensures .0)),
-  search needs,
-)
+returns c =
+    let e = c .before .before .before .before .before .before .as-reply .ensures ∙ ap asReply (c .before .before .before .before .before .before .before .before .before .read-grammar .ensures .0) in
+    (number-told (c .number .ensures) e, (place-told (now (c .before .before .before .before .before .before .before .before .before .before .before .before .before .before .args .place)) (c .before .before .before .put-place .ensures) (c .before .before .before .before .place .ensures) e, search needs))
 
 pub buraigue-read-grammar-spec : {M : Type 1} → statement M
 buraigue-read-grammar-spec =

@@ -1,14 +1,9 @@
-use mathlib.Core.Path.{ap, _∙_}
-use Rattle.reply.specs.Reply.{numberOf}
+-- `buraigue_c::buraigue_read_scans` meets its contract. Assumes nothing.
+use denote.Ref.{now}
 use borrow.Author.Needs.{needs}
+use Rattle.buraigue_c.proofs.ReplyLaws.{number-told, place-told}
 use Rattle.buraigue_c.proofs.buraigue_read_scans.Statement.{statement}
 use Rattle.buraigue_c.proofs.buraigue_read_scans.Tie as tie
-use Rattle.buraigue_c.proofs.buraigue_read_scans.Reads as reads
-use Rattle.buraigue_c.proofs.buraigue_read_scans.Lts as lts
-use Rattle.buraigue_c.proofs.put_place.Reads as put-place-reads
-use Rattle.reply.proofs.number.Reads as number-reads
-use Rattle.reply.proofs.place.Reads as place-reads
-use Rattle.scans.proofs.read_scans.Reads as read-scans-reads
 
 read-scans-requires : tie.Need-read-scans-requires
 read-scans-requires c κs = search needs
@@ -29,10 +24,9 @@ same-length-2 : tie.Need-same-length-2
 same-length-2 c = search needs
 
 returns : tie.Need-returns
-returns c = (
-  c .number .ensures ∙ ap numberOf (c .before .before .before .before .before .before .before .before .read-scans .ensures .0),
-  search needs,
-)
+returns c =
+    let e = c .before .before .before .before .before .before .before .before .read-scans .ensures .0 in
+    (number-told (c .number .ensures) e, (place-told (now (c .before .before .before .before .before .before .before .before .before .before .before .before .before .args .place)) (c .before .before .before .put-place .ensures) (c .before .before .before .before .place .ensures) e, search needs))
 
 pub buraigue-read-scans-spec : {M : Type 1} → statement M
 buraigue-read-scans-spec =
