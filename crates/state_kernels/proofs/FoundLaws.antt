@@ -70,11 +70,11 @@ module _ {sets starts : List ℕ} {states lines : ℕ} (B : Bounds sets starts s
 -- ---- next states
 
 module _ (g : Grammar) where
-  next-none : (q X : ℕ) → move g (kernelOf g q) X ≡ [] → 0 ≡ nextState g q X
+  pub next-none : (q X : ℕ) → move g (kernelOf g q) X ≡ [] → 0 ≡ nextState g q X
   unfolding nextState
   next-none q X e = sym (ap (λ (m : Kernel). ifMoves m (goto g q X)) e)
 
-  next-some : (q X : ℕ) → (move g (kernelOf g q) X ≡ [] → ⊥) → goto g q X ≡ nextState g q X
+  pub next-some : (q X : ℕ) → (move g (kernelOf g q) X ≡ [] → ⊥) → goto g q X ≡ nextState g q X
   unfolding nextState
   next-some q X f = go (move g (kernelOf g q) X) f
     where
