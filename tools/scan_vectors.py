@@ -124,4 +124,5 @@ def main():
     print(len(cases), 'cases')
 
 
-main()
+if __name__ == '__main__':
+    main()

@@ -1,5 +1,5 @@
 -- The rows of flags of a state's items are those of their lookaheads.
-use Prim.Native.Nat.{ℕ, zero, suc, _+_, _*_, _-_, _≤_, _<_}
+use Prim.Native.Nat.{ℕ, suc, _+_, _*_, _-_, _≤_, _<_}
 use mathlib.Core.Path.{_≡_, refl, sym, subst, subst₂}
 use mathlib.Core.Logic.{inl}
 use mathlib.Core.List.{List}
@@ -13,15 +13,14 @@ use Rattle.leftcorner.specs.Construction.{Carries}
 use Rattle.leftcorner.specs.Closure.{has-of}
 use Rattle.items.specs.Layout.{leftAt}
 use Rattle.fixpoint.specs.Flags.{On}
-use Rattle.memory.specs.Memory.{stateAt, itemAt, dotAt}
+use Rattle.memory.specs.Memory.{itemAt, dotAt}
 use Rattle.memory.specs.Held.{Held}
 use Rattle.closure.specs.FirstBy.{FirstBy, first-low}
 use Rattle.closure.specs.Expansion.{Follows, CarriesBy, of-kernel, of-rule, carries-by, by-carries, HoldsClosure}
-use Rattle.closure.specs.InMemory.{DeclaredItem, InMemory, LineIs}
+use Rattle.closure.specs.InMemory.{DeclaredItem, InMemory}
 use Rattle.closure.proofs.ItemLaws.{line-of, line-at}
 use Rattle.closure.proofs.ReachLaws.{carries-low}
 use Rattle.closure.proofs.UseLaws.{in-memory}
-use Rattle.moves.specs.Moves.{Present}
 use Rattle.carried.specs.Rows.{RowOf}
 use Rattle.carried.specs.Rows as rows
 

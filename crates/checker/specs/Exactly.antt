@@ -2,14 +2,13 @@
 -- the construction. Of the checker, this is all that a walk has to know.
 use Prim.Native.Nat.{ℕ}
 use native.Mathlib.Omega.{arith}
-use mathlib.Core.Path.{_≡_, refl, sym, ap, subst, _∙_}
+use mathlib.Core.Path.{_≡_, refl, ap, _∙_}
 use mathlib.Core.List.{List}
 use Rattle.language.specs.Grammar.{Grammar}
 use Rattle.language.specs.FirstLaws.{right-productive}
 use Rattle.leftcorner.specs.Claim.{_↔_}
 use Rattle.leftcorner.specs.Table.{Table}
 use Rattle.leftcorner.specs.Construction.{Meets}
-use Rattle.reply.specs.declared.Refusal.{Refusal}
 use Rattle.reply.specs.declared.Reply.{Reply}
 use Rattle.reply.specs.declared.Reply.the-variants.{Accepted, Refused}
 use Rattle.table.specs.Book.{Reading, whole, rejected, tablesOf}
@@ -25,7 +24,7 @@ verdict-exactly {g} {t} S =
     accepted-exactly g (S .productive) (right-productive g (S .formed) (S .productive)) (declared-of (S .formed)) t (S .fits .form)
 
 -- ---- the books that are accepted were read, and their verdict is 0
-pub judged-whole : {g : Grammar} {t : Table} (x : Reading) → judged x ≡ whole g t → (x ≡ whole g t) × (tableVerdict g t ≡ Accepted 0)
+judged-whole : {g : Grammar} {t : Table} (x : Reading) → judged x ≡ whole g t → (x ≡ whole g t) × (tableVerdict g t ≡ Accepted 0)
 judged-whole {g} {t} (rejected why) e = let z : _≡_ {A = ℕ} 0 1 = cc in absurd (omega arith)
 judged-whole {g} {t} (whole h u) e = go (tableVerdict h u) refl e
   where

@@ -22,7 +22,18 @@ pub fn load_tables(
     ensures { λ r. ⌜ r ≡ replyOf (checkedOf (now (grammar .entry)) (now (book .entry))) ⌝ }
     ensures { λ r. ⌜ Holds (checkedOf (now (grammar .entry)) (now (book .entry))) (slices (now (items .entry)) (now («entry_states» .entry)) (now (kernels .entry)) (now (lookaheads .entry)) (now (kinds .entry)) (now (values .entry)) (now (gotos .entry)) (now (named .entry))) (slices (now (items .exit)) (now («entry_states» .exit)) (now (kernels .exit)) (now (lookaheads .exit)) (now (kinds .exit)) (now (values .exit)) (now (gotos .exit)) (now (named .exit))) ⌝ }
 {
-    let answer = table::read_tables(grammar, book, items, entry_states, kernels, lookaheads, kinds, values, gotos, named);
+    let answer = table::read_tables(
+        grammar,
+        book,
+        items,
+        entry_states,
+        kernels,
+        lookaheads,
+        kinds,
+        values,
+        gotos,
+        named,
+    );
     let TableReply::Read(counts) = answer else {
         return answer;
     };
@@ -44,7 +55,16 @@ pub fn load_tables(
         counts.states,
     );
     if let Reply::Refused(why) = verdict {
-        table::clear_all(items, entry_states, kernels, lookaheads, kinds, values, gotos, named);
+        table::clear_all(
+            items,
+            entry_states,
+            kernels,
+            lookaheads,
+            kinds,
+            values,
+            gotos,
+            named,
+        );
         return TableReply::Refused(why);
     }
     answer

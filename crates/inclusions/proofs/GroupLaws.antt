@@ -20,6 +20,7 @@ module _ (items : List ℕ) (i : ℕ) where
       more : startAt items i k ≡ 0 → (x : ℕ) → a < x → x < suc k → Dec (x < k) → startAt items i x ≡ 0
       more z x u v (yes m) = f x u m
       more z x u v (no m) = subst (λ (y : ℕ). startAt items i y ≡ 0) (let w : k ≡ x = omega arith in w) z
+
       go : Dec (startAt items i k ≡ 0) → (((x : ℕ) → a < x → x < suc k → startAt items i x ≡ 0) → GroupEnd items i a (beginFrom items i (suc k) n))
           → GroupEnd items i a (cond (eqb (startAt items i k) 0) (beginFrom items i (suc k) n) k)
       go (yes z) rec = subst (λ (b : Bool). GroupEnd items i a (cond b (beginFrom items i (suc k) n) k)) (sym (eq-eqb (startAt items i k) 0 z))

@@ -1,5 +1,5 @@
 -- What is asked in memory is what the construction includes.
-use Prim.Native.Nat.{ℕ, zero, suc, _+_, _*_, _-_, _≤_, _<_}
+use Prim.Native.Nat.{ℕ, suc, _+_, _*_, _-_, _≤_, _<_}
 use mathlib.Core.Path.{_≡_, refl, sym, ap, subst, _∙_}
 use mathlib.Core.Logic.{inl, inr}
 use mathlib.Core.List.{List, _∷_, _++_}
@@ -7,30 +7,29 @@ use mathlib.Core.Option.{some}
 use native.Mathlib.Numerals.{add-one}
 use native.Mathlib.Omega.{arith}
 use lib.ListN.{length, getD}
-use Rattle.language.specs.Grammar.{Grammar, Rule, ruleAt, concat}
+use Rattle.language.specs.Grammar.{Grammar, Rule, ruleAt}
 use Rattle.language.specs.GrammarLaws.{rule-range}
-use Rattle.leftcorner.specs.Table.{Table, nextState, Goes}
-use Rattle.leftcorner.specs.Construction.{entryItem, EntryAt, Carries}
+use Rattle.leftcorner.specs.Table.{Table}
+use Rattle.leftcorner.specs.Construction.{entryItem}
 use Rattle.leftcorner.specs.ReadOff.{entry-is}
 use Rattle.leftcorner.specs.Sources.{entry-high}
 use Rattle.items.specs.Layout.{lengthAt, markAt}
-use Rattle.memory.specs.Memory.{stateAt, itemAt, dotAt}
 use Rattle.memory.specs.Held.{Held}
 use Rattle.closure.specs.Adds.{Adds}
 use Rattle.closure.specs.FirstBy.{FirstBy, first-low}
 use Rattle.closure.specs.Expansion.{HoldsClosure}
 use Rattle.closure.specs.InMemory.{DeclaredItem, LineIs}
 use Rattle.closure.proofs.AddLaws.{adds-map}
-use Rattle.moves.specs.Moves.{symbolAfter, nextAt}
+use Rattle.moves.specs.Moves.{nextAt}
 use Rattle.moves.proofs.NextLaws.{next-line, line-next}
 use Rattle.moves.proofs.RowLaws.{row-of, symbol-of-goes, goes-of-symbol}
-use Rattle.carried.specs.Rows.{FirstsAt, RowOf}
+use Rattle.carried.specs.Rows.{RowOf}
 use Rattle.carried.proofs.CarryLaws.{Carried, row-declared, row-carries, carries-row}
 use Rattle.entry_list.specs.Uses.{HoldsUses}
 use Rattle.inclusions.specs.Groups.{groupBegin}
 use Rattle.inclusions.specs.Asks.{MoveAsks, GroupAsks, GroupsAsk, ItemAsks, StateAsks}
 use Rattle.inclusions.specs.Asks as asks
-use Rattle.inclusions.specs.Included.{Included, by-move, by-group, Leads, Includes, FlagAsked}
+use Rattle.inclusions.specs.Included.{Included, by-move, by-group, Includes, FlagAsked}
 use Rattle.inclusions.proofs.FlagLaws.{flag-map, flag-at}
 use Rattle.inclusions.proofs.RuleLaws.{found-entry, base-low, begin-at, rest-at, use-at, find-group}
 
@@ -38,6 +37,11 @@ use Rattle.inclusions.proofs.RuleLaws.{found-entry, base-low, begin-at,
 pub record NextIn (kinds values gotos : List ℕ) (p X q : ℕ) : Type 0 where
   pub some-state : q ≡ 0 → ⊥
   pub is-next : nextAt kinds values gotos p X ≡ q
+
+pub included-map : {g : Grammar} {t : Table} {F : List ℕ → ℕ → ℕ → Type 0} {Next : ℕ → ℕ → Type 0} {Has Had : ℕ → ℕ → ℕ → Type 0} {q i k c : ℕ}
+    → ((i k d : ℕ) → Has i k d → Had i k d) → Included g t F Next Has q i k c → Included g t F Next Had q i k c
+included-map f (by-move nx h go) = by-move nx (f _ _ _ h) go
+included-map f (by-group e δs εs ent er split h x) = by-group e δs εs ent er split (f _ _ _ h) x
 
 -- The table may be any whose items and entries stand in memory, whatever its lines; the kernel lines and next states are read off memory.
 module _ (g : Grammar) (t : Table) {items entries ks ls kd vs gs : List ℕ} {rules strings n : ℕ} (H : Held g t items entries ks ls kd vs gs rules strings n)

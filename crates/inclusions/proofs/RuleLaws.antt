@@ -111,16 +111,23 @@ module _ (g : Grammar) (t : Table) {items entries kernels lookaheads kinds value
       where
         front : List ℕ
         front = r .before ++ (concat δs ++ γ)
+
         right-is : right r ≡ (r .before ++ (concat δs ++ γ)) ++ concat εs
         right-is = ap (λ (l : List (List ℕ)). r .before ++ concat l) split
             ∙ (ap (λ (l : List ℕ). r .before ++ l) (concat-++ δs (γ ∷ εs)) ∙ simp append-assoc)
+
         front-length : baseOf r δs + length γ ≡ length (r .before ++ (concat δs ++ γ))
         front-length = omega (arith, length-append (r .before) (concat δs ++ γ), length-append (concat δs) γ)
 
     few-groups : length δs < 16
     few-groups =
-        omega (arith, filled-length δs (λ δ m. H .formed .formed i is-rule .filled δ (subst (In δ) (sym split) (in-left (γ ∷ εs) m))),
-          base-low δs γ εs split, row .length-is, H .formed .formed i is-rule .short)
+        omega (
+          arith,
+          filled-length δs (λ δ m. H .formed .formed i is-rule .filled δ (subst (In δ) (sym split) (in-left (γ ∷ εs) m))),
+          base-low δs γ εs split,
+          row .length-is,
+          H .formed .formed i is-rule .short,
+        )
 
     pub use-at : {uses : List ℕ} → HoldsUses uses g t → getD uses (i * 16 + length δs) 0 ≡ entryFrom 1 (t .entries) γ
     use-at u = u .row i r is-rule (length δs) few-groups
@@ -133,7 +140,14 @@ module _ (g : Grammar) (t : Table) {items entries kernels lookaheads kinds value
     where
       all-begin : groupBegin items i (length (r .groups)) ≡ baseOf r (r .groups)
       all-begin = ap (λ (a : ℕ). groupFrom items i a (length (r .groups))) mark-base ∙ begins (r .groups) [] [] (sym (append-nil (r .groups)))
+
       go : Dec (j < length (r .groups)) → (δs : List (List ℕ)) × (γ : List ℕ) × (εs : List (List ℕ)) × (r .groups ≡ δs ++ γ ∷ εs) × (length δs ≡ j)
       go (yes u) = split-list (r .groups) j u
-      go (no u) = absurd (omega (arith, l, group-order items i (markAt items i) (length (r .groups)) j (omega arith), all-begin, row .length-is,
-          length-append (r .before) (concat (r .groups))))
+      go (no u) = absurd (omega (
+        arith,
+        l,
+        group-order items i (markAt items i) (length (r .groups)) j (omega arith),
+        all-begin,
+        row .length-is,
+        length-append (r .before) (concat (r .groups)),
+      ))

@@ -1,6 +1,5 @@
 // What the items of a state ask of the lookaheads of others, added as flags at line * 64 + code.
 ghost use mathlib.Core.Path.{_≡_};
-ghost use mathlib.Core.List.{List};
 ghost use Prim.Native.Nat.{ℕ, suc, _+_, _*_, _<_, _≤_};
 ghost use lib.ListN.{length};
 ghost use Rattle.language.specs.Grammar.{Grammar};
@@ -24,7 +23,18 @@ fn wide(x: u8) -> usize
 }
 
 // Asks of line l, if it is that of item i, dot k, the codes that are flagged from `start` on.
-fn add_line(kernels: &[u8], from: &[u8], lines: usize, count: usize, codes: usize, l: usize, i: usize, k: usize, start: usize, grown: &mut [u8])
+fn add_line(
+    kernels: &[u8],
+    from: &[u8],
+    lines: usize,
+    count: usize,
+    codes: usize,
+    l: usize,
+    i: usize,
+    k: usize,
+    start: usize,
+    grown: &mut [u8],
+)
     requires { ⌜ Lines (now kernels) lines count ⌝ }
     requires { ⌜ (l < lines) × (codes ≤ 64) × (start + 64 ≤ length (now from)) × (lines * 64 ≤ length (now grown)) ⌝ }
     ensures { λ _. ⌜ Adds (LineAsks (now (kernels .entry)) (now (from .entry)) codes i k start l) (now (grown .entry)) (now (grown .exit)) ⌝ }
@@ -36,7 +46,19 @@ fn add_line(kernels: &[u8], from: &[u8], lines: usize, count: usize, codes: usiz
 }
 
 // Asks of the line for item i, dot k in state s, if there is one, the codes that are flagged from `start` on.
-pub fn add_lines(kernels: &[u8], links: &[usize], from: &[u8], lines: usize, count: usize, codes: usize, s: usize, i: usize, k: usize, start: usize, grown: &mut [u8])
+pub fn add_lines(
+    kernels: &[u8],
+    links: &[usize],
+    from: &[u8],
+    lines: usize,
+    count: usize,
+    codes: usize,
+    s: usize,
+    i: usize,
+    k: usize,
+    start: usize,
+    grown: &mut [u8],
+)
     requires { ⌜ Lines (now kernels) lines count ⌝ }
     requires { ⌜ Linked (now kernels) (now links) lines ⌝ }
     requires { ⌜ (s < 256) × (codes ≤ 64) × (start + 64 ≤ length (now from)) × (lines * 64 ≤ length (now grown)) ⌝ }
@@ -51,7 +73,23 @@ pub fn add_lines(kernels: &[u8], links: &[usize], from: &[u8], lines: usize, cou
 }
 
 // What item i of p with dot k asks of the next state.
-fn add_move(items: &[u8], kernels: &[u8], links: &[usize], kinds: &[u8], values: &[u8], gotos: &[u8], from: &[u8], count: usize, lines: usize, codes: usize, p: usize, i: usize, k: usize, start: usize, grown: &mut [u8])
+fn add_move(
+    items: &[u8],
+    kernels: &[u8],
+    links: &[usize],
+    kinds: &[u8],
+    values: &[u8],
+    gotos: &[u8],
+    from: &[u8],
+    count: usize,
+    lines: usize,
+    codes: usize,
+    p: usize,
+    i: usize,
+    k: usize,
+    start: usize,
+    grown: &mut [u8],
+)
     requires { ⌜ Lined (now items) (now kernels) (now links) count lines ⌝ }
     requires { ⌜ Cells (now kinds) (now values) (now gotos) ⌝ }
     requires { ⌜ (codes ≤ 64) × (p < 256) × (i ≤ count) × (k ≤ 15) × (start + 64 ≤ length (now from)) × (lines * 64 ≤ length (now grown)) ⌝ }
@@ -65,11 +103,41 @@ fn add_move(items: &[u8], kernels: &[u8], links: &[usize], kinds: &[u8], values:
     if s == 0 {
         return;
     }
-    add_lines(kernels, links, from, lines, count, codes, s, i, k + 1, start, grown);
+    add_lines(
+        kernels,
+        links,
+        from,
+        lines,
+        count,
+        codes,
+        s,
+        i,
+        k + 1,
+        start,
+        grown,
+    );
 }
 
 // What a group of item i asks of entry e, where it ends before dot b.
-fn add_group(items: &[u8], kernels: &[u8], links: &[usize], entries: &[u8], uses: &[u8], nul: &[u8], fst: &[u8], from: &[u8], count: usize, rules: usize, lines: usize, codes: usize, i: usize, b: usize, e: usize, start: usize, grown: &mut [u8])
+fn add_group(
+    items: &[u8],
+    kernels: &[u8],
+    links: &[usize],
+    entries: &[u8],
+    uses: &[u8],
+    nul: &[u8],
+    fst: &[u8],
+    from: &[u8],
+    count: usize,
+    rules: usize,
+    lines: usize,
+    codes: usize,
+    i: usize,
+    b: usize,
+    e: usize,
+    start: usize,
+    grown: &mut [u8],
+)
     requires { ⌜ Sourced (now items) (now kernels) (now links) (now entries) (now uses) (now nul) (now fst) count rules lines codes ⌝ }
     requires { ⌜ (i ≤ count) × (e < 256) × (start + 64 ≤ length (now from)) × (lines * 64 ≤ length (now grown)) ⌝ }
     ensures { λ _. ⌜ Adds (GroupAsks (now (items .entry)) (now (kernels .entry)) (now (entries .entry)) (now (nul .entry)) (now (fst .entry)) (now (from .entry)) rules lines codes i b e start) (now (grown .entry)) (now (grown .exit)) ⌝ }
@@ -80,11 +148,39 @@ fn add_group(items: &[u8], kernels: &[u8], links: &[usize], entries: &[u8], uses
     let mut row = [0u8; 64];
     carried::item_first(items, count, i, b, codes, nul, fst, from, start, &mut row);
     let s = wide(entries[e]);
-    add_lines(kernels, links, &row, lines, count, codes, s, rules + e, 0, 0, grown);
+    add_lines(
+        kernels,
+        links,
+        &row,
+        lines,
+        count,
+        codes,
+        s,
+        rules + e,
+        0,
+        0,
+        grown,
+    );
 }
 
 // What the groups of rule i ask.
-fn add_groups(items: &[u8], kernels: &[u8], links: &[usize], entries: &[u8], uses: &[u8], nul: &[u8], fst: &[u8], from: &[u8], count: usize, rules: usize, lines: usize, codes: usize, i: usize, start: usize, grown: &mut [u8])
+fn add_groups(
+    items: &[u8],
+    kernels: &[u8],
+    links: &[usize],
+    entries: &[u8],
+    uses: &[u8],
+    nul: &[u8],
+    fst: &[u8],
+    from: &[u8],
+    count: usize,
+    rules: usize,
+    lines: usize,
+    codes: usize,
+    i: usize,
+    start: usize,
+    grown: &mut [u8],
+)
     requires { ⌜ Sourced (now items) (now kernels) (now links) (now entries) (now uses) (now nul) (now fst) count rules lines codes ⌝ }
     requires { ⌜ (i ≤ rules) × (start + 64 ≤ length (now from)) × (lines * 64 ≤ length (now grown)) ⌝ }
     ensures { λ _. ⌜ Adds (GroupsAsk (now (items .entry)) (now (kernels .entry)) (now (entries .entry)) (now (uses .entry)) (now (nul .entry)) (now (fst .entry)) (now (from .entry)) rules lines codes i start) (now (grown .entry)) (now (grown .exit)) ⌝ }
@@ -95,31 +191,120 @@ fn add_groups(items: &[u8], kernels: &[u8], links: &[usize], entries: &[u8], use
     while a < n {
         let b = entry_list::group_end(items, count, i, a, n);
         let e = wide(uses[i * 16 + j]);
-        add_group(items, kernels, links, entries, uses, nul, fst, from, count, rules, lines, codes, i, b, e, start, grown);
+        add_group(
+            items,
+            kernels,
+            links,
+            entries,
+            uses,
+            nul,
+            fst,
+            from,
+            count,
+            rules,
+            lines,
+            codes,
+            i,
+            b,
+            e,
+            start,
+            grown,
+        );
         a = b;
         j += 1;
     }
 }
 
 // What item i of p with dot k asks.
-fn add_item(items: &[u8], kernels: &[u8], links: &[usize], kinds: &[u8], values: &[u8], gotos: &[u8], entries: &[u8], uses: &[u8], nul: &[u8], fst: &[u8], from: &[u8], count: usize, rules: usize, lines: usize, codes: usize, p: usize, i: usize, k: usize, start: usize, grown: &mut [u8])
+fn add_item(
+    items: &[u8],
+    kernels: &[u8],
+    links: &[usize],
+    kinds: &[u8],
+    values: &[u8],
+    gotos: &[u8],
+    entries: &[u8],
+    uses: &[u8],
+    nul: &[u8],
+    fst: &[u8],
+    from: &[u8],
+    count: usize,
+    rules: usize,
+    lines: usize,
+    codes: usize,
+    p: usize,
+    i: usize,
+    k: usize,
+    start: usize,
+    grown: &mut [u8],
+)
     requires { ⌜ Sourced (now items) (now kernels) (now links) (now entries) (now uses) (now nul) (now fst) count rules lines codes ⌝ }
     requires { ⌜ Cells (now kinds) (now values) (now gotos) ⌝ }
     requires { ⌜ (p < 256) × (i ≤ count) × (k ≤ 15) × (start + 64 ≤ length (now from)) × (lines * 64 ≤ length (now grown)) ⌝ }
     ensures { λ _. ⌜ Adds (ItemAsks (now (items .entry)) (now (kernels .entry)) (now (kinds .entry)) (now (values .entry)) (now (gotos .entry)) (now (entries .entry)) (now (uses .entry)) (now (nul .entry)) (now (fst .entry)) (now (from .entry)) rules lines codes p i k start) (now (grown .entry)) (now (grown .exit)) ⌝ }
 {
-    add_move(items, kernels, links, kinds, values, gotos, from, count, lines, codes, p, i, k, start, grown);
+    add_move(
+        items,
+        kernels,
+        links,
+        kinds,
+        values,
+        gotos,
+        from,
+        count,
+        lines,
+        codes,
+        p,
+        i,
+        k,
+        start,
+        grown,
+    );
     if i > rules {
         return;
     }
     if items::mark_of(items, count, i) != k {
         return;
     }
-    add_groups(items, kernels, links, entries, uses, nul, fst, from, count, rules, lines, codes, i, start, grown);
+    add_groups(
+        items,
+        kernels,
+        links,
+        entries,
+        uses,
+        nul,
+        fst,
+        from,
+        count,
+        rules,
+        lines,
+        codes,
+        i,
+        start,
+        grown,
+    );
 }
 
 // What the kernel items of p ask.
-fn add_kernel(items: &[u8], kernels: &[u8], links: &[usize], lookaheads: &[u8], kinds: &[u8], values: &[u8], gotos: &[u8], entries: &[u8], uses: &[u8], nul: &[u8], fst: &[u8], count: usize, rules: usize, lines: usize, codes: usize, p: usize, grown: &mut [u8])
+fn add_kernel(
+    items: &[u8],
+    kernels: &[u8],
+    links: &[usize],
+    lookaheads: &[u8],
+    kinds: &[u8],
+    values: &[u8],
+    gotos: &[u8],
+    entries: &[u8],
+    uses: &[u8],
+    nul: &[u8],
+    fst: &[u8],
+    count: usize,
+    rules: usize,
+    lines: usize,
+    codes: usize,
+    p: usize,
+    grown: &mut [u8],
+)
     requires { ⌜ Sourced (now items) (now kernels) (now links) (now entries) (now uses) (now nul) (now fst) count rules lines codes ⌝ }
     requires { ⌜ Cells (now kinds) (now values) (now gotos) ⌝ }
     requires { ⌜ (p < 256) × (lines * 64 ≤ length (now lookaheads)) × (lines * 64 ≤ length (now grown)) ⌝ }
@@ -130,24 +315,104 @@ fn add_kernel(items: &[u8], kernels: &[u8], links: &[usize], lookaheads: &[u8], 
         let l = next - 1;
         let i = kernel_lines::item_of(kernels, lines, count, l);
         let k = kernel_lines::dot_of(kernels, lines, count, l);
-        add_item(items, kernels, links, kinds, values, gotos, entries, uses, nul, fst, lookaheads, count, rules, lines, codes, p, i, k, l * 64, grown);
+        add_item(
+            items,
+            kernels,
+            links,
+            kinds,
+            values,
+            gotos,
+            entries,
+            uses,
+            nul,
+            fst,
+            lookaheads,
+            count,
+            rules,
+            lines,
+            codes,
+            p,
+            i,
+            k,
+            l * 64,
+            grown,
+        );
         next = kernel_lines::line_before(kernels, links, lines, l);
     }
 }
 
 // What rule i asks, which p's closure adds.
-fn add_rule(items: &[u8], kernels: &[u8], links: &[usize], kinds: &[u8], values: &[u8], gotos: &[u8], entries: &[u8], uses: &[u8], nul: &[u8], fst: &[u8], follow: &[u8], count: usize, rules: usize, lines: usize, codes: usize, p: usize, i: usize, grown: &mut [u8])
+fn add_rule(
+    items: &[u8],
+    kernels: &[u8],
+    links: &[usize],
+    kinds: &[u8],
+    values: &[u8],
+    gotos: &[u8],
+    entries: &[u8],
+    uses: &[u8],
+    nul: &[u8],
+    fst: &[u8],
+    follow: &[u8],
+    count: usize,
+    rules: usize,
+    lines: usize,
+    codes: usize,
+    p: usize,
+    i: usize,
+    grown: &mut [u8],
+)
     requires { ⌜ Sourced (now items) (now kernels) (now links) (now entries) (now uses) (now nul) (now fst) count rules lines codes ⌝ }
     requires { ⌜ Cells (now kinds) (now values) (now gotos) ⌝ }
     requires { ⌜ (p < 256) × (i ≤ count) × (64 ≤ leftAt (now items) i) × (length (now follow) ≡ 4096) × (lines * 64 ≤ length (now grown)) ⌝ }
     ensures { λ _. ⌜ Adds (RuleAsks (now (items .entry)) (now (kernels .entry)) (now (kinds .entry)) (now (values .entry)) (now (gotos .entry)) (now (entries .entry)) (now (uses .entry)) (now (nul .entry)) (now (fst .entry)) (now (follow .entry)) rules lines codes p i) (now (grown .entry)) (now (grown .exit)) ⌝ }
 {
     let left = items::left_of(items, count, i);
-    add_item(items, kernels, links, kinds, values, gotos, entries, uses, nul, fst, follow, count, rules, lines, codes, p, i, 0, (left - 64) * 64, grown);
+    add_item(
+        items,
+        kernels,
+        links,
+        kinds,
+        values,
+        gotos,
+        entries,
+        uses,
+        nul,
+        fst,
+        follow,
+        count,
+        rules,
+        lines,
+        codes,
+        p,
+        i,
+        0,
+        (left - 64) * 64,
+        grown,
+    );
 }
 
 // What the rules ask that p's closure adds.
-fn add_rules(items: &[u8], kernels: &[u8], links: &[usize], kinds: &[u8], values: &[u8], gotos: &[u8], entries: &[u8], uses: &[u8], nul: &[u8], fst: &[u8], present: &[u8], follow: &[u8], count: usize, rules: usize, lines: usize, codes: usize, p: usize, grown: &mut [u8])
+fn add_rules(
+    items: &[u8],
+    kernels: &[u8],
+    links: &[usize],
+    kinds: &[u8],
+    values: &[u8],
+    gotos: &[u8],
+    entries: &[u8],
+    uses: &[u8],
+    nul: &[u8],
+    fst: &[u8],
+    present: &[u8],
+    follow: &[u8],
+    count: usize,
+    rules: usize,
+    lines: usize,
+    codes: usize,
+    p: usize,
+    grown: &mut [u8],
+)
     requires { ⌜ Sourced (now items) (now kernels) (now links) (now entries) (now uses) (now nul) (now fst) count rules lines codes ⌝ }
     requires { ⌜ Cells (now kinds) (now values) (now gotos) ⌝ }
     requires { ⌜ (p < 256) × (length (now present) ≡ 64) × (length (now follow) ≡ 4096) × (lines * 64 ≤ length (now grown)) ⌝ }
@@ -159,19 +424,95 @@ fn add_rules(items: &[u8], kernels: &[u8], links: &[usize], kinds: &[u8], values
             i += 1;
             continue;
         }
-        add_rule(items, kernels, links, kinds, values, gotos, entries, uses, nul, fst, follow, count, rules, lines, codes, p, i, grown);
+        add_rule(
+            items,
+            kernels,
+            links,
+            kinds,
+            values,
+            gotos,
+            entries,
+            uses,
+            nul,
+            fst,
+            follow,
+            count,
+            rules,
+            lines,
+            codes,
+            p,
+            i,
+            grown,
+        );
         i += 1;
     }
 }
 
 // Sets the flags of all that the items of p ask.
-pub fn add_inclusions(items: &[u8], kernels: &[u8], links: &[usize], lookaheads: &[u8], kinds: &[u8], values: &[u8], gotos: &[u8], entries: &[u8], uses: &[u8], nul: &[u8], fst: &[u8], present: &[u8], follow: &[u8], count: usize, rules: usize, lines: usize, codes: usize, p: usize, grown: &mut [u8])
+pub fn add_inclusions(
+    items: &[u8],
+    kernels: &[u8],
+    links: &[usize],
+    lookaheads: &[u8],
+    kinds: &[u8],
+    values: &[u8],
+    gotos: &[u8],
+    entries: &[u8],
+    uses: &[u8],
+    nul: &[u8],
+    fst: &[u8],
+    present: &[u8],
+    follow: &[u8],
+    count: usize,
+    rules: usize,
+    lines: usize,
+    codes: usize,
+    p: usize,
+    grown: &mut [u8],
+)
     requires { ⌜ Sourced (now items) (now kernels) (now links) (now entries) (now uses) (now nul) (now fst) count rules lines codes ⌝ }
     requires { ⌜ Cells (now kinds) (now values) (now gotos) ⌝ }
     requires { ⌜ (p < 256) × (length (now present) ≡ 64) × (length (now follow) ≡ 4096) × (lines * 64 ≤ length (now lookaheads)) × (lines * 64 ≤ length (now grown)) ⌝ }
     ensures { λ _. ⌜ Adds (StateAsks (now (items .entry)) (now (kernels .entry)) (now (lookaheads .entry)) (now (kinds .entry)) (now (values .entry)) (now (gotos .entry)) (now (entries .entry)) (now (uses .entry)) (now (nul .entry)) (now (fst .entry)) (now (present .entry)) (now (follow .entry)) rules lines codes p) (now (grown .entry)) (now (grown .exit)) ⌝ }
     ensures { λ _. ⌜ ((g : Grammar) (t : Table) (strings : ℕ) → Held g t (now (items .entry)) (now (entries .entry)) (now (kernels .entry)) (now (lookaheads .entry)) (now (kinds .entry)) (now (values .entry)) (now (gotos .entry)) rules strings lines → codes ≡ suc (g .terminals) → HoldsClosure g t (FirstBy codes (now (nul .entry)) (now (fst .entry))) p (now (present .entry)) (now (follow .entry)) → HoldsUses (now (uses .entry)) g t → Adds (FlagAsked (Includes g t (FirstBy codes (now (nul .entry)) (now (fst .entry))) p) (now (kernels .entry)) lines codes) (now (grown .entry)) (now (grown .exit))) ⌝ }
 {
-    add_kernel(items, kernels, links, lookaheads, kinds, values, gotos, entries, uses, nul, fst, count, rules, lines, codes, p, grown);
-    add_rules(items, kernels, links, kinds, values, gotos, entries, uses, nul, fst, present, follow, count, rules, lines, codes, p, grown);
+    add_kernel(
+        items,
+        kernels,
+        links,
+        lookaheads,
+        kinds,
+        values,
+        gotos,
+        entries,
+        uses,
+        nul,
+        fst,
+        count,
+        rules,
+        lines,
+        codes,
+        p,
+        grown,
+    );
+    add_rules(
+        items,
+        kernels,
+        links,
+        kinds,
+        values,
+        gotos,
+        entries,
+        uses,
+        nul,
+        fst,
+        present,
+        follow,
+        count,
+        rules,
+        lines,
+        codes,
+        p,
+        grown,
+    );
 }

@@ -18,7 +18,7 @@ use Rattle.moves.specs.Moves.{Readable, Lined}
 use Rattle.moves.specs.Flags.{HoldsPresent, HoldsMoves}
 use Rattle.conformance.specs.Items.{HeldAt}
 use Rattle.carried.specs.Rows.{Ready}
-use Rattle.lookaheads.specs.Memory.{Marked}
+use Rattle.inclusions.specs.Asks.{Sourced}
 use Rattle.reply.specs.declared.Kind.the-variants.{ItemMismatch, MissingLookahead, Conflict, CellMismatch}
 use Rattle.reply.specs.declared.Reply.{Reply}
 use Rattle.reply.specs.declared.Reply.the-variants.{Accepted}
@@ -46,13 +46,12 @@ module _ {items entries kernels lookaheads kinds values gotos named links uses n
   pub ready-of : Ready items nul fst (rules + strings) codes
   ready-of = record { shaped = S .shaped; few-codes = C .few-codes; nul-room = C .nul-room; fst-room = C .fst-room }
 
-  pub marked-of : Marked items kernels links lookaheads entries uses nul fst (rules + strings) rules lines codes
-  marked-of = record {
+  pub sourced-of : Sourced items kernels links entries uses nul fst (rules + strings) rules lines codes
+  sourced-of = record {
     lined = lined-of;
     ready = ready-of;
     few-rules = S .few-rules;
     rules-within = within rules strings;
-    codes-room = S .codes-room;
     entries-room = S .entries-room;
     uses-room = omega (arith, C .uses-room);
   }

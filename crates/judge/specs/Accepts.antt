@@ -1,7 +1,7 @@
 -- The verdict on a table that was read, and its meaning: accepted exactly when the table meets the construction.
-use Prim.Native.Nat.{ℕ, zero, suc, _≤_, _<_}
+use Prim.Native.Nat.{ℕ, suc}
 use native.Mathlib.Omega.{arith}
-use mathlib.Core.Path.{_≡_, refl, sym, subst}
+use mathlib.Core.Path.{_≡_, refl}
 use mathlib.Core.Logic.{_⊎_, inl, inr}
 use mathlib.Core.List.{List, [], _∷_}
 use Rattle.language.specs.Grammar.{Grammar, IsTerminal}
@@ -11,10 +11,10 @@ use Rattle.language.specs.Strings.{AllDeclared, symbol-derives}
 use Rattle.language.specs.Nullable.{Nullable, RightProductive, Starts}
 use Rattle.leftcorner.specs.Claim.{_↔_}
 use Rattle.leftcorner.specs.Table.{Table}
-use Rattle.leftcorner.specs.Construction.{WellFormed, Meets, MeetsWith}
+use Rattle.leftcorner.specs.Construction.{WellFormed, Meets}
 use Rattle.leftcorner.specs.Swap.{swap}
 use Rattle.fixpoint.specs.Least.{least-every}
-use Rattle.analysis.specs.ByRules.{starting, Itself, BeginsByRules, FirstByRules, first-rules, rules-first}
+use Rattle.analysis.specs.ByRules.{starting, BeginsByRules, FirstByRules, first-rules, rules-first}
 use Rattle.analysis.specs.Decided.{first?}
 use Rattle.reply.specs.declared.Reply.{Reply}
 use Rattle.reply.specs.declared.Reply.the-variants.{Accepted}

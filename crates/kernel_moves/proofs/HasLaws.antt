@@ -33,9 +33,9 @@ use Rattle.kernel_moves.specs.Moved.{Numbered, OfNumber, StandsBefore, S
 use Rattle.kernel_moves.proofs.PickLaws.{picked-in}
 use Rattle.kernel_moves.proofs.MovedLaws.{after-before, before-after, Moving, in-picks, picks-rise, below-in}
 
--- the items that are flagged
-abbrev pub Held : List ℕ → List ℕ → ℕ → List ℕ → ℕ → Type 0
-Held items present rules k x = OfNumber SameNumber k x ⊎ RuleStart items present (rules + 1) x
+-- x is the number of a kernel item, or of a rule that the closure adds
+abbrev pub InClosure : List ℕ → List ℕ → ℕ → List ℕ → ℕ → Type 0
+InClosure items present rules k x = OfNumber SameNumber k x ⊎ RuleStart items present (rules + 1) x
 
 entries-length : (a : ℕ) (l : List (List ℕ)) → length (entryLines a l) ≡ length l
 entries-length a [] = refl
@@ -60,14 +60,14 @@ module _ {items : List ℕ} {rules count : ℕ} (shaped : Shaped items count) (f
   symbols-low : (x : ℕ) → x < count * 16 + 16 → symbolAfter items (itemOf x) (dotOf x) < 128
   symbols-low x l = after-low (itemOf x) (dotOf x) (omega arith)
 
-  held-low : {present held : List ℕ} → Marks (Held items present rules k) held → {x : ℕ} → On held x → 16 ≤ x
+  held-low : {present held : List ℕ} → Marks (InClosure items present rules k) held → {x : ℕ} → On held x → 16 ≤ x
   held-low {present} B {x} on = go (B .only x on)
     where
-      go : Held items present rules k x → 16 ≤ x
+      go : InClosure items present rules k x → 16 ≤ x
       go (inl o) = omega (arith, o .holds, low (o .number) (o .member) .0)
       go (inr s) = omega (arith, s .is, s .above)
 
-  numbers-low : {present held : List ℕ} → Marks (Held items present rules k) held → (X : ℕ) → Numbered count (picked X (movedBelow items held (count * 16 + 16)))
+  numbers-low : {present held : List ℕ} → Marks (InClosure items present rules k) held → (X : ℕ) → Numbered count (picked X (movedBelow items held (count * 16 + 16)))
   numbers-low {held = held} B X y m =
       let r = in-picks items held (count * 16 + 16) symbols-low X (count * 16 + 16) (omega arith) m in
       let d = dot-low (omega arith) (r .2) in
@@ -119,7 +119,7 @@ module _ {items : List ℕ} {rules count : ℕ} (shaped : Shaped items count) (f
         seed-of b o = (itemOf (o .number), dotOf (o .number), [], line-alone g (o .member), o .holds)
 
     module _ {present held : List ℕ} (P : Marks (Least (expansions items rules) (OfNumber (StandsBefore items) k)) present)
-        (B : Marks (Held items present rules k) held) where
+        (B : Marks (InClosure items present rules k) held) where
       present-at : {i : ℕ} {r : Rule} → ruleAt g i ≡ some r → Expanded g (alone g k) 1 (r .left) → Present items present i
       present-at {i} {r} e x =
           let w = rule-in g (alone g k) rules-in i e in
@@ -151,7 +151,7 @@ module _ {items : List ℕ} {rules count : ℕ} (shaped : Shaped items count) (f
       held-has : (x : ℕ) → On held x → Has g (alone g k) 1 (itemOf x) (dotOf x)
       held-has x on = go (B .only x on)
         where
-          go : Held items present rules k x → Has g (alone g k) 1 (itemOf x) (dotOf x)
+          go : InClosure items present rules k x → Has g (alone g k) 1 (itemOf x) (dotOf x)
           go (inl o) = subst (λ (y : ℕ). Has g (alone g k) 1 (itemOf y) (dotOf y)) (sym (o .holds)) (in-kernel (line-alone g (o .member)))
           go (inr s) =
               let r = in-rule g (alone g k) rules-in (s .rule) (s .above) (omega (arith, s .below)) in
@@ -210,6 +210,6 @@ module _ {items : List ℕ} {rules count : ℕ} (shaped : Shaped items count) (f
               let w : ((i * 16 + e + 1) * 128 + X) / 128 ≡ i * 16 + suc e = omega arith in
               subst (λ (y : ℕ). In y (picked X l)) w (picked-in (below-in items held (count * 16 + 16) (moving-of h go)) (omega arith))
 
-  pub lists-moves : {present held : List ℕ} → Marks (Least (expansions items rules) (OfNumber (StandsBefore items) k)) present → Marks (Held items present rules k) held
+  pub lists-moves : {present held : List ℕ} → Marks (Least (expansions items rules) (OfNumber (StandsBefore items) k)) present → Marks (InClosure items present rules k) held
       → ListsMoves items rules count k (movedBelow items held (count * 16 + 16))
   lists-moves P B = record { numbered = numbers-low B; moves = λ g strings H sum f X l u. moves-are sum g H P B f X u }

@@ -1,6 +1,6 @@
 // What moves from a kernel set, given as the rising numbers item * 16 + dot of its items.
 ghost use mathlib.Core.Path.{_≡_};
-ghost use Prim.Native.Nat.{ℕ, _+_, _*_, _<_, _≤_};
+ghost use Prim.Native.Nat.{_+_, _*_, _<_, _≤_};
 ghost use mathlib.Core.List.{_++_};
 ghost use lib.ListN.{length, take};
 ghost use Rattle.items.specs.Layout.{Shaped};

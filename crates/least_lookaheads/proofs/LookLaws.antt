@@ -18,15 +18,16 @@ use Rattle.closure.specs.FirstBy.{FirstBy, first-low}
 use Rattle.closure.specs.InMemory.{DeclaredItem, InMemory, LineIs}
 use Rattle.closure.specs.Expansion.{HoldsClosure}
 use Rattle.closure.proofs.ItemLaws.{line-at}
+use Rattle.closure.proofs.ReachLaws as reach
 use Rattle.moves.specs.Moves.{nextAt}
 use Rattle.carried.specs.Rows.{RowOf}
 use Rattle.carried.proofs.CarryLaws.{Carried, row-item, row-in, in-row}
 use Rattle.inclusions.specs.Included.{Included, by-move, by-group, FlagAsked}
-use Rattle.inclusions.proofs.IncludeLaws.{NextIn, asked-included, included-asked}
+use Rattle.inclusions.proofs.IncludeLaws.{NextIn, included-map, asked-included, included-asked}
 use Rattle.inclusions.proofs.FlagLaws.{flag-map, flag-at, flag-line}
 use Rattle.lalr.specs.Strings.{entryStrings}
 use Rattle.lalr.specs.EntryLaws.{entry-line, entry-number, found-entry, some-entry}
-use Rattle.lalr.specs.States.{Kernel, itemOf, dotOf, alone, states, kernelOf, goto}
+use Rattle.lalr.specs.States.{Kernel, itemOf, alone, states, kernelOf, goto}
 use Rattle.lalr.specs.Over.{goes-over, moved-over}
 use Rattle.lalr.specs.MoveLaws.{item-of, dot-of, line-alone, move-only, in-move, moved-dot}
 use Rattle.lalr.specs.StateLaws.{more-states, entry-kernel, Reached, entry-or, goes-to}
@@ -44,6 +45,23 @@ moved-past (moved h go) = omega arith
 -- every flag is that of a lookahead
 pub record Sound (g : Grammar) (nul fst kernels : List ℕ) (lines codes : ℕ) (fs : List ℕ) : Type 0 where
   pub flag : (y : ℕ) → On fs y → FlagAsked (Lookahead g (FirstBy codes nul fst)) kernels lines codes y
+
+-- all that the items of p ask by the lookaheads fs is flagged in `grown`
+pub record Met (g : Grammar) {items entries uses kernels kinds values gotos : List ℕ} {rules strings lines all codes : ℕ}
+    (S : StatesHeld g items entries uses kernels kinds values gotos rules strings lines all codes) (nul fst fs grown : List ℕ) (p : ℕ) : Type 0 where
+  pub every : (q i k c l : ℕ) → Included g (entryTable g) (FirstBy codes nul fst) (NextIn kinds values gotos p) (Carries g (flagTable g S fs) (FirstBy codes nul fst) p) q i k c
+      → LineIs kernels lines q i k l → On grown (l * 64 + c)
+
+module _ (g : Grammar) {items entries uses kernels kinds values gotos : List ℕ} {rules strings lines all codes : ℕ}
+    (S : StatesHeld g items entries uses kernels kinds values gotos rules strings lines all codes) (nul fst : List ℕ) where
+  -- more is flagged
+  pub met-more : {fs grown grown′ : List ℕ} {p : ℕ} → Met g S nul fst fs grown p → ((y : ℕ) → On grown y → On grown′ y) → Met g S nul fst fs grown′ p
+  met-more m f = record { every = λ q i k c l h w. f (l * 64 + c) (m .every q i k c l h w) }
+
+  -- what is flagged is flagged below the lines' end
+  pub met-within : {fs grown grown′ : List ℕ} {p : ℕ} → codes ≤ 64 → Met g S nul fst fs grown p → Sound g nul fst kernels lines codes grown
+      → ((y : ℕ) → y < lines * 64 → On grown y → On grown′ y) → Met g S nul fst fs grown′ p
+  met-within few m s f = met-more m (λ y on. let h = s .flag y on in f y (omega (arith, h .within, h .low, h .is, few)) on)
 
 module _ (g : Grammar) {items entries uses kernels kinds values gotos : List ℕ} {rules strings lines all codes : ℕ}
     (S : StatesHeld g items entries uses kernels kinds values gotos rules strings lines all codes) (nul fst fs : List ℕ) (few : codes ≤ 64)
@@ -82,9 +100,11 @@ module _ (g : Grammar) {items entries uses kernels kinds values gotos : List ℕ
   to-alone q i k σ h =
       let f = flagged g S fs h in
       let l = S .line-of (f .line) (f .within) in
-      let w = line-alone g (subst (λ (x : ℕ). In (l .number) (kernelOf g x)) (f .state) (l .stands)) in
-      ([], subst (λ (x : ℕ). KernelAt g (alone g (kernelOf g q)) 1 x k []) (sym (l .item) ∙ f .item)
-          (subst (λ (x : ℕ). KernelAt g (alone g (kernelOf g q)) 1 (itemOf (l .number)) x []) (sym (l .dot) ∙ f .dot) w))
+      let w = line-alone g (subst (λ (x : ℕ). In (l .number) (kernelOf g x)) (f .state) (l .stands)) in (
+        [],
+        subst (λ (x : ℕ). KernelAt g (alone g (kernelOf g q)) 1 x k []) (sym (l .item) ∙ f .item)
+            (subst (λ (x : ℕ). KernelAt g (alone g (kernelOf g q)) 1 (itemOf (l .number)) x []) (sym (l .dot) ∙ f .dot) w),
+      )
 
   moves : {q i k X : ℕ} {β : List ℕ} → Has g t q i k → Goes g t i k X β → MovedBy g (alone g (kernelOf g q)) 1 X i (suc k)
   moves {q = q} h go = moved-over g t (alone g (kernelOf g q)) refl q 1 (to-alone q) (moved h go)
@@ -127,52 +147,66 @@ module _ (g : Grammar) {items entries uses kernels kinds values gotos : List ℕ
   pub sound-asked : {y : ℕ} → SomeAsks items kernels fs kinds values gotos entries uses nul fst rules lines codes all y → FlagAsked (Lookahead g (FirstBy codes nul fst)) kernels lines codes y
   sound-asked a = flag-map (λ q i k c. look-asked (a .closure))
       (asked-included g (entryTable g) (held-entries g S) (S .holds-uses) nul fst codes kernels fs kinds values gotos (a .present) (a .follow) lines (a .state)
-        (λ i k start from. row-declared) (a .asks))
+      (λ i k start from. row-declared) (a .asks))
+
+  on-carries : {q i k d l : ℕ} → LineIs kernels lines q i k l → d < 64 → On fs (l * 64 + d) → Carries g t (FirstBy codes nul fst) q i k d
+  on-carries {q} {i} {k} {d} {l} w low on =
+      let r = line-at g t (memory .holds-kernels) (memory .line-count) w in
+      in-kernel (r .1) (memory .holds-kernels .on-code l q i k d (r .2) low on)
+
+  carries-low : {q i k d : ℕ} → Carries g t (FirstBy codes nul fst) q i k d → d < codes
+  carries-low h = reach.carries-low g t (FirstBy codes nul fst) codes (memory .code-low) (λ β d c l f. first-low codes nul fst l f) h
+
+  -- all that p's items ask by these lookaheads is flagged in `grown`
+  pub met-state : {p : ℕ} {grown : List ℕ} → StateMet items kernels fs kinds values gotos entries uses nul fst rules lines codes grown p → Met g S nul fst fs grown p
+  met-state {p} {grown} m = record { every = λ q i k c l. on-grown }
+    where
+      rowed : {i k d : ℕ} → Carries g t (FirstBy codes nul fst) p i k d → Carried items kernels fs (m .present) (m .follow) rules lines codes p i k d
+      rowed h = in-row g t memory (S .limits .formed) few nul fst (m .closure .holds g t memory) h
+
+      included-low : {q i k c : ℕ} → Included g (entryTable g) (FirstBy codes nul fst) (NextIn kinds values gotos p) (Carries g t (FirstBy codes nul fst) p) q i k c → c < codes
+      included-low (by-move nx h go) = carries-low h
+      included-low (by-group e δs εs ent er split h f) = first-low codes nul fst (carries-low h) f
+
+      on-grown : {q i k c l : ℕ} → Included g (entryTable g) (FirstBy codes nul fst) (NextIn kinds values gotos p) (Carries g t (FirstBy codes nul fst) p) q i k c → LineIs kernels lines q i k l
+          → On grown (l * 64 + c)
+      on-grown {c = c} {l = l} h w =
+          m .every (l * 64 + c)
+          (included-asked g (entryTable g) (held-entries g S) (S .holds-uses) nul fst codes kernels fs kinds values gotos (m .present) (m .follow) lines p (λ i k start from. row-declared)
+          (flag-at l w (included-low h) refl (included-map (λ i k d. rowed) h)))
+
+  -- lookaheads that grew in lines of other states
+  pub met-grown : {p : ℕ} {fs′ grown : List ℕ} → Met g S nul fst fs grown p → ((l c : ℕ) → l < lines → stateAt kernels l ≡ p → c < 64 → On fs′ (l * 64 + c) → On fs (l * 64 + c))
+      → Met g S nul fst fs′ grown p
+  met-grown {p} {fs′} m same = record { every = λ q i k c l h w. m .every q i k c l (included-map (λ i k d. before) h) w }
+    where
+      before : {i k d : ℕ} → Carries g (flagTable g S fs′) (FirstBy codes nul fst) p i k d → Carries g t (FirstBy codes nul fst) p i k d
+      before {d = d} (in-kernel h n) =
+          let f = flagged g S fs′ h in
+          let c = f .code d n in
+          on-carries (record { within = f .within; state = f .state; item = f .item; dot = f .dot }) (c .1) (same (f .line) d (f .within) (f .state) (c .1) (c .0))
+      before (in-closure j h go e l f) = in-closure j (before h) (goes-over g (flagTable g S fs′) t refl go) e l f
 
   -- ---- where all that is asked is flagged
-  module _ (goal : (l : ℕ) → LineIs kernels lines 1 (rules + 1) 0 l → On fs (l * 64 + 0))
-      (met : (p : ℕ) → 1 ≤ p → p ≤ all → StateMet items kernels fs kinds values gotos entries uses nul fst rules lines codes fs p) where
+  module _ (goal : (l : ℕ) → LineIs kernels lines 1 (rules + 1) 0 l → On fs (l * 64 + 0)) (met : (p : ℕ) → 1 ≤ p → p ≤ all → Met g S nul fst fs fs p) where
     line-is : {q i k q′ i′ k′ l : ℕ} → q ≡ q′ → i ≡ i′ → k ≡ k′ → LineIs kernels lines q i k l → LineIs kernels lines q′ i′ k′ l
     line-is a b c d = record { within = d .within; state = d .state ∙ a; item = d .item ∙ b; dot = d .dot ∙ c }
 
-    on-carries : {q i k d l : ℕ} → LineIs kernels lines q i k l → d < 64 → On fs (l * 64 + d) → Carries g t (FirstBy codes nul fst) q i k d
-    on-carries {q} {i} {k} {d} {l} w low on =
-        let r = line-at g t (memory .holds-kernels) (memory .line-count) w in
-        in-kernel (r .1) (memory .holds-kernels .on-code l q i k d (r .2) low on)
-
     -- what state p asks of a line
-    asked-on : {p q i k c l : ℕ} (m : StateMet items kernels fs kinds values gotos entries uses nul fst rules lines codes fs p) → LineIs kernels lines q i k l → c < codes
-        → Included g (entryTable g) (FirstBy codes nul fst) (NextIn kinds values gotos p) (Carried items kernels fs (m .present) (m .follow) rules lines codes p) q i k c
-        → On fs (l * 64 + c)
-    asked-on {p = p} {c = c} {l = l} m w low h =
-        m .every (l * 64 + c)
-        (included-asked g (entryTable g) (held-entries g S) (S .holds-uses) nul fst codes kernels fs kinds values gotos (m .present) (m .follow) lines p (λ i k start from. row-declared)
-        (flag-at l w low refl h))
-
-    met-of : {p i k d : ℕ} → Carries g t (FirstBy codes nul fst) p i k d → StateMet items kernels fs kinds values gotos entries uses nul fst rules lines codes fs p
-    met-of {p} h = let r = has-state (has-of g t h) in met p (r .0) (omega (arith, r .1, S .state-count))
-
-    rowed : {p i k d : ℕ} (h : Carries g t (FirstBy codes nul fst) p i k d) (m : StateMet items kernels fs kinds values gotos entries uses nul fst rules lines codes fs p)
-        → Carried items kernels fs (m .present) (m .follow) rules lines codes p i k d
-    rowed h m = in-row g t memory (S .limits .formed) few nul fst (m .closure .holds g t memory) h
+    asked-on : {p i k d q j n c l : ℕ} → Carries g t (FirstBy codes nul fst) p i k d → LineIs kernels lines q j n l
+        → Included g (entryTable g) (FirstBy codes nul fst) (NextIn kinds values gotos p) (Carries g t (FirstBy codes nul fst) p) q j n c → On fs (l * 64 + c)
+    asked-on {p = p} h w x = let r = has-state (has-of g t h) in met p (r .0) (omega (arith, r .1, S .state-count)) .every _ _ _ _ _ x w
 
     move-on : {q i k d X l : ℕ} {β : List ℕ} → Carries g t (FirstBy codes nul fst) q i k d → Goes g (bare g) i k X β → LineIs kernels lines (goto g q X) i (suc k) l → On fs (l * 64 + d)
     move-on {q} {i} {k} {d} {X} h go w =
-        let m = met-of h in
-        let r = rowed h m in
         let go′ = goes-over g (bare g) t refl go in
         let y = goes-to g (S .limits) q X i (suc k) (has-state (has-of g t h) .0) (has-state (has-of g t h) .1) (moves (has-of g t h) go′) in
-        asked-on m w (r .low)
-        (by-move (record { some-state = λ z. omega (arith, z, y .low); is-next = next-goto (has-of g t h) go′ }) r (goes-over g (bare g) (entryTable g) refl go))
+        asked-on h w (by-move (record { some-state = λ z. omega (arith, z, y .low); is-next = next-goto (has-of g t h) go′ }) h (goes-over g (bare g) (entryTable g) refl go))
 
     group-on : {q d c l : ℕ} (i : ℕ) {r : Rule} (δs : List (List ℕ)) (γ : List ℕ) (εs : List (List ℕ)) → ruleAt g i ≡ some r
         → Carries g t (FirstBy codes nul fst) q i (length (r .before)) d → r .groups ≡ δs ++ γ ∷ εs → FirstBy codes nul fst (concat εs) d c
         → LineIs kernels lines (entryOf g γ) (entryItem g (bare g) (entryOf g γ)) zero l → On fs (l * 64 + c)
-    group-on i δs γ εs e h split f w =
-        let m = met-of h in
-        let r = rowed h m in
-        asked-on m w (first-low codes nul fst (r .low) f)
-        (by-group (entryOf g γ) δs εs (found-entry g (entryTable g) refl (group-wanted g i δs γ εs e split)) e split r f)
+    group-on i δs γ εs e h split f w = asked-on h w (by-group (entryOf g γ) δs εs (found-entry g (entryTable g) refl (group-wanted g i δs γ εs e split)) e split h f)
 
     -- the line of an entry
     entry-at : (e : ℕ) → 1 ≤ e → e ≤ length (entryStrings g) → (l : ℕ) × LineIs kernels lines e (length (g .rules) + e) 0 l
@@ -196,22 +230,18 @@ module _ (g : Grammar) {items entries uses kernels kinds values gotos : List ℕ
     goal-on : {l : ℕ} → LineIs kernels lines 1 (entryItem g (bare g) 1) zero l → On fs (l * 64 + 0)
     goal-on {l} w = goal l (line-is refl (omega (arith, S .rule-count)) refl w)
 
-    low-code : {q i k d : ℕ} → Carries g t (FirstBy codes nul fst) q i k d → d < 64
-    low-code h = let r = rowed h (met-of h) in omega (arith, r .low, few)
-
     carried : {q i k d : ℕ} → Lookahead g (FirstBy codes nul fst) q i k d → Carries g t (FirstBy codes nul fst) q i k d
     carried look.of-goal = let r = entry-at 1 (omega arith) (some-entry g) in on-carries (r .1) (omega arith) (goal-on (r .1))
     carried (look.of-closure j h go e l f) = in-closure j (carried h) (goes-over g (bare g) t refl go) e l f
     carried (look.of-move h go) =
         let c = carried h in
         let r = moved-at (has-of g t c) (goes-over g (bare g) t refl go) in
-        on-carries (r .1) (low-code c) (move-on c go (r .1))
+        on-carries (r .1) (omega (arith, carries-low c, few)) (move-on c go (r .1))
     carried (look.of-group {c = x} i δs γ εs e h p f) =
         let c = carried h in
         let u = entry-line g (bare g) refl (entryOf g γ) (found-entry g (bare g) refl (group-wanted g i δs γ εs e p)) in
         let r = entry-at (entryOf g γ) (u .1) (u .2) in
-        let w = rowed c (met-of c) in
-        let low = first-low codes nul fst (w .low) f in
+        let low = first-low codes nul fst (carries-low c) f in
         on-carries (r .1) (omega (arith, low, few)) (group-on i δs γ εs e c p f (r .1))
 
     -- no kernel item is a rule with its dot at 0

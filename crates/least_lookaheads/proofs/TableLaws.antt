@@ -9,12 +9,12 @@ use lib.ListN.{length, getD}
 use Rattle.language.specs.Grammar.{Grammar, at}
 use Rattle.language.specs.Sentence.{In}
 use Rattle.language.specs.GrammarLaws.{at-range}
-use Rattle.leftcorner.specs.Table.{EntryLine, E, KernelLine, K, Table, entryAt}
-use Rattle.leftcorner.specs.Construction.{EntryAt, KernelAt}
+use Rattle.leftcorner.specs.Table.{E, KernelLine, K, Table, entryAt}
+use Rattle.leftcorner.specs.Construction.{KernelAt}
 use Rattle.leftcorner.specs.ItemStrings.{wanted-declared}
 use Rattle.leftcorner.specs.ReadOff.{clash}
 use Rattle.fixpoint.specs.Flags.{On}
-use Rattle.memory.specs.Memory.{HoldsItems, HoldsKernels, stateAt, itemAt, dotAt}
+use Rattle.memory.specs.Memory.{HoldsKernels, stateAt, itemAt, dotAt}
 use Rattle.memory.specs.Fits.{Fits}
 use Rattle.memory.specs.Held.{Held}
 use Rattle.closure.specs.InMemory.{DeclaredItem, InMemory}
@@ -23,7 +23,7 @@ use Rattle.inclusions.proofs.FlagLaws.{flag-line}
 use Rattle.lalr.specs.Strings.{entryStrings, entryLines}
 use Rattle.lalr.specs.Distinct.{in-at}
 use Rattle.lalr.specs.EntryLaws.{entry-line, one-entry, lines-length}
-use Rattle.lalr.specs.States.{itemOf, range, keep, states}
+use Rattle.lalr.specs.States.{range, keep, states}
 use Rattle.lalr.specs.Lists.{in-range, range-in, keep-only, keep-every}
 use Rattle.lalr.specs.Limits.{Limits, declared, wanted-short, wanted-filled}
 use Rattle.lalr.specs.BuiltForm.{kernel-known}

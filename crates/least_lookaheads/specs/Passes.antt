@@ -1,5 +1,5 @@
 -- A pass over the states, read off memory: what their items ask by the lookaheads so far.
-use Prim.Native.Nat.{ℕ, _+_, _≤_, _<_}
+use Prim.Native.Nat.{ℕ, _+_, _*_, _/_, _≤_, _<_}
 use mathlib.Core.Path.{_≡_}
 use mathlib.Core.Logic.{_⊎_}
 use mathlib.Core.List.{List}
@@ -8,6 +8,7 @@ use Rattle.language.specs.Grammar.{Grammar}
 use Rattle.leftcorner.specs.Table.{Table}
 use Rattle.fixpoint.specs.Flags.{On}
 use Rattle.fixpoint.specs.Pass.{zeros}
+use Rattle.memory.specs.Memory.{stateAt}
 use Rattle.closure.specs.FirstBy.{FirstBy}
 use Rattle.closure.specs.InMemory.{InMemory}
 use Rattle.closure.specs.Expansion.{HoldsClosure}
@@ -43,26 +44,25 @@ module _ (items kernels lookaheads kinds values gotos entries uses nul fst : Lis
     pub closure : ClosureIs items kernels lookaheads nul fst rules lines codes p present follow
     pub every : (y : ℕ) → StateAsks items kernels lookaheads kinds values gotos entries uses nul fst present follow rules lines codes p y → On fs y
 
-  -- what the states below `next` ask was added, and nothing that no state up to `all` asks
-  pub record StatesAdd (all next : ℕ) (fs₀ fs : List ℕ) : Type 0 where
+  -- what the flagged states below `next` ask was added, and nothing that no state up to `all` asks
+  pub record StatesAdd (changed : List ℕ) (all next : ℕ) (fs₀ fs : List ℕ) : Type 0 where
     pub long : length fs ≡ length fs₀
     pub only : (y : ℕ) → On fs y → On fs₀ y ⊎ SomeAsks all y
     pub kept : (y : ℕ) → On fs₀ y → On fs y
-    pub met : (p : ℕ) → 1 ≤ p → p < next → StateMet fs p
+    pub met : (p : ℕ) → 1 ≤ p → p < next → On changed p → StateMet fs p
 
--- the flags of `from` below `size` were added to others, so many anew
-pub record Merges (from : List ℕ) (size : ℕ) (fs₀ fs : List ℕ) (added : ℕ) : Type 0 where
+-- the flags of `from` below `size` were added to others, so many anew, and their lines' states are noted
+pub record Merges (kernels from : List ℕ) (size : ℕ) (fs₀ fs changed : List ℕ) (added : ℕ) : Type 0 where
   pub long : length fs ≡ length fs₀
   pub only : (y : ℕ) → On fs y → On fs₀ y ⊎ On from y
   pub kept : (y : ℕ) → On fs₀ y → On fs y
+  pub every : (y : ℕ) → y < size → On from y → On fs y
+  pub noted : (y : ℕ) → On fs y → On fs₀ y ⊎ On changed (stateAt kernels (y / 64))
   pub count : zeros fs + added ≡ zeros fs₀
   pub still : added ≡ 0 → fs ≡ fs₀
-  pub every : added ≡ 0 → (y : ℕ) → y < size → On from y → On fs y
 
--- a pass from the lookaheads fs₀ on, which added so many; where it added none, all that is asked is there
-pub record PassMade (items kernels kinds values gotos entries uses nul fst : List ℕ) (rules lines codes all : ℕ) (fs₀ fs : List ℕ) (added : ℕ) : Type 0 where
-  pub long : length fs ≡ length fs₀
-  pub only : (y : ℕ) → On fs y → On fs₀ y ⊎ SomeAsks items kernels fs₀ kinds values gotos entries uses nul fst rules lines codes all y
-  pub kept : (y : ℕ) → On fs₀ y → On fs y
-  pub count : zeros fs + added ≡ zeros fs₀
-  pub met : added ≡ 0 → (p : ℕ) → 1 ≤ p → p ≤ all → StateMet items kernels fs kinds values gotos entries uses nul fst rules lines codes fs p
+-- a pass over the states that are flagged in `changed₀`, from the lookaheads fs₀ on, which added so many; then those are flagged whose lookaheads grew
+pub record PassMade (items kernels kinds values gotos entries uses nul fst : List ℕ) (rules lines codes all : ℕ) (changed₀ changed grown₀ grown fs₀ fs : List ℕ) (added : ℕ) : Type 0 where
+  pub asked : StatesAdd items kernels fs₀ kinds values gotos entries uses nul fst rules lines codes changed₀ all (all + 1) grown₀ grown
+  pub merged : Merges kernels grown (lines * 64) fs₀ fs changed added
+  pub noted-long : length changed ≡ length changed₀

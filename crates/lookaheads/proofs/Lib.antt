@@ -1,3 +1,2 @@
 pub mod NarrowLaws
-pub mod ItemLaws
 pub mod MeetLaws

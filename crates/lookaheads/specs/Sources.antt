@@ -32,12 +32,14 @@ module _ (g : Grammar) (t : Table) (F : List ℕ → ℕ → ℕ → Type 0) whe
   lookaheads-all W q all goal = record {
     of-move = λ p X i k d β σ x a n h. let s = carries-state W h in all p (s .0) (s .1) .of-move X i k d β σ x a n h;
     of-group = λ k p i d c γ σ r δs εs e er eg h. let s = carries-state W h in all p (s .0) (s .1) .of-group k i d c γ σ r δs εs e er eg h;
-    of-goal = goal .of-goal }
+    of-goal = goal .of-goal;
+  }
 
   pub lookaheads-from : (q : ℕ) → LookaheadsMeet g t F q → (p : ℕ) → LookaheadsFrom p q
   lookaheads-from q m p = record {
     of-move = λ X i k d β σ x. m .of-move p X i k d β σ x;
-    of-group = λ k i d c γ σ r δs εs. m .of-group k p i d c γ σ r δs εs }
+    of-group = λ k i d c γ σ r δs εs. m .of-group k p i d c γ σ r δs εs;
+  }
 
   pub lookaheads-goal : (q : ℕ) → LookaheadsMeet g t F q → GoalMeets g t q
   lookaheads-goal q m = record { of-goal = m .of-goal }

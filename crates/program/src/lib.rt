@@ -1,6 +1,9 @@
 // What the programs share: the files that arguments name, and the lines that are written.
 use libc::STDERR_FILENO;
 use libc::STDOUT_FILENO;
+use text::Cursor;
+use text::Field;
+ghost use Prim.Native.Nat.{_≤_};
 ghost use Rattle.io.specs.Counts.{Counts};
 
 // A file's bytes at the start of a buffer: how many there are, and whether reading failed.
@@ -72,6 +75,35 @@ pub fn read_argument(i: usize, what: &[u8], usage: &[u8], buf: &mut [u8]) -> Inp
     input
 }
 
+// The number that argument i is, with a comma after it; at most 65,536.
+pub fn argument_number(i: usize) -> usize
+    ensures { λ r. ⌜ r ≤ 65536 ⌝ }
+{
+    let mut word = io::buffer();
+    let n = os::arg(i, &mut word);
+    let Field::Number(v, _) = text::read_field(
+        &word[..n],
+        Cursor {
+            at: 0,
+            ended: false,
+        },
+    ) else {
+        return 0;
+    };
+    if v < 65536 {
+        return v;
+    }
+    65536
+}
+
+// Writes argument i and an LF to standard output.
+pub fn print_argument(i: usize) {
+    let mut word = io::buffer();
+    let n = os::arg(i, &mut word);
+    io::write_all(STDOUT_FILENO, &word[..n]);
+    io::write_all(STDOUT_FILENO, b"\n");
+}
+
 fn wide(b: u8) -> u64 {
     b as u64
 }
@@ -82,10 +114,15 @@ pub fn print_number(n: u64) {
     io::write_all(STDOUT_FILENO, b"\n");
 }
 
+// Writes a number and a comma to standard output.
+pub fn print_field(n: u64) {
+    io::print_decimal(STDOUT_FILENO, n);
+    io::write_all(STDOUT_FILENO, b",");
+}
+
 // Writes `a,b` and an LF to standard output.
 pub fn print_pair(a: u64, b: u64) {
-    io::print_decimal(STDOUT_FILENO, a);
-    io::write_all(STDOUT_FILENO, b",");
+    print_field(a);
     print_number(b);
 }
 
@@ -98,4 +135,12 @@ pub fn print_bytes(bytes: &[u8]) {
         }
         i += 1;
     }
+}
+
+// Writes what a session answers: `number,place,rules,units`, then each listed rule on a line.
+pub fn print_session(number: u64, place: u64, rules: u64, units: u64, listing: &[u8]) {
+    print_field(number);
+    print_field(place);
+    print_pair(rules, units);
+    print_bytes(listing);
 }

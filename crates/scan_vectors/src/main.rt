@@ -1,8 +1,5 @@
 // Reads scan files into slices. Each two arguments are a file, and the slice's length with a comma after it. Prints the file's name, the
 // reply's number and place, then what the slice holds that is not 0, each on a line.
-use libc::STDOUT_FILENO;
-use text::Cursor;
-use text::Field;
 ghost use Prim.Native.Nat.{_≤_};
 ghost use lib.ListN.{length};
 
@@ -16,34 +13,6 @@ fn show_in(file: &[u8], tokens: &mut [u8], room: usize)
     requires { ⌜ room ≤ length (now tokens) ⌝ }
 {
     show(file, &mut tokens[..room]);
-}
-
-fn print_argument(i: usize) {
-    let mut word = io::buffer();
-    let n = os::arg(i, &mut word);
-    io::write_all(STDOUT_FILENO, &word[..n]);
-    io::write_all(STDOUT_FILENO, b"\n");
-}
-
-// The number that argument i is, at most 65,536.
-fn argument_number(i: usize) -> usize
-    ensures { λ r. ⌜ r ≤ 65536 ⌝ }
-{
-    let mut word = io::buffer();
-    let n = os::arg(i, &mut word);
-    let Field::Number(v, _) = text::read_field(
-        &word[..n],
-        Cursor {
-            at: 0,
-            ended: false,
-        },
-    ) else {
-        return 0;
-    };
-    if v < 65536 {
-        return v;
-    }
-    65536
 }
 
 fn run(i: usize, room: usize)
@@ -60,7 +29,7 @@ fn run(i: usize, room: usize)
     if input.failed {
         return;
     }
-    print_argument(i);
+    program::print_argument(i);
     let n = input.size;
     show_in(&file[..n], &mut tokens, room);
 }
@@ -69,7 +38,7 @@ fn main() {
     let pairs = os::arg_count() / 2;
     let mut k = 0;
     while k < pairs {
-        run(2 * k + 1, argument_number(2 * k + 2));
+        run(2 * k + 1, program::argument_number(2 * k + 2));
         k += 1;
     }
 }

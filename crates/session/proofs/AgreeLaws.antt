@@ -1,30 +1,29 @@
 -- The machine in memory makes the steps of the table's automaton, on stacks of states and codes that fit bytes.
-use Prim.Native.Nat.{ℕ, zero, suc, _+_, _*_, _-_, _≤_, _<_}
+use Prim.Native.Nat.{ℕ, zero, suc, _+_, _-_, _≤_, _<_}
 use native.Mathlib.Omega.{arith}
 use mathlib.Core.Path.{_≡_, refl, sym, ap, ap₂, _∙_, subst}
-use mathlib.Core.Logic.{_⊎_, inl, inr}
-use mathlib.Core.Bool.{Bool, true, false, cond, _&&_}
+use mathlib.Core.Logic.{inl, inr}
+use mathlib.Core.Bool.{Bool, cond, _&&_}
 use mathlib.Core.List.{List, [], _∷_, _++_, map}
 use mathlib.Core.Option.{Option, some, none}
-use lib.Dec.{leb}
-use lib.ListN.{length, drop, getD, replicate, length-replicate}
+use lib.ListN.{length, drop, length-replicate}
 use borrow.Author.Tests.{le-leb}
-use Rattle.language.specs.Grammar.{Grammar, Rule, ruleAt, IsNonterminal}
+use Rattle.language.specs.Grammar.{Grammar, Rule, ruleAt}
 use Rattle.language.specs.First.{next}
 use Rattle.language.specs.Listing.{unitsIn}
 use Rattle.language.specs.Sentence.{In}
-use Rattle.leftcorner.specs.Machine.{Automaton, Cell, Outcome, on, Event, announced, act, step, tell, land, shiftTo, popTo, walk, shift, announce, pop, empty}
+use Rattle.leftcorner.specs.Machine.{Automaton, Cell, on, Event, announced, act, step, tell, land, shiftTo, popTo, walk}
 use Rattle.leftcorner.specs.Table.{EntryLine, E, Action, S, N, A, P, Table, entryAt, stateOf, actionFor, gotoState, cellOf, groupEntries, automaton}
 use Rattle.leftcorner.specs.Construction.{ActionAt}
 use Rattle.leftcorner.specs.ReadOff.{action-back}
 use Rattle.memory.specs.Memory.{HoldsActions, kindOf, valueOf, popValue}
 use Rattle.memory.specs.Fits.{Fits}
-use Rattle.walker.specs.Memory.{figureOf, gotoOf, cellAt, memoryRule, memoryGrammar, entryState, meaning, memoryAutomaton}
+use Rattle.walker.specs.Memory.{figureOf, gotoOf, cellAt, memoryRule, memoryGrammar, meaning, memoryAutomaton}
 use Rattle.walker.specs.Memory as memory
 use Rattle.walker.specs.Walked.{memoryWalk}
 use Rattle.walker.proofs.MemoryLaws.{rule-is}
 use Rattle.walker.proofs.AgreeLaws.{CodeOf, walk-agree, units-agree}
-use Rattle.session.specs.Linked.{Linked}
+use Rattle.linked_rules.specs.Linked.{Linked}
 
 -- every state of a stack fits a byte
 abbrev pub AllLow : List ℕ → Type 0

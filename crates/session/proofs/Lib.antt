@@ -1,1 +1,4 @@
 pub mod AgreeLaws
+pub mod StrayLaws
+pub mod TableLaws
+pub mod BookLaws

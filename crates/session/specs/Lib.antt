@@ -1,1 +1,3 @@
-pub mod Linked
+pub mod Session
+pub mod SessionLaws
+pub mod Demand3

@@ -1,4 +1,170 @@
-// A session of scans over tables that are checked.
+// A session of scans: both books are read and checked, then the tokens are walked.
+use fixpoint::Found;
+use range::in_range;
+use reply::Kind;
+use reply::Refusal;
+use reply::clear;
+use table::TableReply;
+use walker::Walked;
+ghost use mathlib.Core.Path.{_≡_};
+ghost use Prim.Native.Nat.{_+_, _<_, _≤_};
+ghost use lib.ListN.{length};
+ghost use Rattle.language.specs.Grammar.{Grammar};
+ghost use Rattle.leftcorner.specs.Table.{Table};
+ghost use Rattle.leftcorner.specs.Construction.{Meets};
+ghost use Rattle.items.specs.Layout.{Shaped};
+ghost use Rattle.memory.specs.Memory.{HoldsEntries, HoldsActions};
+ghost use Rattle.entry_list.specs.Uses.{HoldsStrings};
+ghost use Rattle.checker.specs.Checked.{checkedOf};
+ghost use Rattle.session.specs.Session.{strayFrom, refusedBy, tableSession, afterBooks, session, Tells};
 
-// Where the definitions stand.
-pub fn theory() {}
+// Accepted, with the tokens read, the rules listed and the units among them; or refused.
+pub type SessionReply = Walked;
+
+fn wide(x: u8) -> usize
+    ensures { λ r. ⌜ (r ≡ x) × (r < 256) ⌝ }
+{
+    x as usize
+}
+
+// The index of the first token that is no terminal.
+fn find_stray(tokens: &[u8], terminals: usize) -> Found
+    ensures { λ r. ⌜ r ≡ strayFrom terminals 0 (now (tokens .entry)) ⌝ }
+{
+    let mut i = 0;
+    while i < tokens.len() {
+        if !in_range(1, wide(tokens[i]), terminals) {
+            return Found::At(i);
+        }
+        i += 1;
+    }
+    Found::Nothing
+}
+
+// Refuses, with zeros in both slices.
+pub fn refuse(why: Refusal, stack: &mut [u8], listing: &mut [u8]) -> SessionReply
+    ensures { λ r. ⌜ Tells (refusedBy (length (now (stack .entry))) (length (now (listing .entry))) why) r (now (stack .exit)) (now (listing .exit)) ⌝ }
+{
+    clear(stack);
+    clear(listing);
+    Walked::Refused(why)
+}
+
+// The walk over tables in memory, of which the entries, the rules and the cells are read.
+fn walk_table(
+    items: &[u8],
+    entries: &[u8],
+    kinds: &[u8],
+    values: &[u8],
+    gotos: &[u8],
+    terminals: usize,
+    goal: usize,
+    rules: usize,
+    strings: usize,
+    tokens: &[u8],
+    stack: &mut [u8],
+    listing: &mut [u8],
+) -> SessionReply
+    requires { ⌜ Shaped (now items) (rules + strings) ⌝ }
+    requires { ⌜ (rules ≤ 127) × (1 ≤ strings) × (strings ≤ 127) × (256 ≤ length (now entries)) ⌝ }
+    requires { ⌜ (length (now kinds) ≡ 16640) × (length (now values) ≡ 16640) × (length (now gotos) ≡ 16640) ⌝ }
+    ensures { λ r. ⌜ ((g : Grammar) (t : Table) → HoldsStrings g t (now (items .entry)) rules strings → HoldsEntries (now (entries .entry)) t → HoldsActions (now (kinds .entry)) (now (values .entry)) (now (gotos .entry)) t → g .terminals ≡ terminals → g .goal ≡ goal → Meets g t
+        → Tells (tableSession (length (now (stack .entry))) (length (now (listing .entry))) g t (now (tokens .entry))) r (now (stack .exit)) (now (listing .exit))) ⌝ }
+{
+    let stray = find_stray(tokens, terminals);
+    if let Found::At(place) = stray {
+        return refuse(
+            Refusal {
+                kind: Kind::Undeclared,
+                place,
+            },
+            stack,
+            listing,
+        );
+    }
+    let mut uses = [0u8; 2048];
+    let mut rows = [0u8; 8448];
+    entry_list::entries_meet(items, rules, strings, goal, &mut uses);
+    linked_rules::link_rules(items, rules, strings, entries, &uses, &mut rows);
+    let start = entries[1];
+    walker::walk_tokens(kinds, values, gotos, &rows, start, tokens, stack, listing)
+}
+
+// Reads and checks both books, and walks the tokens where they are accepted.
+fn walk_books(
+    grammar: &[u8],
+    tables: &[u8],
+    tokens: &[u8],
+    stack: &mut [u8],
+    listing: &mut [u8],
+) -> SessionReply
+    ensures { λ r. ⌜ Tells (afterBooks (length (now (stack .entry))) (length (now (listing .entry))) (checkedOf (now (grammar .entry)) (now (tables .entry))) (now (tokens .entry))) r (now (stack .exit)) (now (listing .exit)) ⌝ }
+{
+    let mut items = [0u8; table::ITEMS];
+    let mut entry_states = [0u8; table::ENTRY_STATES];
+    let mut kernels = [0u8; table::KERNELS];
+    let mut lookaheads = [0u8; table::LOOKAHEADS];
+    let mut kinds = [0u8; table::CELLS];
+    let mut values = [0u8; table::CELLS];
+    let mut gotos = [0u8; table::CELLS];
+    let mut named = [0u8; table::NAMED];
+    let answer = checker::load_tables(
+        grammar,
+        tables,
+        &mut items,
+        &mut entry_states,
+        &mut kernels,
+        &mut lookaheads,
+        &mut kinds,
+        &mut values,
+        &mut gotos,
+        &mut named,
+    );
+    match answer {
+        TableReply::Refused(why) => refuse(why, stack, listing),
+        TableReply::Read(counts) => {
+            let heading = counts.grammar;
+            walk_table(
+                &items,
+                &entry_states,
+                &kinds,
+                &values,
+                &gotos,
+                heading.terminals,
+                heading.goal,
+                heading.rules,
+                counts.entries,
+                tokens,
+                stack,
+                listing,
+            )
+        }
+    }
+}
+
+// A session: reads and checks both books, then walks the tokens. Accepted ("whole"), the listing slice has the rules in the order of
+// the walk, then zeros; a refusal leaves zeros. The stack slice is lent for the walk, and is zeros after.
+// What is promised of the session for books that are accepted is `demand3` (specs/Demand3.antt).
+pub fn run_session(
+    grammar: &[u8],
+    tables: &[u8],
+    tokens: &[u8],
+    stack: &mut [u8],
+    listing: &mut [u8],
+) -> SessionReply
+    ensures replied { λ r. ⌜ r ≡ session (now (grammar .entry)) (now (tables .entry)) (now (tokens .entry)) (length (now (stack .entry))) (length (now (listing .entry))) .reply ⌝ }
+    ensures listed { λ r. ⌜ now (listing .exit) ≡ session (now (grammar .entry)) (now (tables .entry)) (now (tokens .entry)) (length (now (stack .entry))) (length (now (listing .entry))) .listing ⌝ }
+    ensures cleared { λ r. ⌜ now (stack .exit) ≡ session (now (grammar .entry)) (now (tables .entry)) (now (tokens .entry)) (length (now (stack .entry))) (length (now (listing .entry))) .stack ⌝ }
+{
+    if 65535 < tokens.len() {
+        return refuse(
+            Refusal {
+                kind: Kind::LimitExceeded,
+                place: 0,
+            },
+            stack,
+            listing,
+        );
+    }
+    walk_books(grammar, tables, tokens, stack, listing)
+}

@@ -6,9 +6,8 @@ use native.Mathlib.Omega.{arith}
 use mathlib.Core.Path.{_≡_, refl, sym, ap, ap₂, subst, _∙_}
 use mathlib.Core.Logic.{_⊎_, inl, inr}
 use mathlib.Core.List.{List, []}
-use lib.ListN.{length, getD, take}
+use lib.ListN.{getD}
 use Rattle.language.specs.Grammar.{Grammar}
-use Rattle.language.specs.Sentence.{In}
 use Rattle.lalr.specs.States.{Kernel, range, move, leave, explore}
 use Rattle.lalr.specs.States as lalr
 use Rattle.lalr.specs.Lists.{range-in}
@@ -16,15 +15,15 @@ use Rattle.lalr.specs.Distinct.{Extends, kept}
 use Rattle.lalr.specs.Discovery.{leave-extends}
 use Rattle.lalr.specs.DiscoverySteps.{leave-over, explore-more, explore-done, explore-full}
 use Rattle.lalr.specs.MoveLaws.{move-outside}
-use Rattle.lalr.specs.StateLaws.{states-are, firstKernels}
+use Rattle.lalr.specs.StateLaws.{states-are}
 use Rattle.kernel_moves.specs.Held.{HoldsGrammar}
 use Rattle.kernel_moves.specs.Moved.{picked, ListsMoves}
-use Rattle.state_kernels.specs.Sets.{part, setsIn, Bounds, Leads, movesBy, leaveBy}
-use Rattle.state_kernels.specs.Cells.{Cell, Blank}
-use Rattle.state_kernels.specs.Leaving.{Leaves}
-use Rattle.state_kernels.specs.Exploring.{Seeded, NextOf, BlankFrom, Exploring, Explored}
-use Rattle.state_kernels.proofs.SetLaws.{sets-length, sets-at}
-use Rattle.state_kernels.proofs.LeaveLaws.{leads-kept, not-fits}
+use Rattle.kernel_sets.specs.Sets.{part, setsIn, Leads, movesBy}
+use Rattle.kernel_sets.specs.Cells.{Cell, Blank}
+use Rattle.kernel_sets.specs.Leaving.{Leaves}
+use Rattle.state_kernels.specs.Exploring.{Seeded, Exploring, Explored}
+use Rattle.kernel_sets.proofs.SetLaws.{sets-length, sets-at}
+use Rattle.kernel_sets.proofs.LeaveLaws.{leads-kept, not-fits}
 
 blank-cell : {kinds values gotos : List ℕ} → Blank kinds values gotos → (p X : ℕ) → Cell kinds values gotos p X 0
 blank-cell b p X = record { kind = λ _. b .kinds-blank _; value = λ _. b .values-blank _; next = λ _. b .gotos-blank _ }
@@ -89,9 +88,11 @@ module _ {items : List ℕ} {rules strings : ℕ} (few : strings ≤ 127) where
       next-old : (p X : ℕ) → p < q → X < 128 → (v : ℕ) × Cell kinds′ values′ gotos′ (suc p) X v × Leads new (move g (getD new p []) X) v
       next-old p X lp lx =
           let r = E .next g H p X lp lx in
-          let k = kept grows p (omega (arith, lp, lq, sets-length sets starts states)) in
-          (r .0, L .other (suc p) X (r .0) lx (λ e _. omega (arith, e, lp)) (r .1),
-           subst (λ (m : Kernel). Leads new (move g m X) (r .0)) (sym k) (leads-kept (move g (getD old p []) X) (r .0) grows (r .2)))
+          let k = kept grows p (omega (arith, lp, lq, sets-length sets starts states)) in (
+            r .0,
+            L .other (suc p) X (r .0) lx (λ e _. omega (arith, e, lp)) (r .1),
+            subst (λ (m : Kernel). Leads new (move g m X) (r .0)) (sym k) (leads-kept (move g (getD old p []) X) (r .0) grows (r .2)),
+          )
 
       next-new : states′ ≤ 255 → lines′ ≤ 1023 → (X : ℕ) → X < 128 → (v : ℕ) × Cell kinds′ values′ gotos′ (q + 1) X v × Leads new (move g (getD new q []) X) v
       next-new a b zero lx = (0, L .other (q + 1) 0 0 lx (λ _ h. omega (arith, h)) (E .blank (q + 1) 0 lx (inr (omega arith))), none)

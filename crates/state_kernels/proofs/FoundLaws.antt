@@ -5,28 +5,28 @@ use native.Mathlib.Numerals.{add-one}
 use native.Mathlib.Omega.{arith}
 use mathlib.Core.Path.{_≡_, refl, sym, ap, subst, _∙_}
 use mathlib.Core.Logic.{_⊎_, inl, inr}
-use mathlib.Core.List.{List, [], _∷_}
+use mathlib.Core.List.{List, []}
 use lib.ListN.{length, getD, take, drop, List·getD-eq-default}
 use lib.Seq.{getD-take, getD-drop, length-take-le}
 use Rattle.language.specs.Grammar.{Grammar}
 use Rattle.language.specs.GrammarLaws.{in-string}
-use Rattle.lalr.specs.States.{Kernel, itemOf, dotOf, total, move, kernelOf, goto}
+use Rattle.lalr.specs.States.{Kernel, itemOf, dotOf, total, move, kernelOf}
 use Rattle.lalr.specs.States as lalr
 use Rattle.lalr.specs.Discovery.{Fits}
 use Rattle.lalr.specs.MoveLaws.{move-nothing}
 use Rattle.lalr.specs.StateLaws.{goto-at}
-use Rattle.memory.specs.Memory.{stateAt, itemAt, dotAt}
+use Rattle.memory.specs.Memory.{itemAt, dotAt}
 use Rattle.kernel_moves.specs.Held.{HoldsGrammar}
 use Rattle.kernel_moves.specs.Moved.{Numbered}
-use Rattle.state_kernels.specs.Sets.{part, setsIn, Bounds, Leads}
-use Rattle.state_kernels.specs.Cells.{shiftKind, Cell}
+use Rattle.kernel_sets.specs.Sets.{setsIn, Bounds, Leads}
+use Rattle.kernel_sets.specs.Cells.{Cell}
 use Rattle.state_kernels.specs.Exploring.{Explored}
 use Rattle.state_kernels.specs.Lines.{LineOf, LinesOf}
-use Rattle.state_kernels.specs.Discovered.{firstLine, HoldsSets, ifMoves, nextState, HoldsNext, HoldsStates}
-use Rattle.state_kernels.proofs.PartLaws.{part-length}
-use Rattle.state_kernels.proofs.SetLaws.{sets-length, sets-at, sets-take, sets-sum, sets-total, start-low}
-use Rattle.state_kernels.proofs.JoinLaws.{fits}
-use Rattle.state_kernels.proofs.LeaveLaws.{not-fits}
+use Rattle.state_kernels.specs.Discovered.{firstLine, HoldsSets, SafeStates, nextState, next-none, next-some, HoldsNext, HoldsStates}
+use Rattle.kernel_sets.proofs.PartLaws.{part-length}
+use Rattle.kernel_sets.proofs.SetLaws.{sets-length, sets-at, sets-take, sets-sum, sets-total, start-low}
+use Rattle.kernel_sets.proofs.JoinLaws.{fits}
+use Rattle.kernel_sets.proofs.LeaveLaws.{not-fits}
 
 -- the numbers fit the lines
 pub number-low : (sets : List ℕ) (lines count : ℕ) → lines ≤ length sets → count ≤ 254 → Numbered count (take lines sets) → (l : ℕ) → l < lines → getD sets l 0 < 4096
@@ -67,24 +67,43 @@ module _ {sets starts : List ℕ} {states lines : ℕ} (B : Bounds sets starts s
           sym (ap (λ (k : Kernel). getD k j 0) (sets-at sets starts states p u)
           ∙ getD-take (getD starts (p + 1) 0 - getD starts p 0) (drop (getD starts p 0) sets) j 0 (within p j u h) ∙ getD-drop (getD starts p 0) sets j 0)
 
+  -- every line is one of a set's
+  set-of : (l n : ℕ) → n ≤ states → l < getD starts n 0 → (p : ℕ) × (p < states) × (getD starts p 0 ≤ l) × (l < getD starts (p + 1) 0)
+  set-of l zero u h = absurd (omega (arith, h, B .first))
+  set-of l (suc n) u h = go (decLt l (getD starts n 0)) (λ k. set-of l n (omega (arith, u)) k)
+    where
+      go : Dec (l < getD starts n 0) → (l < getD starts n 0 → (p : ℕ) × (p < states) × (getD starts p 0 ≤ l) × (l < getD starts (p + 1) 0))
+          → (p : ℕ) × (p < states) × (getD starts p 0 ≤ l) × (l < getD starts (p + 1) 0)
+      go (yes k) rec = rec k
+      go (no f) rec = (n, u, omega (arith, f), subst (λ (m : ℕ). l < getD starts m 0) (sym (add-one n)) h)
+
+  pub safe-states : {kernels : List ℕ} {count n : ℕ} → LinesOf sets starts states kernels → 4092 ≤ n → length kernels ≡ n → states ≤ 255 → lines ≤ 1023
+      → Numbered count (take lines sets) → SafeStates kernels starts count states lines
+  safe-states {kernels} {count} L room long few-states few-lines N = record {
+    few-states = few-states;
+    some-lines = record { room = omega (arith, room, long, few-lines); few = few-lines; item-low = item-low; dot-low = dot-low };
+    first = B .first;
+    rise = B .rise;
+    last = B .last;
+  }
+    where
+      line : (l : ℕ) → l < lines → (q : ℕ) × LineOf kernels l q (getD sets l 0)
+      line l h = let s = set-of l states (omega arith) (omega (arith, h, B .last)) in (s .0 + 1, L .line (s .0) l (s .1) (s .2) (s .3))
+
+      item-low : (l : ℕ) → l < lines → itemAt kernels l ≤ count
+      item-low l h =
+          let b = N (getD (take lines sets) l 0) (in-string (take lines sets) l (omega (arith, h, length-take-le lines sets (B .room)))) in
+          omega (arith, line l h .1 .item, b .1, getD-take lines sets l 0 h)
+
+      dot-low : (l : ℕ) → l < lines → dotAt kernels l ≤ 15
+      dot-low l h = omega (arith, line l h .1 .dot)
+
 -- ---- next states
 
 module _ (g : Grammar) where
-  pub next-none : (q X : ℕ) → move g (kernelOf g q) X ≡ [] → 0 ≡ nextState g q X
-  unfolding nextState
-  next-none q X e = sym (ap (λ (m : Kernel). ifMoves m (goto g q X)) e)
-
-  pub next-some : (q X : ℕ) → (move g (kernelOf g q) X ≡ [] → ⊥) → goto g q X ≡ nextState g q X
-  unfolding nextState
-  next-some q X f = go (move g (kernelOf g q) X) f
-    where
-      go : (m : Kernel) → (m ≡ [] → ⊥) → goto g q X ≡ ifMoves m (goto g q X)
-      go [] f = absurd (f refl)
-      go (x ∷ m) f = refl
-
   leads-is : (q X v : ℕ) → Leads (lalr.states g) (move g (kernelOf g q) X) v → v ≡ nextState g q X
-  leads-is q X zero e = next-none q X e
-  leads-is q X (suc s) h = sym (goto-at g q X s (h .0) (h .1)) ∙ next-some q X (h .2)
+  leads-is q X zero e = sym (next-none g q X e)
+  leads-is q X (suc s) h = sym (next-some g q X (h .2) ∙ goto-at g q X s (h .0) (h .1))
 
   cells-hold : {kinds values gotos : List ℕ} → ((q X : ℕ) → X < 128 → Cell kinds values gotos q X (nextState g q X)) → HoldsNext g kinds values gotos
   cells-hold {gotos = gotos} C = record {
@@ -100,7 +119,7 @@ module _ {items : List ℕ} {rules strings : ℕ} {sets starts kinds values goto
 
   module _ (few-states : states ≤ 255) (few-lines : lines ≤ 1023) where
     cells-are : (q X : ℕ) → X < 128 → Cell kinds values gotos q X (nextState g q X)
-    cells-are zero X l = subst (Cell kinds values gotos 0 X) (next-none g 0 X (move-nothing g X)) (E .blank few-states few-lines 0 X l (inl refl))
+    cells-are zero X l = subst (Cell kinds values gotos 0 X) (sym (next-none g 0 X (move-nothing g X))) (E .blank few-states few-lines 0 X l (inl refl))
     cells-are (suc p) X l = go (decLt p states)
       where
         go : Dec (p < states) → Cell kinds values gotos (suc p) X (nextState g (suc p) X)
@@ -111,7 +130,7 @@ module _ {items : List ℕ} {rules strings : ℕ} {sets starts kinds values goto
         go (no f) =
             let long : length (lalr.states g) ≤ p = omega (arith, f, ap length (E .sets-are g H), sets-length sets starts states) in
             let none : getD (lalr.states g) p [] ≡ [] = List·getD-eq-default (lalr.states g) [] long in
-            subst (Cell kinds values gotos (suc p) X) (next-none g (suc p) X (ap (λ (k : Kernel). move g k X) none ∙ move-nothing g X))
+            subst (Cell kinds values gotos (suc p) X) (sym (next-none g (suc p) X (ap (λ (k : Kernel). move g k X) none ∙ move-nothing g X)))
             (E .blank few-states few-lines (suc p) X l (inr (omega (arith, f))))
 
     pub holds-states : {kernels : List ℕ} → LinesOf sets starts states kernels → HoldsStates g kernels starts kinds values gotos states lines

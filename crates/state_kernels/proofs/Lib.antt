@@ -1,8 +1,3 @@
-pub mod PartLaws
-pub mod SetLaws
-pub mod JoinLaws
-pub mod CellLaws
-pub mod LeaveLaws
 pub mod SeedLaws
 pub mod ExploreLaws
 pub mod LineLaws

@@ -6,9 +6,9 @@ use mathlib.Core.Path.{_≡_, refl, sym, subst, _∙_}
 use mathlib.Core.List.{List}
 use lib.ListN.{length, getD, set, length-set}
 use lib.Seq.{getD-set-same, getD-set-other}
-use Rattle.state_kernels.specs.Sets.{Bounds}
+use Rattle.kernel_sets.specs.Sets.{Bounds}
 use Rattle.state_kernels.specs.Lines.{LineOf, WritesLine, WritesSet, LinesOf}
-use Rattle.state_kernels.proofs.SetLaws.{start-rise}
+use Rattle.kernel_sets.proofs.SetLaws.{start-rise}
 
 module _ (kernels : List ℕ) (l q x : ℕ) where
   abbrev one : List ℕ

@@ -2,19 +2,17 @@
 use Prim.Native.Nat.{ℕ, suc, _+_, _*_, _-_, _≤_, _<_}
 use native.Mathlib.Decide.{ℕ-discrete}
 use native.Mathlib.Omega.{arith}
-use mathlib.Core.Path.{_≡_, refl, sym, ap, ap₂, subst, _∙_}
+use mathlib.Core.Path.{_≡_, sym, ap, ap₂, subst, _∙_}
 use mathlib.Core.List.{List, [], _∷_}
 use lib.ListN.{length, getD, set, take, drop, length-set}
 use lib.Seq.{drop-cons, ext-getD, getD-take, getD-set-same, getD-set-other, length-take-le}
 use Rattle.language.specs.Grammar.{Grammar}
 use Rattle.language.specs.GrammarLaws.{in-index}
-use Rattle.language.specs.Sentence.{In}
 use Rattle.lalr.specs.Strings.{entryStrings}
 use Rattle.lalr.specs.StateLaws.{kernels-length, kernel-at, firstKernels}
-use Rattle.kernel_moves.specs.Moved.{Numbered}
-use Rattle.state_kernels.specs.Sets.{part, setsIn, Bounds}
+use Rattle.kernel_sets.specs.Sets.{part, setsIn}
 use Rattle.state_kernels.specs.Exploring.{Seeded}
-use Rattle.state_kernels.proofs.SetLaws.{sets-length, sets-at}
+use Rattle.kernel_sets.proofs.SetLaws.{sets-length, sets-at}
 
 -- the first j
 pub record Seeding (rules : ℕ) (sets starts : List ℕ) (j : ℕ) : Type 0 where

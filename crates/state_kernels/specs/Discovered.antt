@@ -1,6 +1,6 @@
 -- The states of a grammar in memory: their kernel lines, where each state's begin, and the next states.
 use Prim.Native.Nat.{ℕ, suc, _+_, _*_, _≤_, _<_}
-use mathlib.Core.Path.{_≡_}
+use mathlib.Core.Path.{_≡_, refl, ap}
 use mathlib.Core.List.{List, [], _∷_}
 use lib.ListN.{length, getD, take}
 use Rattle.language.specs.Grammar.{Grammar}
@@ -8,7 +8,8 @@ use Rattle.lalr.specs.States.{Kernel, itemOf, dotOf, total, move, kernelOf, got
 use Rattle.lalr.specs.States as lalr
 use Rattle.lalr.specs.Discovery.{Fits}
 use Rattle.memory.specs.Memory.{stateAt, itemAt, dotAt}
-use Rattle.state_kernels.specs.Cells.{shiftKind}
+use Rattle.kernel_lines.specs.Lines.{Lines}
+use Rattle.kernel_sets.specs.Cells.{shiftKind}
 use Rattle.state_kernels.specs.declared.Discovery.{Discovery}
 
 -- the first line of the state after the first p
@@ -30,6 +31,18 @@ ifMoves (x ∷ m) s = s
 unfoldable pub nextState : Grammar → ℕ → ℕ → ℕ
 nextState g q X = ifMoves (move g (kernelOf g q) X) (goto g q X)
 
+pub next-none : (g : Grammar) (q X : ℕ) → move g (kernelOf g q) X ≡ [] → nextState g q X ≡ 0
+unfolding nextState
+next-none g q X e = ap (λ (m : Kernel). ifMoves m (goto g q X)) e
+
+pub next-some : (g : Grammar) (q X : ℕ) → (move g (kernelOf g q) X ≡ [] → ⊥) → nextState g q X ≡ goto g q X
+unfolding nextState
+next-some g q X f = go (move g (kernelOf g q) X) f
+  where
+    go : (m : Kernel) → (m ≡ [] → ⊥) → ifMoves m (goto g q X) ≡ goto g q X
+    go [] f = absurd (f refl)
+    go (x ∷ m) f = refl
+
 -- "Shift, or N, on each possible move": cells of kind 1 at state * 64 + terminal, next states at state * 64 + nonterminal - 64
 pub record HoldsNext (g : Grammar) (kinds values gotos : List ℕ) : Type 0 where
   pub kind-is : (q c : ℕ) → c < 64 → getD kinds (q * 64 + c) 0 ≡ shiftKind (nextState g q c)
@@ -42,6 +55,18 @@ pub record HoldsStates (g : Grammar) (kernels starts kinds values gotos : List �
   pub line-count : total (lalr.states g) ≡ lines
   pub holds-sets : HoldsSets kernels starts (lalr.states g)
   pub holds-next : HoldsNext g kinds values gotos
+
+-- lines that are safe to read, whatever they mean, and starts that rise up to their number
+pub record SafeStates (kernels starts : List ℕ) (items states lines : ℕ) : Type 0 where
+  pub few-states : states ≤ 255
+  pub some-lines : Lines kernels lines items
+  pub first : getD starts 0 0 ≡ 0
+  pub rise : (p : ℕ) → p < states → getD starts p 0 ≤ getD starts (p + 1) 0
+  pub last : getD starts states 0 ≡ lines
+
+abbrev pub Safe : List ℕ → List ℕ → ℕ → Discovery → Type 0
+Safe kernels starts items (Discovery.States states lines) = SafeStates kernels starts items states lines
+Safe kernels starts items Discovery.TooMany = Unit {0}
 
 -- "The builder gives 2 for entries, states and kernel lines"
 abbrev pub Discovers : Grammar → List ℕ → List ℕ → List ℕ → List ℕ → List ℕ → Discovery → Type 0

@@ -12,8 +12,8 @@ use Rattle.lalr.specs.States as lalr
 use Rattle.lalr.specs.StateLaws.{firstKernels}
 use Rattle.kernel_moves.specs.Held.{HoldsGrammar}
 use Rattle.kernel_moves.specs.Moved.{Numbered}
-use Rattle.state_kernels.specs.Sets.{setsIn, Bounds, Leads}
-use Rattle.state_kernels.specs.Cells.{Cell}
+use Rattle.kernel_sets.specs.Sets.{setsIn, Bounds, Leads}
+use Rattle.kernel_sets.specs.Cells.{Cell}
 
 -- memory holds the entries' kernel sets
 pub record Seeded (rules strings : ℕ) (sets starts : List ℕ) : Type 0 where

@@ -188,9 +188,16 @@ rooms-tell b e =
 pub has-room : (b : Slices) → Rooms b → hasRoom b ≡ true
 unfolding roomFor
 has-room b r =
-    simp (le-leb 16640 (length (b .items)) (r .items-room), le-leb 256 (length (b .states)) (r .states-room), le-leb 4096 (length (b .kernels)) (r .kernels-room),
-      le-leb 65536 (length (b .lookaheads)) (r .lookaheads-room), le-leb 16640 (length (b .kinds)) (r .kinds-room), le-leb 16640 (length (b .values)) (r .values-room),
-      le-leb 16640 (length (b .gotos)) (r .gotos-room), le-leb 256 (length (b .named)) (r .named-room))
+    simp (
+      le-leb 16640 (length (b .items)) (r .items-room),
+      le-leb 256 (length (b .states)) (r .states-room),
+      le-leb 4096 (length (b .kernels)) (r .kernels-room),
+      le-leb 65536 (length (b .lookaheads)) (r .lookaheads-room),
+      le-leb 16640 (length (b .kinds)) (r .kinds-room),
+      le-leb 16640 (length (b .values)) (r .values-room),
+      le-leb 16640 (length (b .gotos)) (r .gotos-room),
+      le-leb 256 (length (b .named)) (r .named-room),
+    )
 
 pub room-tells : (b : Slices) → hasRoom b ≡ true → Roomy b
 room-tells b e = let r = rooms-tell b e in record { items-room = r .items-room; kinds-room = r .kinds-room; gotos-room = r .gotos-room }

@@ -9,7 +9,7 @@ use borrow.Rule.Slice.PartMut.{putMid}
 use Rattle.language.specs.Grammar.{Grammar}
 use Rattle.leftcorner.specs.Machine.{Verdict, whole-at, wrong-at, short-at}
 use Rattle.walker.specs.declared.Walked.{Walked}
-use Rattle.walker.specs.Walked.{answer, listed, padded, countOf, memoryWalk, Ended}
+use Rattle.walker.specs.Walked.{answer, listed, padded, ruleCount, memoryWalk, Ended}
 
 -- ---- a lent tail of a slice
 
@@ -24,13 +24,13 @@ put-tail l ys a = ap (λ (m : List ℕ). take a l ++ (ys ++ m)) (none-after l a)
 
 -- ---- the end
 
-count-is : (g : Grammar) (v : Verdict) → countOf (answer g v) ≡ length (listed v)
+count-is : (g : Grammar) (v : Verdict) → ruleCount (answer g v) ≡ length (listed v)
 count-is g (whole-at p l) = refl
 count-is g (wrong-at p) = refl
 count-is g (short-at p) = refl
 
-pub count-within : {g : Grammar} {v : Verdict} {w : Walked} {slice : List ℕ} {n : ℕ} → Ended g v w slice → n ≡ countOf w → n ≡ length (listed v)
-count-within {g} {v} h e = e ∙ ap countOf (h .answered) ∙ count-is g v
+pub count-within : {g : Grammar} {v : Verdict} {w : Walked} {slice : List ℕ} {n : ℕ} → Ended g v w slice → n ≡ ruleCount w → n ≡ length (listed v)
+count-within {g} {v} h e = e ∙ ap ruleCount (h .answered) ∙ count-is g v
 
 pub no-element : (l : List ℕ) → length l ≡ 0 → l ≡ replicate (length l) 0
 no-element [] e = refl
@@ -42,7 +42,7 @@ unfolding memoryWalk
 short-first kinds values gotos rules start n k tokens e = rw e
 
 -- the listing, then zeros
-pub end-listing : {g : Grammar} {v : Verdict} {w : Walked} (slice ys : List ℕ) (n k : ℕ) → Ended g v w slice → n ≡ countOf w → length slice ≡ k
+pub end-listing : {g : Grammar} {v : Verdict} {w : Walked} (slice ys : List ℕ) (n k : ℕ) → Ended g v w slice → n ≡ ruleCount w → length slice ≡ k
     → ys ≡ replicate (length (take (length slice - n) (drop n slice))) 0 → putMid n (length slice - n) slice ys ≡ padded k (listed v)
 unfolding padded
 end-listing {g} {v} {w} slice ys n k h e long z =

@@ -7,6 +7,8 @@ use Rattle.language.specs.Grammar.{Grammar}
 use Rattle.language.specs.Listing.{unitsIn}
 use Rattle.leftcorner.specs.Machine.{Verdict, whole-at, wrong-at, short-at, walk}
 use Rattle.reply.specs.declared.Kind.the-variants.{BufferTooSmall, SyntaxError}
+use Rattle.reply.specs.declared.Reply.{Reply}
+use Rattle.reply.specs.declared.Reply.the-variants as reply
 use Rattle.walker.specs.declared.Walked.{Walked}
 use Rattle.walker.specs.declared.Walked.the-variants.{Accepted, Refused}
 use Rattle.walker.specs.Memory.{memoryGrammar, memoryAutomaton}
@@ -31,9 +33,19 @@ listed (short-at p) = []
 unfoldable pub padded : ℕ → List ℕ → List ℕ
 padded size l = l ++ replicate (size - length l) 0
 
-abbrev pub countOf : Walked → ℕ
-countOf (Accepted t) = t .rules
-countOf (Refused x) = 0
+-- the number and the place are the reply's: of whole, the place is "tokens read"
+abbrev pub asReply : Walked → Reply
+asReply (Accepted t) = reply.Accepted (t .tokens)
+asReply (Refused x) = reply.Refused x
+
+-- "After a refusal [..] every count 0."
+abbrev pub ruleCount : Walked → ℕ
+ruleCount (Accepted t) = t .rules
+ruleCount (Refused x) = 0
+
+abbrev pub unitCount : Walked → ℕ
+unitCount (Accepted t) = t .units
+unitCount (Refused x) = 0
 
 -- a walk that ended so, with its listing at the front of the slice
 pub record Ended (g : Grammar) (v : Verdict) (w : Walked) (slice : List ℕ) : Type 0 where

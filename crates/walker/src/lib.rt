@@ -1,13 +1,13 @@
 // The inner loop of the session walker, over tables in memory.
 ghost use mathlib.Core.Path.{_≡_};
-ghost use mathlib.Core.List.{List};
-ghost use Prim.Native.Nat.{ℕ, _+_, _<_, _≤_};
+ghost use Prim.Native.Nat.{_+_, _<_, _≤_};
 ghost use lib.ListN.{length, getD, replicate};
 ghost use Rattle.walker.specs.Memory.{Shaped, cellAt, figureOf, gotoOf, memoryGrammar};
-ghost use Rattle.walker.specs.Walked.{memoryWalk, answer, listed, padded, countOf, Ended};
+ghost use Rattle.walker.specs.Walked.{memoryWalk, answer, listed, padded, asReply, ruleCount, unitCount, Ended};
 ghost use Rattle.walker.specs.Turn.{tops, groupsOver, ruleOver, PushesFrom, loweredTo, Stands, Shifts, Announces, Pops, Advances};
 use reply::Kind;
 use reply::Refusal;
+use reply::Reply;
 
 // What a state does on a code: push the next state and take a token, announce a rule, pop an entry (the value is its
 // length, and one state more is popped), or nothing.
@@ -356,14 +356,34 @@ fn run(
     }
 }
 
+// The answer without its counts.
+pub fn as_reply(w: Walked) -> Reply
+    ensures { λ r. ⌜ r ≡ asReply w ⌝ }
+{
+    match w {
+        Walked::Accepted(tally) => Reply::Accepted(tally.tokens),
+        Walked::Refused(why) => Reply::Refused(why),
+    }
+}
+
 // The rules that stand in the listing after a walk.
-fn rule_count(w: Walked) -> usize
-    ensures { λ n. ⌜ n ≡ countOf w ⌝ }
+pub fn rule_count(w: Walked) -> usize
+    ensures { λ n. ⌜ n ≡ ruleCount w ⌝ }
 {
     match w {
         Walked::Accepted(tally) => tally.rules,
         Walked::Refused(_) => 0,
     }
+}
+
+// The units among them.
+pub fn unit_count(w: Walked) -> usize
+    ensures { λ n. ⌜ n ≡ unitCount w ⌝ }
+{
+    let Walked::Accepted(tally) = w else {
+        return 0;
+    };
+    tally.units
 }
 
 // Walks the tokens from the state `start`, with the states in the stack slice and the rules in the listing slice. The tables are

@@ -1,6 +1,5 @@
 -- `checker::check_tables` meets its contract. Assumes nothing.
 use mathlib.Core.Path.{ap, _∙_}
-use Prim.Native.Nat.{_-_}
 use borrow.Author.Needs.{needs}
 use Rattle.table.specs.Memory.{asReply}
 use Rattle.checker.specs.Checked.{verdictOf}

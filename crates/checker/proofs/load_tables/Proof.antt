@@ -1,7 +1,6 @@
 -- `checker::load_tables` meets its contract. Assumes nothing.
 use mathlib.Core.Path.{_≡_, _∙_}
 use mathlib.Core.Bool.{true}
-use Prim.Native.Nat.{_-_}
 use denote.Ref.{now}
 use borrow.Author.Needs.{needs}
 use Rattle.table.specs.Memory.{Slices, slices, hasRoom}

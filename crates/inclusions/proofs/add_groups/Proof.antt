@@ -1,6 +1,6 @@
 use Rattle.inclusions.proofs.AskLaws.{GroupsTo, groups-start, groups-more, groups-all}
 use Rattle.items.specs.Layout.{lengthAt}
-use mathlib.Core.Path.{_≡_, refl, _∙_}
+use mathlib.Core.Path.{_≡_, refl}
 use Prim.Native.Nat.{_≤_, _-_}
 use native.Mathlib.Omega.{arith}
 use borrow.Author.Needs.{needs}

@@ -35,9 +35,19 @@ loop-again c = let o = c .before .before .before .loop .inv in
     (omega arith, o .1, from-more _ 1 (c .before .before .before .loop .i) (o .2) (λ h. absurd (c .before .is-present .ensures .no (not-true _ (c .if1 .taken)) h)))
 
 add-rule-requires : tie.Need-add-rule-requires Inv-loop μ-loop
-add-rule-requires c κs = let p = c .before .before .before .before .before .before .before .before .before .before .before .before .before .before .before .before .before .before .pre in
-    (p .0, (p .1 .0, (p .1 .1 .0, omega (arith, p .0 .rules-within), c .before .before .is-present .ensures .yes (not-false _ (c .before .if1 .left)) .nonterminal, p .1 .1 .2,
-      omega (arith, c .before .before .before .before .loop .inv .1 .long, p .1 .1 .3))))
+add-rule-requires c κs = let p = c .before .before .before .before .before .before .before .before .before .before .before .before .before .before .before .before .before .before .pre in (
+  p .0,
+  (
+    p .1 .0,
+    (
+      p .1 .1 .0,
+      omega (arith, p .0 .rules-within),
+      c .before .before .is-present .ensures .yes (not-false _ (c .before .if1 .left)) .nonterminal,
+      p .1 .1 .2,
+      omega (arith, c .before .before .before .before .loop .inv .1 .long, p .1 .1 .3),
+    ),
+  ),
+)
 
 add-i-2 : tie.Need-add-i-2 Inv-loop μ-loop
 add-i-2 c = omega (arith, c .before .before .before .before .before .before .before .before .before .before .before .before .before .before .before .before .before .before .before .before .before .pre .0 .few-rules)
@@ -46,10 +56,11 @@ loop-less-2 : tie.Need-loop-less-2 Inv-loop μ-loop
 loop-less-2 c = search needs
 
 loop-again-2 : tie.Need-loop-again-2 Inv-loop μ-loop
-loop-again-2 c = let w = c .before .before .add-rule .ensures in let o = c .before .before .before .before .before .before .before .loop .inv in let i = c .before .before .before .before .before .before .before .loop .i in
-    (omega arith,
-      adding-then (o .1) (λ y h. record { rule = i; above = o .0; below = omega arith; here = c .before .before .before .before .before .is-present .ensures .yes (not-false _ (c .before .before .before .before .if1 .left)); asks = h }) w,
-      from-more _ 1 i (λ j a b h y x. w .kept y (o .2 j a b h y x)) (λ h. w .every))
+loop-again-2 c = let w = c .before .before .add-rule .ensures in let o = c .before .before .before .before .before .before .before .loop .inv in let i = c .before .before .before .before .before .before .before .loop .i in (
+  omega arith,
+  adding-then (o .1) (λ y h. record { rule = i; above = o .0; below = omega arith; here = c .before .before .before .before .before .is-present .ensures .yes (not-false _ (c .before .before .before .before .if1 .left)); asks = h }) w,
+  from-more _ 1 i (λ j a b h y x. w .kept y (o .2 j a b h y x)) (λ h. w .every),
+)
 
 same-length : tie.Need-same-length Inv-loop μ-loop
 same-length c = c .before .loop .inv .1 .long

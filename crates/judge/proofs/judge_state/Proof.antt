@@ -2,7 +2,7 @@ use mathlib.Core.Path.{refl}
 use native.Mathlib.Omega.{arith}
 use borrow.Author.Needs.{needs}
 use Rattle.moves.specs.Flags.{present-of}
-use Rattle.judge.proofs.StateLaws.{within, in-room, few-items, readable-of, ready-of, marked-of, memory-of, held-at}
+use Rattle.judge.proofs.StateLaws.{within, in-room, few-items, readable-of, ready-of, sourced-of, memory-of, held-at}
 use Rattle.judge.proofs.judge_state.Statement.{statement}
 use Rattle.judge.proofs.judge_state.Tie as tie
 
@@ -47,7 +47,7 @@ slice-aggregate-mark-narrow-2 c = search needs
 
 mark-narrow-requires : tie.Need-mark-narrow-requires
 mark-narrow-requires c κs = let s = c .before .before .before .before .before .before .before .before .before .before .before .before .before .before .before .before .before .before .before .before .before .before .before .before .before .before .before .before .before .before in let S = s .pre .0 in let C = s .pre .1 .0 in let low = s .pre .1 .1 .1 in
-    (marked-of S C, (S .cells-room, (low, c .before .before .before .before .before .before .before .before .before .before .before .before .close-state .kept .1 .1 .1 .1 .1 .1 .1 .1 .1 .1 .1 .1 .0, c .before .before .before .before .before .before .before .before .before .before .before .before .close-state .kept .1 .1 .1 .1 .1 .1 .1 .1 .1 .1 .1 .1 .1 .0, s .pre .1 .1 .2)))
+    (sourced-of S C, (S .cells-room, (low, c .before .before .before .before .before .before .before .before .before .before .before .before .close-state .kept .1 .1 .1 .1 .1 .1 .1 .1 .1 .1 .1 .1 .0, c .before .before .before .before .before .before .before .before .before .before .before .before .close-state .kept .1 .1 .1 .1 .1 .1 .1 .1 .1 .1 .1 .1 .1 .0, S .codes-room, s .pre .1 .1 .2)))
 
 slice-aggregate-ask-cells : tie.Need-slice-aggregate-ask-cells
 slice-aggregate-ask-cells c = search needs

@@ -10,9 +10,19 @@ slice-aggregate-close-state-2 c = search needs
 
 close-state-requires : tie.Need-close-state-requires
 close-state-requires c κs = let p = c .before .before .before .before .before .before .before .before .before .before .before .before .before .before .before .before .pre in
-    let s = p .0 .lined .some-lines in
-    (p .0 .lined .shaped, ((p .0 .rules-within, p .0 .few-rules, p .0 .ready .few-codes), ((s .room, p .1 .1 .1 .1 .1), (s .item-low,
-      ((p .0 .ready .nul-room, p .0 .ready .fst-room, p .1 .1 .0 .0, p .1 .1 .0 .1), (p .1 .1 .1 .0, search needs))))))
+    let s = p .0 .lined .some-lines in (
+      p .0 .lined .shaped,
+      (
+        (p .0 .rules-within, p .0 .few-rules, p .0 .ready .few-codes),
+        (
+          (s .room, p .1 .1 .1 .1 .1),
+          (
+            s .item-low,
+            ((p .0 .ready .nul-room, p .0 .ready .fst-room, p .1 .1 .0 .0, p .1 .1 .0 .1), (p .1 .1 .1 .0, search needs)),
+          ),
+        ),
+      ),
+    )
 
 slice-aggregate-add-inclusions : tie.Need-slice-aggregate-add-inclusions
 slice-aggregate-add-inclusions c = search needs

@@ -1,18 +1,18 @@
 use Rattle.least_lookaheads.proofs.FindLaws.{Passing, passing-start, passing-more, found-all}
-use Rattle.fixpoint.specs.Pass.{zeros}
-use Rattle.closure.proofs.AddLaws.{zeroed}
 use mathlib.Core.Path.{refl, _∙_}
 use native.Mathlib.Omega.{arith}
-use borrow.Author.Needs.{needs}
 use lib.ListN.{length}
+use Rattle.fixpoint.specs.Pass.{zeros}
+use Rattle.closure.proofs.AddLaws.{zeroed}
+use borrow.Author.Needs.{needs}
 use Rattle.least_lookaheads.proofs.find_lookaheads.Statement.{statement}
 use Rattle.least_lookaheads.proofs.find_lookaheads.Tie as tie
 
 abbrev Inv-passes : tie.InvT-passes
-Inv-passes items kernels links kinds values gotos entries uses nul fst starts through rules strings lines all codes lookaheads₀ count lookaheads = Passing items entries uses kernels kinds values gotos nul fst rules strings lines all codes lookaheads₀ lookaheads
+Inv-passes items kernels links kinds values gotos entries uses nul fst starts through rules strings lines all codes lookaheads₀ count changed₀ grown₀ lookaheads changed grown = Passing items entries uses kernels kinds values gotos nul fst rules strings lines all codes lookaheads₀ changed grown lookaheads
 
 abbrev μ-passes : tie.MeasureT-passes
-μ-passes items kernels links kinds values gotos entries uses nul fst starts through rules strings lines all codes lookaheads₀ count lookaheads = zeros lookaheads
+μ-passes items kernels links kinds values gotos entries uses nul fst starts through rules strings lines all codes lookaheads₀ count changed₀ grown₀ lookaheads changed grown = zeros lookaheads
 
 add-count : tie.Need-add-count Inv-passes μ-passes
 add-count c = omega (arith, c .before .before .before .before .before .before .before .before .before .before .before .before .before .pre .0 .few-rules, c .before .before .before .before .before .before .before .before .before .before .before .before .before .pre .1 .1 .1 .1 .1)
@@ -34,24 +34,46 @@ add-lines-requires c κs = let p = c .before .before .before .before .before .be
     (p .0 .lined .some-lines, (p .0 .lined .linked, (omega arith, omega arith, search needs, omega (arith, zeroed {n = length (c .before .before .before .before .before .before .before .before .before .before .before .before .before .before .before .before .before .before .before .args .lookaheads .now)} (c .before .before .before .before .clear .ensures) refl, p .1 .1 .1 .1 .2))))
 
 passes-holds : tie.Need-passes-holds Inv-passes μ-passes
-passes-holds c = passing-start _
+passes-holds c = passing-start _ refl refl (c .before .before .before .before .before .before .before .before .before .before .before .before .before .before .before .before .before .before .before .before .before .before .pre .1 .1 .1 .1 .0)
+
+slice-aggregate-make-pass : tie.Need-slice-aggregate-make-pass Inv-passes μ-passes
+slice-aggregate-make-pass c = search needs
+
+slice-aggregate-make-pass-2 : tie.Need-slice-aggregate-make-pass-2 Inv-passes μ-passes
+slice-aggregate-make-pass-2 c = search needs
 
 make-pass-requires : tie.Need-make-pass-requires Inv-passes μ-passes
-make-pass-requires c κs = let p = c .before .before .before .before .before .before .before .before .before .before .before .before .before .before .before .before .before .before .before .before .before .before .before .before .pre in
-    (p .0, (p .1 .0, (p .1 .1 .0, (p .1 .1 .1 .0, (p .1 .1 .1 .1 .0,
-      omega (arith, c .before .passes .inv .long, c .before .before .before .before .add-lines .ensures .long, zeroed {n = length (c .before .before .before .before .before .before .before .before .before .before .before .before .before .before .before .before .before .before .before .before .before .before .before .before .args .lookaheads .now)} (c .before .before .before .before .before .before .before .before .before .clear .ensures) refl, p .1 .1 .1 .1 .2))))))
+make-pass-requires c κs = let p = c .before .before .before .before .before .before .before .before .before .before .before .before .before .before .before .before .before .before .before .before .before .before .before .before .before .before .pre in let o = c .before .before .before .passes .inv in (
+  p .0,
+  (
+    p .1 .0,
+    (
+      p .1 .1 .0,
+      (
+        p .1 .1 .1 .0,
+        (
+          p .1 .1 .1 .1 .0,
+          o .noted-long,
+          omega (arith, o .grown-long, p .0 .lined .some-lines .few),
+          omega (arith, o .long, c .before .before .before .before .before .before .add-lines .ensures .long, zeroed {n = length (c .before .before .before .before .before .before .before .before .before .before .before .before .before .before .before .before .before .before .before .before .before .before .before .before .before .before .args .lookaheads .now)} (c .before .before .before .before .before .before .before .before .before .before .before .clear .ensures) refl, p .1 .1 .1 .1 .2),
+        ),
+      ),
+    ),
+  ),
+)
 
 passes-less : tie.Need-passes-less Inv-passes μ-passes
-passes-less c = omega (arith, c .before .before .before .make-pass .ensures .count, c .if1 .left)
+passes-less c = omega (arith, c .before .before .before .before .before .make-pass .ensures .merged .count, c .if1 .left)
 
 passes-again : tie.Need-passes-again Inv-passes μ-passes
-passes-again c = passing-more (c .before .before .before .before .before .passes .inv) (c .before .before .before .before .before .before .before .before .before .before .before .before .before .before .before .before .before .before .before .before .before .before .before .before .before .before .before .before .pre .0 .ready .few-codes) (c .before .before .before .make-pass .ensures)
+passes-again c = passing-more (c .before .before .before .before .before .before .before .before .before .passes .inv) (c .before .before .before .before .before .before .before .before .before .before .before .before .before .before .before .before .before .before .before .before .before .before .before .before .before .before .before .before .before .before .before .before .pre .0 .ready .few-codes) (c .before .before .before .before .before .make-pass .ensures)
 
 same-length : tie.Need-same-length Inv-passes μ-passes
-same-length c = c .before .before .before .make-pass .ensures .long ∙ (c .before .before .before .before .before .passes .inv .long ∙ (c .before .before .before .before .before .before .before .before .add-lines .ensures .long ∙ zeroed {n = length (c .before .before .before .before .before .before .before .before .before .before .before .before .before .before .before .before .before .before .before .before .before .before .before .before .before .before .before .before .args .lookaheads .now)} (c .before .before .before .before .before .before .before .before .before .before .before .before .before .clear .ensures) refl))
+same-length c = c .before .before .before .before .before .make-pass .ensures .merged .long ∙ (c .before .before .before .before .before .before .before .before .before .passes .inv .long ∙ (c .before .before .before .before .before .before .before .before .before .before .before .before .add-lines .ensures .long ∙ zeroed {n = length (c .before .before .before .before .before .before .before .before .before .before .before .before .before .before .before .before .before .before .before .before .before .before .before .before .before .before .before .before .before .before .before .before .args .lookaheads .now)} (c .before .before .before .before .before .before .before .before .before .before .before .before .before .before .before .before .before .clear .ensures) refl))
 
 returns : tie.Need-returns Inv-passes μ-passes
-returns c = λ g S. found-all (length (c .before .before .before .before .before .before .before .before .before .before .before .before .before .before .before .before .before .before .before .before .before .before .before .before .before .before .before .before .args .lookaheads .now)) refl (c .before .before .before .before .before .before .before .before .before .before .before .before .before .clear .ensures) (c .before .before .before .before .before .before .before .before .add-lines .ensures) (c .before .before .before .before .before .passes .inv) (c .before .before .before .before .before .before .before .before .before .before .before .before .before .before .before .before .before .before .before .before .before .before .before .before .before .before .before .before .pre .0 .ready .few-codes) (c .before .before .before .make-pass .ensures) (omega (arith, c .if1 .taken)) g S
+returns c = λ g S. found-all (c .before .before .before .before .before .before .before .before .before .passes .inv) (c .before .before .before .before .before .before .before .before .before .before .before .before .before .before .before .before .before .before .before .before .before .before .before .before .before .before .before .before .before .before .before .before .pre .0 .ready .few-codes) (c .before .before .before .before .before .make-pass .ensures) (length (c .before .before .before .before .before .before .before .before .before .before .before .before .before .before .before .before .before .before .before .before .before .before .before .before .before .before .before .before .before .before .before .before .args .lookaheads .now)) refl (c .before .before .before .before .before .before .before .before .before .before .before .before .before .before .before .before .before .clear .ensures) (c .before .before .before .before .before .before .before .before .before .before .before .before .add-lines .ensures)
+    (omega (arith, c .if1 .taken)) g S
 
 pub find-lookaheads-spec : {M : Type 1} → statement M
 find-lookaheads-spec =
@@ -66,6 +88,8 @@ find-lookaheads-spec =
     add-add-lines
     add-lines-requires
     passes-holds
+    slice-aggregate-make-pass
+    slice-aggregate-make-pass-2
     make-pass-requires
     passes-less
     passes-again

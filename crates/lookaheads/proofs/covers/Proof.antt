@@ -1,5 +1,5 @@
 use Rattle.lookaheads.specs.Memory.{Covers}
-use Rattle.lookaheads.proofs.ItemLaws.{covers-none, covers-skip, covers-more}
+use Rattle.lookaheads.proofs.NarrowLaws.{covers-none, covers-skip, covers-more}
 use Prim.Native.Nat.{_-_}
 use native.Mathlib.Omega.{arith}
 use borrow.Author.Needs.{needs}
@@ -8,13 +8,16 @@ use Rattle.lookaheads.proofs.covers.Statement.{statement}
 use Rattle.lookaheads.proofs.covers.Tie as tie
 
 abbrev Inv-loop : tie.InvT-loop
-Inv-loop from start to at codes c₀ c = Covers from start to at c
+Inv-loop grown lookaheads lines l codes c₀ c = Covers grown lookaheads l c
 
 abbrev μ-loop : tie.MeasureT-loop
-μ-loop from start to at codes c₀ c = codes - c
+μ-loop grown lookaheads lines l codes c₀ c = codes - c
 
 loop-holds : tie.Need-loop-holds Inv-loop μ-loop
 loop-holds c = covers-none
+
+mul-if1 : tie.Need-mul-if1 Inv-loop μ-loop
+mul-if1 c = search needs
 
 add-if1 : tie.Need-add-if1 Inv-loop μ-loop
 add-if1 c = search needs
@@ -30,6 +33,9 @@ loop-less c = search needs
 
 loop-again : tie.Need-loop-again Inv-loop μ-loop
 loop-again c = covers-skip (c .if1 .taken) (c .before .before .before .loop .inv)
+
+mul-if2 : tie.Need-mul-if2 Inv-loop μ-loop
+mul-if2 c = search needs
 
 add-if2 : tie.Need-add-if2 Inv-loop μ-loop
 add-if2 c = search needs
@@ -59,11 +65,13 @@ covers-spec =
     Inv-loop
     μ-loop
     loop-holds
+    mul-if1
     add-if1
     shared-slice-read-if1
     add-c
     loop-less
     loop-again
+    mul-if2
     add-if2
     shared-slice-read-if2
     returns

@@ -1,23 +1,17 @@
-use mathlib.Core.Path.{_≡_, refl, sym, ap, subst, _∙_}
-use mathlib.Core.Logic.{⊎-elim}
-use Prim.Native.Nat.{ℕ, zero, suc, _+_, _*_, _≤_, _<_, _-_}
+-- The states passed have been left.
+use mathlib.Core.Path.{_≡_, sym}
+use Prim.Native.Nat.{ℕ, _+_, _≤_, _<_, _-_}
 use native.Mathlib.Omega.{arith}
-use borrow.Author.Count.{below-more, below-none}
-use lib.ListN.{length, getD, set, length-set, replicate}
+use lib.ListN.{length, getD, length-replicate}
 use borrow.Author.Needs.{needs}
 use mathlib.Core.Logic.{inl, inr}
-use lib.ListN.{length-replicate}
 use Rattle.state_kernels.specs.Exploring.{Exploring}
-use Rattle.state_kernels.proofs.PartLaws.{part-numbered}
-use Rattle.state_kernels.proofs.SetLaws.{start-low}
-use Rattle.state_kernels.proofs.LeaveLaws.{leaves-grow, Lengths, lengths-same, cells-kept}
+use Rattle.kernel_sets.proofs.PartLaws.{part-numbered}
+use Rattle.kernel_sets.proofs.SetLaws.{start-low}
+use Rattle.kernel_sets.proofs.LeaveLaws.{leaves-grow, Lengths, lengths-same, cells-kept}
 use Rattle.state_kernels.proofs.ExploreLaws.{exploring-start, exploring-more, explored-full, explored-end}
 use Rattle.state_kernels.proofs.explore_states.Statement.{statement}
 use Rattle.state_kernels.proofs.explore_states.Tie as tie
-use Rattle.state_kernels.proofs.explore_states.Reads as reads
-use Rattle.state_kernels.proofs.explore_states.Lts as lts
-use Rattle.kernel_moves.proofs.list_moves.Reads as list-moves-reads
-use Rattle.state_kernels.proofs.leave_state.Reads as leave-state-reads
 
 abbrev Inv-loop : tie.InvT-loop
 Inv-loop items rules strings sets₀ starts₀ kinds₀ values₀ gotos₀ count moved₀ states₀ lines₀ q₀ sets starts kinds values gotos moved states lines q = (q ≤ states) × (length moved ≡ 4096) × Lengths sets₀ starts₀ kinds₀ values₀ gotos₀ sets starts kinds values gotos × Exploring items rules strings sets starts kinds values gotos states lines q

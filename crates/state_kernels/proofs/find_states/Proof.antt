@@ -1,19 +1,10 @@
-use mathlib.Core.Path.{_≡_, refl, sym, ap, subst, _∙_}
-use mathlib.Core.Logic.{⊎-elim}
-use Prim.Native.Nat.{ℕ, zero, suc, _+_, _*_, _≤_, _<_, _-_}
+-- The entries, then all that is discovered from them, or too many.
 use native.Mathlib.Omega.{arith}
-use borrow.Author.Count.{below-more, below-none}
-use lib.ListN.{length, getD, set, length-set, replicate}
 use borrow.Author.Needs.{needs}
 use mathlib.Core.Logic.{inl, inr}
-use Rattle.state_kernels.proofs.FoundLaws.{number-low, too-many, holds-states}
+use Rattle.state_kernels.proofs.FoundLaws.{number-low, safe-states, too-many, holds-states}
 use Rattle.state_kernels.proofs.find_states.Statement.{statement}
 use Rattle.state_kernels.proofs.find_states.Tie as tie
-use Rattle.state_kernels.proofs.find_states.Reads as reads
-use Rattle.state_kernels.proofs.find_states.Lts as lts
-use Rattle.state_kernels.proofs.explore_states.Reads as explore-states-reads
-use Rattle.state_kernels.proofs.seed_entries.Reads as seed-entries-reads
-use Rattle.state_kernels.proofs.write_lines.Reads as write-lines-reads
 
 slice-aggregate-seed-entries : tie.Need-slice-aggregate-seed-entries
 slice-aggregate-seed-entries c = search needs
@@ -40,7 +31,7 @@ same-length-4 : tie.Need-same-length-4
 same-length-4 c = search needs
 
 returns : tie.Need-returns
-returns c = λ g H. too-many (c .before .before .before .before .before .before .before .before .before .before .explore-states .ensures) g H (inl (c .if1 .taken))
+returns c = (tt, λ g H. too-many (c .before .before .before .before .before .before .before .before .before .before .explore-states .ensures) g H (inl (c .if1 .taken)))
 
 same-length-5 : tie.Need-same-length-5
 same-length-5 c = search needs
@@ -55,7 +46,7 @@ same-length-8 : tie.Need-same-length-8
 same-length-8 c = search needs
 
 returns-2 : tie.Need-returns-2
-returns-2 c = λ g H. too-many (c .before .before .before .before .before .before .before .before .before .before .before .explore-states .ensures) g H (inr (c .if2 .taken))
+returns-2 c = (tt, λ g H. too-many (c .before .before .before .before .before .before .before .before .before .before .before .explore-states .ensures) g H (inr (c .if2 .taken)))
 
 slice-aggregate-write-lines : tie.Need-slice-aggregate-write-lines
 slice-aggregate-write-lines c = search needs
@@ -79,7 +70,7 @@ same-length-13 : tie.Need-same-length-13
 same-length-13 c = search needs
 
 returns-3 : tie.Need-returns-3
-returns-3 c = λ g H. holds-states (c .before .before .before .before .before .before .before .before .before .before .before .before .before .before .before .before .before .explore-states .ensures) g H (c .before .before .before .before .before .before .before .if1 .left) (c .before .before .before .before .before .before .if2 .left) (c .before .before .write-lines .ensures)
+returns-3 c = let e = c .before .before .before .before .before .before .before .before .before .before .before .before .before .before .before .before .before .explore-states .ensures in let s = c .before .before .before .before .before .before .before .if1 .left in let l = c .before .before .before .before .before .before .if2 .left in let w = c .before .before .write-lines .ensures in (safe-states (e .bounds) w (c .before .before .before .before .before .before .before .before .before .before .before .before .before .before .before .before .before .before .before .before .before .before .before .before .before .before .before .before .before .before .before .before .before .before .before .pre .1 .0 .2) (search needs) s l (e .numbered), λ g H. holds-states e g H s l w)
 
 pub find-states-spec : {M : Type 1} → statement M
 find-states-spec =

@@ -1,15 +1,12 @@
-use mathlib.Core.Path.{_≡_, refl, sym, ap, subst, _∙_}
-use mathlib.Core.Logic.{⊎-elim}
-use Prim.Native.Nat.{ℕ, zero, suc, _+_, _*_, _≤_, _<_, _-_}
+-- The entries passed have their sets.
+use mathlib.Core.Path.{_≡_, refl}
+use Prim.Native.Nat.{_≤_, _-_}
 use native.Mathlib.Omega.{arith}
-use borrow.Author.Count.{below-more, below-none}
-use lib.ListN.{length, getD, set, length-set, replicate}
+use lib.ListN.{length}
 use borrow.Author.Needs.{needs}
 use Rattle.state_kernels.proofs.SeedLaws.{Seeding, seeding-none, seeding-more, seeded}
 use Rattle.state_kernels.proofs.seed_entries.Statement.{statement}
 use Rattle.state_kernels.proofs.seed_entries.Tie as tie
-use Rattle.state_kernels.proofs.seed_entries.Reads as reads
-use Rattle.state_kernels.proofs.seed_entries.Lts as lts
 
 abbrev Inv-loop : tie.InvT-loop
 Inv-loop rules strings sets₀ starts₀ j₀ sets starts j = (j ≤ strings) × (length sets ≡ length sets₀) × (length starts ≡ length starts₀) × Seeding rules sets starts j

@@ -1,15 +1,11 @@
-use mathlib.Core.Path.{_≡_, refl, sym, ap, subst, _∙_}
-use mathlib.Core.Logic.{⊎-elim}
-use Prim.Native.Nat.{ℕ, zero, suc, _+_, _*_, _≤_, _<_, _-_, _/_}
+-- Three bytes of one line.
+use Prim.Native.Nat.{_+_, _*_, _/_}
 use native.Mathlib.Omega.{arith}
-use borrow.Author.Count.{below-more, below-none}
-use lib.ListN.{length, getD, set, length-set, replicate}
+use lib.ListN.{set, length-set}
 use borrow.Author.Needs.{needs}
 use Rattle.state_kernels.proofs.LineLaws.{writes-line}
 use Rattle.state_kernels.proofs.write_line.Statement.{statement}
 use Rattle.state_kernels.proofs.write_line.Tie as tie
-use Rattle.state_kernels.proofs.write_line.Reads as reads
-use Rattle.state_kernels.proofs.write_line.Lts as lts
 
 cast-kernels : tie.Need-cast-kernels
 cast-kernels c = search needs

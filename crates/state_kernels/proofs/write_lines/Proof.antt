@@ -1,18 +1,14 @@
-use mathlib.Core.Path.{_≡_, refl, sym, ap, subst, _∙_}
-use mathlib.Core.Logic.{⊎-elim}
-use Prim.Native.Nat.{ℕ, zero, suc, _+_, _*_, _≤_, _<_, _-_}
+-- The sets passed have their lines.
+use mathlib.Core.Path.{_≡_, refl}
+use Prim.Native.Nat.{_+_, _≤_, _-_}
 use native.Mathlib.Omega.{arith}
-use borrow.Author.Count.{below-more, below-none}
-use lib.ListN.{length, getD, set, length-set, replicate}
+use lib.ListN.{length}
 use borrow.Author.Needs.{needs}
 use Rattle.state_kernels.specs.Lines.{LinesOf}
-use Rattle.state_kernels.proofs.SetLaws.{start-low}
+use Rattle.kernel_sets.proofs.SetLaws.{start-low}
 use Rattle.state_kernels.proofs.LineLaws.{lines-none, lines-more, lines-all}
 use Rattle.state_kernels.proofs.write_lines.Statement.{statement}
 use Rattle.state_kernels.proofs.write_lines.Tie as tie
-use Rattle.state_kernels.proofs.write_lines.Reads as reads
-use Rattle.state_kernels.proofs.write_lines.Lts as lts
-use Rattle.state_kernels.proofs.write_set.Reads as write-set-reads
 
 abbrev Inv-loop : tie.InvT-loop
 Inv-loop sets starts states lines kernels₀ p₀ kernels p = (p ≤ states) × (length kernels ≡ length kernels₀) × LinesOf sets starts p kernels

@@ -1,17 +1,13 @@
-use mathlib.Core.Path.{_≡_, refl, sym, ap, subst, _∙_}
-use mathlib.Core.Logic.{⊎-elim}
-use Prim.Native.Nat.{ℕ, zero, suc, _+_, _*_, _≤_, _<_, _-_}
+-- The lines passed are written.
+use mathlib.Core.Path.{_≡_, refl}
+use Prim.Native.Nat.{_≤_, _-_}
 use native.Mathlib.Omega.{arith}
-use borrow.Author.Count.{below-more, below-none}
-use lib.ListN.{length, getD, set, length-set, replicate}
+use lib.ListN.{length}
 use borrow.Author.Needs.{needs}
 use Rattle.state_kernels.specs.Lines.{WritesSet}
 use Rattle.state_kernels.proofs.LineLaws.{set-none, set-more, set-all}
 use Rattle.state_kernels.proofs.write_set.Statement.{statement}
 use Rattle.state_kernels.proofs.write_set.Tie as tie
-use Rattle.state_kernels.proofs.write_set.Reads as reads
-use Rattle.state_kernels.proofs.write_set.Lts as lts
-use Rattle.state_kernels.proofs.write_line.Reads as write-line-reads
 
 abbrev Inv-loop : tie.InvT-loop
 Inv-loop sets a b q kernels₀ l₀ kernels l = (a ≤ l) × (l ≤ b) × (length kernels ≡ length kernels₀) × WritesSet sets kernels₀ kernels a l q

@@ -1,0 +1,5 @@
+pub mod PartLaws
+pub mod SetLaws
+pub mod JoinLaws
+pub mod CellLaws
+pub mod LeaveLaws

@@ -1,0 +1,71 @@
+-- What reading a scan file and checking both books tell of the session over them.
+use Prim.Native.Nat.{ℕ, _-_, _≤_, _<_}
+use native.Mathlib.Omega.{arith}
+use mathlib.Core.Path.{_≡_, refl, sym, ap, subst, _∙_}
+use mathlib.Core.List.{List}
+use lib.ListN.{length, take, replicate}
+use lib.Seq.{take-at}
+use borrow.Author.Tests.{le-leb}
+use Rattle.leftcorner.specs.ReadOff.{clash}
+use Rattle.reply.specs.declared.Kind.the-variants.{LimitExceeded}
+use Rattle.reply.specs.declared.Refusal.{Refusal}
+use Rattle.reply.specs.declared.Reply.{Reply}
+use Rattle.reply.specs.declared.Reply.the-variants as reply
+use Rattle.scans.specs.File.{Scanned, tokens, refused, house, scanned, outcomeOf, scansOf}
+use Rattle.scans.proofs.TokenLaws.{tokens-few, scans-listed}
+use Rattle.table.specs.Book.{Reading, whole, rejected}
+use Rattle.table.specs.Memory.{replyOf, asReply}
+use Rattle.checker.specs.Checked.{checkedOf, verdictOf}
+use Rattle.walker.specs.declared.Walked.{Walked}
+use Rattle.session.specs.Session.{refusedBy, refusedAt, session, Tells}
+use Rattle.session.proofs.BookLaws.{too-long, not-long}
+use Rattle.scan_session.specs.ScanSession.{booksFirst, afterScans, scanSession}
+
+-- ---- a refusal of the scan file, by the verdict on the books
+module _ (n k : ℕ) (gs s : List ℕ) (why : Refusal) {r : Reply} (v : r ≡ verdictOf gs s) {a : Walked} {stack listing : List ℕ} where
+  pub books-accepted : {m : ℕ} → r ≡ reply.Accepted m → Tells (refusedBy n k why) a stack listing → Tells (booksFirst n k (checkedOf gs s) why) a stack listing
+  unfolding verdictOf
+  books-accepted {m} e T = go (checkedOf gs s) (sym e ∙ v)
+    where
+      go : (x : Reading) → reply.Accepted m ≡ asReply (replyOf x) → Tells (booksFirst n k x why) a stack listing
+      go (whole g t) q = T
+      go (rejected y) q = clash cc
+
+  pub books-refused : {first : Refusal} → r ≡ reply.Refused first → Tells (refusedBy n k first) a stack listing → Tells (booksFirst n k (checkedOf gs s) why) a stack listing
+  unfolding verdictOf
+  books-refused {first} e T = go (checkedOf gs s) (sym e ∙ v)
+    where
+      go : (x : Reading) → reply.Refused first ≡ asReply (replyOf x) → Tells (booksFirst n k x why) a stack listing
+      go (whole g t) q = clash cc
+      go (rejected y) q = subst (λ (z : Refusal). Tells (refusedBy n k z) a stack listing) (let p : first ≡ y = cc in p) T
+
+-- ---- a scan file that is read, or refused: a slice of 65,536 tokens has room for every file
+module _ (n k : ℕ) (gs s file : List ℕ) {r : Reply} (read : r ≡ scansOf file 65536 .reply) {a : Walked} {stack listing : List ℕ} where
+  pub scans-refused : {why : Refusal} → length file ≤ 65536 → r ≡ reply.Refused why → Tells (booksFirst n k (checkedOf gs s) why) a stack listing
+      → Tells (afterScans n k gs s (scanned house file)) a stack listing
+  unfolding scansOf outcomeOf
+  scans-refused {why} few e T = go (scanned house file) refl (sym e ∙ read)
+    where
+      go : (x : Scanned) → scanned house file ≡ x → reply.Refused why ≡ outcomeOf x 65536 .reply → Tells (afterScans n k gs s x) a stack listing
+      go (tokens l) q f =
+          let f′ = simp (le-leb (length l) 65536 (omega (arith, tokens-few house file l q, few))) at f in
+          clash cc
+      go (refused y) q f = subst (λ (z : Refusal). Tells (booksFirst n k (checkedOf gs s) z) a stack listing) (let p : why ≡ y = cc in p) T
+
+  pub scans-walked : {m : ℕ} (held : List ℕ) → r ≡ reply.Accepted m → held ≡ scansOf file 65536 .tokens → Tells (session gs s (take m held) n k) a stack listing
+      → Tells (afterScans n k gs s (scanned house file)) a stack listing
+  scans-walked {m} held e h T =
+      let L = scans-listed file 65536 m (sym read ∙ e) in
+      let front : take m held ≡ L .list = ap (take m) (h ∙ L .held) ∙ take-at (L .list) (replicate (65536 - m) 0) m (L .counted) in
+      subst (λ (x : Scanned). Tells (afterScans n k gs s x) a stack listing) (sym (L .read))
+      (subst (λ (w : List ℕ). Tells (session gs s w n k) a stack listing) front T)
+
+-- ---- its length comes first
+module _ (gs s file : List ℕ) (n k : ℕ) {a : Walked} {stack listing : List ℕ} where
+  pub file-refused : 65536 < length file → Tells (refusedAt n k LimitExceeded 0) a stack listing → Tells (scanSession gs s file n k) a stack listing
+  unfolding scanSession
+  file-refused h T = too-long 65536 file (refusedAt n k LimitExceeded 0) (afterScans n k gs s (scanned house file)) h T
+
+  pub file-walked : length file ≤ 65536 → Tells (afterScans n k gs s (scanned house file)) a stack listing → Tells (scanSession gs s file n k) a stack listing
+  unfolding scanSession
+  file-walked h T = not-long 65536 file (refusedAt n k LimitExceeded 0) (afterScans n k gs s (scanned house file)) h T

@@ -1,0 +1,81 @@
+-- A file that is read is walked.
+use mathlib.Core.Path.{_≡_, sym, _∙_}
+use native.Mathlib.Omega.{arith}
+use lib.ListN.{length}
+use borrow.Author.Needs.{needs}
+use lib.Seq.{length-take-le}
+use Rattle.scans.proofs.TokenLaws.{scans-listed}
+use Rattle.scan_session.proofs.ScanLaws.{scans-refused, scans-walked}
+use Rattle.scan_session.proofs.walk_scans.Statement.{statement}
+use Rattle.scan_session.proofs.walk_scans.Tie as tie
+
+slice-aggregate-read-scans : tie.Need-slice-aggregate-read-scans
+slice-aggregate-read-scans c = search needs
+
+read-scans-requires : tie.Need-read-scans-requires
+read-scans-requires c κs = search needs
+
+enum-known-read : tie.Need-enum-known-read
+enum-known-read c = search needs
+
+array-share-prefix-tokens : tie.Need-array-share-prefix-tokens
+array-share-prefix-tokens c = omega (arith, scans-listed _ _ _ (sym (c .before .before .before .before .read-scans .ensures .0) ∙ c .before .read .given .1) .fits)
+
+slice-aggregate-run-session : tie.Need-slice-aggregate-run-session
+slice-aggregate-run-session c =
+    let l = scans-listed _ _ _ (sym (c .before .before .before .before .before .read-scans .ensures .0) ∙ c .before .before .read .given .1) in
+    let e : length (c .before .before .before .before .before .read-scans .last .1 .0) ≡ 65536 = search needs in
+    sym (length-take-le _ (c .before .before .before .before .before .read-scans .last .1 .0) (omega (arith, l .fits, e)))
+
+run-session-requires : tie.Need-run-session-requires
+run-session-requires c κs = search needs
+
+enum-known-read-2 : tie.Need-enum-known-read-2
+enum-known-read-2 c = search needs
+
+refuse-scans-requires : tie.Need-refuse-scans-requires
+refuse-scans-requires c κs = search needs
+
+same-length : tie.Need-same-length
+same-length c = search needs
+
+same-length-2 : tie.Need-same-length-2
+same-length-2 c = search needs
+
+returns : tie.Need-returns
+returns c =
+    let k = c .before .before .before .before .before .before .before .before .before .before .before .before .before .before .before .before .before .before .before .args in
+    let r = c .before .before .before .before .before .before .before .before .before .before .before .before .read-scans .ensures in
+    let x = c .before .before .before .before .run-session .ensures in
+    scans-walked (length (k .stack .now)) (length (k .listing .now)) (k .grammar .now) (k .tables .now) (k .file .now) (r .0) _ (c .before .before .before .before .before .before .before .before .before .read .given .1) (r .1)
+    (record { reply-is = x .0; listing-is = x .1 .0; stack-is = x .1 .1 })
+
+same-length-3 : tie.Need-same-length-3
+same-length-3 c = search needs
+
+same-length-4 : tie.Need-same-length-4
+same-length-4 c = search needs
+
+returns-2 : tie.Need-returns-2
+returns-2 c =
+    let k = c .before .before .before .before .before .before .before .before .before .before .before .before .before .before .before .before .before .before .args in
+    scans-refused (length (k .stack .now)) (length (k .listing .now)) (k .grammar .now) (k .tables .now) (k .file .now) (c .before .before .before .before .before .before .before .before .before .before .before .read-scans .ensures .0) (c .before .before .before .before .before .before .before .before .before .before .before .before .before .before .before .before .before .before .pre) (c .before .before .before .before .before .before .before .before .read2 .given .1) (c .before .before .before .before .refuse-scans .ensures)
+
+pub walk-scans-spec : {M : Type 1} → statement M
+walk-scans-spec =
+    tie.close
+    (tie.spec
+    slice-aggregate-read-scans
+    read-scans-requires
+    enum-known-read
+    array-share-prefix-tokens
+    slice-aggregate-run-session
+    run-session-requires
+    enum-known-read-2
+    refuse-scans-requires
+    same-length
+    same-length-2
+    returns
+    same-length-3
+    same-length-4
+    returns-2)

@@ -1,0 +1,26 @@
+-- A session over a scan file: "lengths of all three files, grammar, tables, scan lines, tokens, walk".
+use Prim.Native.Nat.{ℕ}
+use mathlib.Core.Bool.{cond}
+use mathlib.Core.List.{List}
+use lib.Dec.{ltb}
+use lib.ListN.{length}
+use Rattle.reply.specs.declared.Kind.the-variants.{LimitExceeded}
+use Rattle.reply.specs.declared.Refusal.{Refusal}
+use Rattle.scans.specs.File.{Scanned, tokens, refused, house, scanned}
+use Rattle.table.specs.Book.{Reading, whole, rejected}
+use Rattle.checker.specs.Checked.{checkedOf}
+use Rattle.session.specs.Session.{Session, refusedBy, refusedAt, session}
+
+module _ (n k : ℕ) where
+  -- a refusal of the scan file comes after those of the books
+  abbrev pub booksFirst : Reading → Refusal → Session
+  booksFirst (whole g t) why = refusedBy n k why
+  booksFirst (rejected first) why = refusedBy n k first
+
+  abbrev pub afterScans : List ℕ → List ℕ → Scanned → Session
+  afterScans gs s (tokens w) = session gs s w n k
+  afterScans gs s (refused why) = booksFirst (checkedOf gs s) why
+
+-- "book or scan file | 0 | 65,536 bytes"; of a length the place is 0
+unfoldable pub scanSession : (gs s file : List ℕ) (n k : ℕ) → Session
+scanSession gs s file n k = cond (ltb 65536 (length file)) (refusedAt n k LimitExceeded 0) (afterScans n k gs s (scanned house file))

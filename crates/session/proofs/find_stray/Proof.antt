@@ -1,0 +1,71 @@
+-- The tokens passed are terminals.
+use mathlib.Core.Path.{_≡_, refl, sym, ap, _∙_}
+use Prim.Native.Nat.{ℕ, _≤_, _-_}
+use native.Mathlib.Omega.{arith}
+use lib.ListN.{length, drop}
+use borrow.Author.Needs.{needs}
+use borrow.Author.Tests.{not-true, not-false}
+use Rattle.range.specs.Range.{within}
+use Rattle.session.specs.Session.{strayFrom}
+use Rattle.session.proofs.StrayLaws.{stray-more, stray-here, stray-none}
+use Rattle.session.proofs.find_stray.Statement.{statement}
+use Rattle.session.proofs.find_stray.Tie as tie
+
+abbrev Inv-loop : tie.InvT-loop
+Inv-loop tokens terminals i₀ i = (i ≤ length tokens) × (strayFrom terminals 0 tokens ≡ strayFrom terminals i (drop i tokens))
+
+abbrev μ-loop : tie.MeasureT-loop
+μ-loop tokens terminals i₀ i = length tokens - i
+
+loop-holds : tie.Need-loop-holds Inv-loop μ-loop
+loop-holds c = (omega arith, refl)
+
+shared-slice-read-wide : tie.Need-shared-slice-read-wide Inv-loop μ-loop
+shared-slice-read-wide c = search needs
+
+wide-requires : tie.Need-wide-requires Inv-loop μ-loop
+wide-requires c κs = search needs
+
+in-range-requires : tie.Need-in-range-requires Inv-loop μ-loop
+in-range-requires c κs = search needs
+
+returns : tie.Need-returns Inv-loop μ-loop
+returns c =
+    let o = c .before .before .before .before .before .loop in
+    let k = c .before .before .before .before .before .before .before .args in
+    sym (o .inv .1 ∙ stray-here (k .terminals) (o .i) (k .tokens .now) (c .before .before .before .before .loop-test .taken)
+    (ap (λ (x : ℕ). within 1 x (k .terminals)) (sym (c .before .before .wide .ensures .0)) ∙ (sym (c .before .in-range .ensures) ∙ not-true _ (c .if1 .taken))))
+
+add-i : tie.Need-add-i Inv-loop μ-loop
+add-i c = search needs
+
+loop-less : tie.Need-loop-less Inv-loop μ-loop
+loop-less c = search needs
+
+loop-again : tie.Need-loop-again Inv-loop μ-loop
+loop-again c =
+    let o = c .before .before .before .before .before .loop in
+    let k = c .before .before .before .before .before .before .before .args in (
+      omega arith,
+      o .inv .1 ∙ stray-more (k .terminals) (o .i) (k .tokens .now) (c .before .before .before .before .loop-test .taken)
+          (ap (λ (x : ℕ). within 1 x (k .terminals)) (sym (c .before .before .wide .ensures .0)) ∙ (sym (c .before .in-range .ensures) ∙ not-false _ (c .if1 .left))),
+    )
+
+returns-2 : tie.Need-returns-2 Inv-loop μ-loop
+returns-2 c = let o = c .before .loop in sym (o .inv .1 ∙ stray-none (c .before .before .before .args .terminals) (o .i) (c .before .before .before .args .tokens .now) (omega (arith, c .loop-test .left)))
+
+pub find-stray-spec : {M : Type 1} → statement M
+find-stray-spec =
+    tie.close
+    (tie.spec
+    Inv-loop
+    μ-loop
+    loop-holds
+    shared-slice-read-wide
+    wide-requires
+    in-range-requires
+    returns
+    add-i
+    loop-less
+    loop-again
+    returns-2)

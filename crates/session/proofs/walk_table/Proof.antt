@@ -1,0 +1,96 @@
+-- A stray token refuses; otherwise the walk over linked rows is that of the table's automaton.
+use mathlib.Core.Path.{refl, sym, ap, _∙_}
+use Prim.Native.Nat.{ℕ}
+use lib.ListN.{length}
+use borrow.Author.Needs.{needs}
+use Rattle.session.specs.Session.{strayFrom}
+use Rattle.session.proofs.TableLaws.{told, stray-session, table-session}
+use Rattle.session.proofs.walk_table.Statement.{statement}
+use Rattle.session.proofs.walk_table.Tie as tie
+
+find-stray-requires : tie.Need-find-stray-requires
+find-stray-requires c κs = search needs
+
+enum-known-stray : tie.Need-enum-known-stray
+enum-known-stray c = search needs
+
+refuse-requires : tie.Need-refuse-requires
+refuse-requires c κs = search needs
+
+same-length : tie.Need-same-length
+same-length c = search needs
+
+same-length-2 : tie.Need-same-length-2
+same-length-2 c = search needs
+
+returns : tie.Need-returns
+returns c = λ g t S H A et eg M.
+    let k = c .before .before .before .before .before .before .before .before .before .before .before .before .before .before .before .before .before .before .before .args in
+    stray-session g t (length (k .stack .now)) (length (k .listing .now)) _ (k .tokens .now)
+    (ap (λ (x : ℕ). strayFrom x 0 (k .tokens .now)) et ∙ (sym (c .before .before .before .before .before .before .before .before .before .before .find-stray .ensures) ∙ c .before .before .before .before .before .before .before .before .stray .given .1)) (c .before .before .before .before .refuse .ensures)
+
+enum-told : tie.Need-enum-told
+enum-told c = search needs
+
+slice-aggregate-entries-meet : tie.Need-slice-aggregate-entries-meet
+slice-aggregate-entries-meet c = search needs
+
+entries-meet-requires : tie.Need-entries-meet-requires
+entries-meet-requires c κs = search needs
+
+slice-aggregate-link-rules : tie.Need-slice-aggregate-link-rules
+slice-aggregate-link-rules c = search needs
+
+slice-aggregate-link-rules-2 : tie.Need-slice-aggregate-link-rules-2
+slice-aggregate-link-rules-2 c = search needs
+
+link-rules-requires : tie.Need-link-rules-requires
+link-rules-requires c κs = search needs
+
+shared-slice-read-start : tie.Need-shared-slice-read-start
+shared-slice-read-start c = search needs
+
+slice-aggregate-walk-tokens : tie.Need-slice-aggregate-walk-tokens
+slice-aggregate-walk-tokens c = search needs
+
+walk-tokens-requires : tie.Need-walk-tokens-requires
+walk-tokens-requires c κs = search needs
+
+same-length-3 : tie.Need-same-length-3
+same-length-3 c = search needs
+
+same-length-4 : tie.Need-same-length-4
+same-length-4 c = search needs
+
+returns-2 : tie.Need-returns-2
+returns-2 c = λ g t S H A et eg M.
+    let k = c .before .before .before .before .before .before .before .before .before .before .before .before .before .before .before .before .before .before .before .before .before .before .before .before .before .before .before .args in
+    let none = ap (λ (x : ℕ). strayFrom x 0 (k .tokens .now)) et ∙ (sym (c .before .before .before .before .before .before .before .before .before .before .before .before .before .before .before .before .before .before .find-stray .ensures) ∙ c .before .before .before .before .before .before .before .before .before .before .before .before .before .before .before .before .enum-told .given .1) in
+    let met = c .before .before .before .before .before .before .before .before .before .before .before .before .before .before .entries-meet .ensures .1 g t S eg in
+    let uses = met .1 (told (met .0) (M .entries)) in
+    let walked = c .before .before .before .before .walk-tokens .ensures in
+    table-session g t S H A M (c .before .before .before .before .before .before .before .before .before .before .link-rules .ensures .1 g t _ S H uses (M .entries)) refl (length (k .stack .now)) (length (k .listing .now)) (k .tokens .now) none
+    (walked .0) (walked .1 .0) (walked .1 .1)
+
+pub walk-table-spec : {M : Type 1} → statement M
+walk-table-spec =
+    tie.close
+    (tie.spec
+    find-stray-requires
+    enum-known-stray
+    refuse-requires
+    same-length
+    same-length-2
+    returns
+    enum-told
+    slice-aggregate-entries-meet
+    entries-meet-requires
+    slice-aggregate-link-rules
+    slice-aggregate-link-rules-2
+    link-rules-requires
+    shared-slice-read-start
+    slice-aggregate-walk-tokens
+    walk-tokens-requires
+    same-length-3
+    same-length-4
+    returns-2)

@@ -1,0 +1,72 @@
+-- A session over books that are accepted, with declared tokens, is the walk.
+use Prim.Native.Nat.{ℕ, suc, _-_, _≤_}
+use native.Mathlib.Omega.{arith}
+use mathlib.Core.Path.{_≡_, refl, ap, _∙_}
+use mathlib.Core.Bool.{Bool, cond}
+use mathlib.Core.List.{List, [], _∷_}
+use lib.ListN.{length, replicate}
+use borrow.Author.Tests.{le-ltb}
+use Rattle.language.specs.Grammar.{Grammar, IsTerminal}
+use Rattle.language.specs.Sentence.{In, here, there}
+use Rattle.leftcorner.specs.Claim.{comesBack}
+use Rattle.leftcorner.specs.Machine.{Ending, accepted, failed, walk, whole-at, wrong-at, short-at}
+use Rattle.leftcorner.specs.Table.{Table, automaton}
+use Rattle.fixpoint.specs.declared.Found.{Found}
+use Rattle.range.proofs.RangeLaws.{true-within}
+use Rattle.reply.specs.Reply.{numberOf, placeOf}
+use Rattle.reply.specs.declared.Kind.the-variants.{LimitExceeded, Undeclared, BufferTooSmall, SyntaxError}
+use Rattle.grammar.specs.Book.{onFound}
+use Rattle.table.specs.Book.{Reading, whole}
+use Rattle.checker.specs.Checked.{checkedOf}
+use Rattle.walker.specs.declared.Walked.the-variants.{Refused}
+use Rattle.walker.specs.Walked.{asReply, padded}
+use Rattle.session.specs.Session.{Session, strayFrom, refusedAt, endedBy, tableSession, afterBooks, session}
+
+-- a token "1 to t" is no stray
+no-stray : (t at : ℕ) (w : List ℕ) → ((a : ℕ) → In a w → (1 ≤ a) × (a ≤ t)) → strayFrom t at w ≡ Found.Nothing
+unfolding strayFrom
+no-stray t at [] h = refl
+no-stray t at (a ∷ w) h =
+    let l = h a here in
+    ap (λ (b : Bool). cond b (strayFrom t (suc at) w) (Found.At at)) (true-within 1 a t (l .0) (l .1)) ∙ no-stray t (suc at) w (λ b m. h b (there m))
+
+module _ (gs s : List ℕ) {g : Grammar} {t : Table} (books : checkedOf gs s ≡ whole g t) (w : List ℕ) (few : length w ≤ 65535)
+    (tokens : (a : ℕ) → In a w → IsTerminal g a) where
+  pub session-walks : (n k : ℕ) → session gs s w n k ≡ endedBy n k g (walk g (automaton g t) n k w)
+  unfolding session tableSession
+  session-walks n k =
+      ap (λ (b : Bool). cond b (refusedAt n k LimitExceeded 0) (afterBooks n k (checkedOf gs s) w)) (le-ltb 65535 (length w) few)
+      ∙ ap (λ (x : Reading). afterBooks n k x w) books
+      ∙ ap (λ (f : Found). onFound f (refusedAt n k Undeclared) (endedBy n k g (walk g (automaton g t) n k w))) (no-stray (g .terminals) 0 w tokens)
+
+-- only zeros tell of a walk that is wrong or short
+zeros : (k : ℕ) → padded k [] ≡ replicate k 0
+unfolding padded
+zeros k = let e : k - 0 ≡ k = omega arith in ap (λ (m : ℕ). replicate m 0) e
+
+pub ended-wrong : (n k p : ℕ) (g : Grammar) → endedBy n k g (wrong-at p) ≡ refusedAt n k SyntaxError p
+ended-wrong n k p g = ap (λ (l : List ℕ). record { reply = Refused (record { kind = SyntaxError; place = p }); listing = l; stack = replicate n 0 }) (zeros k)
+
+pub ended-short : (n k p : ℕ) (g : Grammar) → endedBy n k g (short-at p) ≡ refusedAt n k BufferTooSmall p
+ended-short n k p g = ap (λ (l : List ℕ). record { reply = Refused (record { kind = BufferTooSmall; place = p }); listing = l; stack = replicate n 0 }) (zeros k)
+
+-- a session that ended as a walk with enough lent comes back
+module _ (n k : ℕ) (g : Grammar) (count : ℕ) (l : List ℕ) (x : Session) (o : Ending) (ended : x ≡ endedBy n k g (comesBack o count l)) where
+  by-ending : (e : Ending) → o ≡ e → x ≡ endedBy n k g (comesBack e count l)
+  by-ending e q = ended ∙ ap (λ (y : Ending). endedBy n k g (comesBack y count l)) q
+
+  pub whole-is : o ≡ accepted → x ≡ endedBy n k g (whole-at count l)
+  whole-is q = by-ending accepted q
+
+  pub wrong-is : (p : ℕ) → o ≡ failed p → x ≡ refusedAt n k SyntaxError p
+  wrong-is p q = by-ending (failed p) q ∙ ended-wrong n k p g
+
+  pub whole-number : o ≡ accepted → numberOf (asReply (x .reply)) ≡ 0
+  whole-number q = ap (λ (y : Session). numberOf (asReply (y .reply))) (whole-is q)
+
+module _ (n k p : ℕ) {x : Session} (wrong : x ≡ refusedAt n k SyntaxError p) where
+  pub wrong-number : numberOf (asReply (x .reply)) ≡ 12
+  wrong-number = ap (λ (y : Session). numberOf (asReply (y .reply))) wrong
+
+  pub wrong-place : placeOf (asReply (x .reply)) ≡ p
+  wrong-place = ap (λ (y : Session). placeOf (asReply (y .reply))) wrong
