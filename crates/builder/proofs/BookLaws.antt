@@ -7,13 +7,11 @@ use mathlib.Core.Option.{some}
 use lib.ListN.{length, replicate}
 use borrow.Author.Tests.{lt-ltb, le-ltb}
 use Rattle.language.specs.Grammar.{Grammar, at}
-use Rattle.leftcorner.specs.Claim.{_↔_}
 use Rattle.leftcorner.specs.Table.{KernelLine}
 use Rattle.leftcorner.specs.Construction.{WellFormed}
 use Rattle.analysis.specs.ByRules.{FirstByRules}
 use Rattle.analysis.specs.Decided.{first?}
 use Rattle.memory.specs.Memory.{HoldsKernels}
-use Rattle.closure.specs.FirstBy.{FirstBy}
 use Rattle.reply.specs.declared.Kind.the-variants.{LimitExceeded, Conflict, BufferTooSmall}
 use Rattle.reply.specs.declared.Refusal.{Refusal}
 use Rattle.reply.specs.declared.Reply.{Reply}
@@ -23,20 +21,19 @@ use Rattle.lalr.specs.Strings.{entryStrings, entryLines}
 use Rattle.lalr.specs.EntryLaws.{lines-length}
 use Rattle.lalr.specs.States.{states}
 use Rattle.lalr.specs.Discovery.{Fits}
-use Rattle.lalr.specs.LineLaws.{same-entries}
 use Rattle.lalr.specs.BuiltForm.{built-entries, states-both}
 use Rattle.lalr.specs.ItemForm.{items-lines, kernels-both}
 use Rattle.lalr.specs.Text.{tableText}
 use Rattle.lalr.specs.Book.{textReply, textSlice}
 use Rattle.lalr.specs.BookLaws.{Within}
-use Rattle.lalr.specs.Builder.{terminalCodes, first-in, codes-low, builder-form, builderReply, builderSlice, replies-many, replies-conflict, replies-text, slice-text}
+use Rattle.lalr.specs.Builder.{terminalCodes, first-in, codes-low, builder-form, builderReply, replies-many, replies-conflict, replies-text, slice-text}
 use Rattle.table_writer.specs.Sink.{inRoom, fits-room}
 use Rattle.table_writer.specs.MemoryTable.{memoryTable, memoryText, Sized}
 use Rattle.table_writer.specs.InMemory.{memory-table}
 use Rattle.table_writer.specs.BuiltOrder.{built-ordered}
-use Rattle.table_cells.specs.Cells.{itemsOf, tableOf, HoldsLines, Filled}
+use Rattle.table_cells.specs.Cells.{itemsOf, tableOf, Filled}
 use Rattle.builder.specs.Stages.{Stated, Numbered, Settled, Answers, Rooms}
-use Rattle.builder.proofs.StateLaws.{few-strings, few-terminals, few-states, few-flags, limits-of, within-of, lines-of, entries-hold}
+use Rattle.builder.proofs.StateLaws.{few-strings, few-terminals, few-flags, limits-of, within-of, entries-hold}
 
 -- ---- a text of which the length was counted up to 65,537
 module _ (text : List ℕ) (room : ℕ) {n : ℕ} (count : n ≡ min (length text) 65537) where
@@ -92,13 +89,13 @@ module _ {g : Grammar} {items kernels kinds values gotos : List ℕ} {terminals 
   sized-of N R e = record {
     shaped = T .entered .shaped;
     entries-room = let z = few-strings (T .entered) in omega (arith, z, N .room);
-    kernels-room = lines-of T (R .kernels-room) .room;
+    kernels-room = T .safe .some-lines .room;
     lookaheads-room = few-flags T e;
     kinds-room = omega (arith, R .kinds-room);
     values-room = omega (arith, R .values-room);
     gotos-room = omega (arith, R .gotos-room);
     few-strings = few-strings (T .entered);
-    few-states = few-states T;
+    few-states = T .safe .few-states;
     few-codes = let z = few-terminals (T .entered) in omega (arith, z);
   }
 

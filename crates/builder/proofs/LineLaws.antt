@@ -1,34 +1,32 @@
 -- The kernel lines in memory, with their lookaheads, are those of the builder's table.
-use Prim.Native.Nat.{ℕ, suc, _+_, _*_, _≤_, _<_}
+use Prim.Native.Nat.{ℕ, suc, _+_, _<_}
 use native.Mathlib.Omega.{arith}
-use mathlib.Core.Path.{_≡_, refl, sym, ap, subst, _∙_}
+use mathlib.Core.Path.{_≡_, refl, sym, subst}
 use mathlib.Core.List.{List}
 use mathlib.Core.Option.{some}
-use lib.ListN.{length}
 use Rattle.language.specs.Grammar.{Grammar, at}
 use Rattle.language.specs.Sentence.{In}
 use Rattle.language.specs.GrammarLaws.{at-range}
 use Rattle.leftcorner.specs.Claim.{_↔_}
-use Rattle.leftcorner.specs.Table.{KernelLine, K}
+use Rattle.leftcorner.specs.Table.{K}
 use Rattle.analysis.specs.ByRules.{FirstByRules}
 use Rattle.analysis.specs.Decided.{first?}
 use Rattle.analysis.specs.InMemory.{SetsOf}
-use Rattle.fixpoint.specs.Flags.{On}
 use Rattle.memory.specs.Memory.{HoldsKernels, stateAt, itemAt, dotAt}
 use Rattle.closure.specs.FirstBy.{FirstBy}
 use Rattle.lalr.specs.Strings.{entryStrings, entryLines}
-use Rattle.lalr.specs.States.{states}
 use Rattle.lalr.specs.Lookaheads.{Lookahead, look-over}
-use Rattle.lalr.specs.LineLaws.{same-entries, code-only, code-every}
+use Rattle.lalr.specs.Distinct.{at-in}
+use Rattle.lalr.specs.LineLaws.{same-entries, code-only, code-every, line-of}
 use Rattle.lalr.specs.Carried.{look-low}
-use Rattle.lalr.specs.ItemForm.{items-kernels, items-lines}
+use Rattle.lalr.specs.ItemForm.{items-lines}
 use Rattle.lalr.specs.Builder.{terminalCodes, first-in, codes-low}
+use Rattle.state_kernels.specs.ItemLines.{item-line}
 use Rattle.judge.proofs.FirstLaws.{first-flags}
 use Rattle.least_lookaheads.specs.StatesHeld.{HoldsLookaheads}
 use Rattle.table_cells.specs.Cells.{itemsOf, HoldsMoves, HoldsLines, Filled}
 use Rattle.builder.specs.Stages.{Stated, Numbered, Settled}
-use Rattle.builder.proofs.PlaceLaws.{LineAt, line-at}
-use Rattle.builder.proofs.StateLaws.{limits-of, numberAt, state-at, item-at, dot-at, entries-hold}
+use Rattle.builder.proofs.StateLaws.{limits-of, entries-hold}
 use Rattle.builder.proofs.MoveLaws.{moves-hold}
 
 at-same : {g : Grammar} {F : List ℕ → ℕ → ℕ → Type 0} {q i k p j n d : ℕ} → p ≡ q → j ≡ i → n ≡ k → Lookahead g F q i k d → Lookahead g F p j n d
@@ -39,46 +37,41 @@ module _ {g : Grammar} {items kernels kinds values gotos : List ℕ} {terminals 
     (S : Stated g items kernels kinds values gotos terminals goal rules strings all lines) {codes : ℕ} {nul fst lookaheads : List ℕ}
     (same : (β : List ℕ) (d c : ℕ) → FirstBy codes nul fst β d c ↔ FirstByRules g β d c)
     (H : HoldsLookaheads (Lookahead g (FirstBy codes nul fst)) kernels lookaheads lines) where
-  abbrev Line : ℕ → ℕ → ℕ → ℕ → List ℕ → Type 0
-  Line l q i k σ = LineAt g (FirstByRules g) (first? g) (terminalCodes g) (first-in g) (states g) 1 l q i k σ
-
-  line : (l q i k : ℕ) (σ : List ℕ) → at (itemsOf g .kernels) l ≡ some (K q i k σ) → Line l q i k σ
-  line l q i k σ e =
-      line-at g (FirstByRules g) (first? g) (terminalCodes g) (first-in g) 1 (states g) l q i k σ
-      (ap (λ (ks : List KernelLine). at ks l) (sym (items-kernels g (FirstByRules g) (first? g) (terminalCodes g) (first-in g))) ∙ e)
-
   low : (l q i k : ℕ) (σ : List ℕ) → at (itemsOf g .kernels) l ≡ some (K q i k σ) → l < lines
   low l q i k σ e =
       let z = items-lines g (FirstByRules g) (first? g) (terminalCodes g) (first-in g) in
       let y = S .found .line-count in
       let x = at-range (itemsOf g .kernels) l e in omega (arith, x, y, z)
 
+  -- what memory has of line l
+  line : (l q i k : ℕ) (σ : List ℕ) → at (itemsOf g .kernels) l ≡ some (K q i k σ) → (stateAt kernels l ≡ q) × (itemAt kernels l ≡ i) × (dotAt kernels l ≡ k)
+  line l q i k σ e = item-line g (FirstByRules g) (first? g) (terminalCodes g) (first-in g) (S .found .holds-sets) l q i k σ e
+
+  -- its codes are its lookaheads
+  code : (l q i k : ℕ) (σ : List ℕ) → at (itemsOf g .kernels) l ≡ some (K q i k σ) → (d : ℕ) → In d σ → Lookahead g (FirstByRules g) q i k d
+  code l q i k σ e d m =
+      let w = line-of g (FirstByRules g) (first? g) (terminalCodes g) (first-in g) q i k σ (at-in (itemsOf g .kernels) l (K q i k σ) e) in
+      at-same refl (w .item) (w .dot) (code-only g (FirstByRules g) (first? g) (terminalCodes g) (first-in g) q (w .number) d (subst (In d) (w .codes-are) m) .0)
+
+  listed : (l q i k : ℕ) (σ : List ℕ) → at (itemsOf g .kernels) l ≡ some (K q i k σ) → (d : ℕ) → Lookahead g (FirstByRules g) q i k d → In d σ
+  listed l q i k σ e d h =
+      let w = line-of g (FirstByRules g) (first? g) (terminalCodes g) (first-in g) q i k σ (at-in (itemsOf g .kernels) l (K q i k σ) e) in
+      subst (In d) (sym (w .codes-are))
+      (code-every g (FirstByRules g) (first? g) (terminalCodes g) (first-in g) q (w .number) d
+      (look-low g (FirstByRules g) (first? g) (terminalCodes g) (first-in g) (limits-of S) (codes-low g) h) (at-same refl (sym (w .item)) (sym (w .dot)) h))
+
   pub holds-lines : HoldsKernels kernels lookaheads (itemsOf g)
   holds-lines = record {
-    line-state = λ l q i k e. state-of l q i k _ (line l q i k _ e);
-    line-item = λ l q i k e. let w = line l q i k _ e in item-at S (w .place) ∙ sym (w .item-is);
-    line-dot = λ l q i k e. let w = line l q i k _ e in dot-at S (w .place) ∙ sym (w .dot-is);
-    code-on = λ l q i k d e m. flagged l q i k d _ (low l q i k _ e) (line l q i k _ e) m;
-    on-code = λ l q i k d e n on. listed l q i k d _ (low l q i k _ e) (line l q i k _ e) n on;
+    line-state = λ l q i k e. line l q i k _ e .0;
+    line-item = λ l q i k e. line l q i k _ e .1;
+    line-dot = λ l q i k e. line l q i k _ e .2;
+    code-on = λ l q i k d e m.
+        let w = line l q i k _ e in
+        H .every l d (low l q i k _ e) (at-same (w .0) (w .1) (w .2) (look-over g (FirstByRules g) (FirstBy codes nul fst) (λ β x y. same β x y .from) (code l q i k _ e d m)));
+    on-code = λ l q i k d e n on.
+        let w = line l q i k _ e in
+        listed l q i k _ e d (at-same (sym (w .0)) (sym (w .1)) (sym (w .2)) (look-over g (FirstBy codes nul fst) (FirstByRules g) (λ β x y. same β x y .to) (H .only l d (low l q i k _ e) n on)));
   }
-    where
-      state-of : (l q i k : ℕ) (σ : List ℕ) → Line l q i k σ → stateAt kernels l ≡ q
-      state-of l q i k σ w = let a = state-at S (w .place) in let b = w .state-is in omega (arith, a, b)
-
-      flagged : (l q i k d : ℕ) (σ : List ℕ) → l < lines → Line l q i k σ → In d σ → On lookaheads (l * 64 + d)
-      flagged l q i k d σ h w m =
-          let x = numberAt S (w .place) in
-          let c = code-only g (FirstByRules g) (first? g) (terminalCodes g) (first-in g) q x d (subst (In d) (w .codes-are) m) .0 in
-          H .every l d h (at-same (state-of l q i k σ w) (item-at S (w .place)) (dot-at S (w .place)) (look-over g (FirstByRules g) (FirstBy codes nul fst) (λ β e f. same β e f .from) c))
-
-      listed : (l q i k d : ℕ) (σ : List ℕ) → l < lines → Line l q i k σ → d < 64 → On lookaheads (l * 64 + d) → In d σ
-      listed l q i k d σ h w n on =
-          let x = numberAt S (w .place) in
-          let c = at-same (sym (state-of l q i k σ w)) (sym (item-at S (w .place))) (sym (dot-at S (w .place)))
-              (look-over g (FirstBy codes nul fst) (FirstByRules g) (λ β e f. same β e f .to) (H .only l d h n on)) in
-          subst (In d) (sym (w .codes-are))
-          (code-every g (FirstByRules g) (first? g) (terminalCodes g) (first-in g) q x d
-          (look-low g (FirstByRules g) (first? g) (terminalCodes g) (first-in g) (limits-of S) (codes-low g) c) c)
 
   pub lines-held : {entries : List ℕ} → codes ≡ terminals + 1 → Numbered entries strings → HoldsLines g items entries kernels lookaheads nul fst rules strings lines all codes
   lines-held c N = record {

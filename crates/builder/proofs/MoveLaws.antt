@@ -11,15 +11,14 @@ use Rattle.leftcorner.specs.Table.{S}
 use Rattle.leftcorner.specs.Construction.{to-move}
 use Rattle.analysis.specs.ByRules.{FirstByRules}
 use Rattle.analysis.specs.Decided.{first?}
-use Rattle.lalr.specs.States.{Kernel, itemOf, dotOf, move, states, kernelOf, goto}
+use Rattle.lalr.specs.States.{Kernel, move, states, kernelOf, goto}
 use Rattle.lalr.specs.MoveLaws.{move-only, move-nothing, in-move}
 use Rattle.lalr.specs.StateLaws.{goes-to}
 use Rattle.lalr.specs.LineLaws.{moved-alone, alone-moved}
 use Rattle.lalr.specs.BuiltForm.{asked-place, asked-moved}
 use Rattle.lalr.specs.Builder.{terminalCodes, first-in, codes-low}
-use Rattle.state_kernels.specs.Cells.{shiftKind}
-use Rattle.state_kernels.specs.Discovered.{nextState, HoldsNext}
-use Rattle.state_kernels.proofs.FoundLaws.{next-none, next-some}
+use Rattle.kernel_sets.specs.Cells.{shiftKind}
+use Rattle.state_kernels.specs.Discovered.{nextState, next-none, next-some, HoldsNext}
 use Rattle.table_cells.specs.Cells.{AskedOf, HoldsMoves}
 use Rattle.builder.specs.Stages.{Stated}
 use Rattle.builder.proofs.StateLaws.{kind-one, limits-of}
@@ -33,11 +32,11 @@ module _ {g : Grammar} {items kernels kinds values gotos : List ℕ} {terminals 
       let p = asked-place g (FirstByRules g) (first? g) (terminalCodes g) (first-in g) (limits-of T) (codes-low g) a in
       let n = moved-alone g (FirstByRules g) (first? g) (terminalCodes g) (first-in g) (m .2) in
       let i = in-move g (T .entered .formed) (T .entered .few-entries) (kernelOf g q) n in
-      (sym (next-some g q X (λ e. elim (subst (In (m .0 * 16 + m .1)) e i) [ ])), goes-to g (limits-of T) q X (m .0) (m .1) (p .0) (p .1) n .low)
+      (next-some g q X (λ e. elim (subst (In (m .0 * 16 + m .1)) e i) [ ]), goes-to g (limits-of T) q X (m .0) (m .1) (p .0) (p .1) n .low)
 
   -- nothing moves
   stays : {q X : ℕ} → (AskedOf g q X (S 0) → ⊥) → nextState g q X ≡ 0
-  stays {q} {X} f = sym (next-none g q X (empty q f))
+  stays {q} {X} f = next-none g q X (empty q f)
     where
       none-in : (p : ℕ) → (AskedOf g (suc p) X (S 0) → ⊥) → p < length (states g) → (m : Kernel) → move g (kernelOf g (suc p)) X ≡ m → m ≡ []
       none-in p h l [] e = refl

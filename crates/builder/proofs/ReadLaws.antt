@@ -1,5 +1,5 @@
 -- The grammar that was read, and its entries.
-use Prim.Native.Nat.{ℕ, _+_, _≤_, _<_, min}
+use Prim.Native.Nat.{ℕ, _+_, _≤_, _<_}
 use native.Mathlib.Omega.{arith}
 use mathlib.Core.Path.{_≡_, refl, sym, ap, subst, _∙_}
 use mathlib.Core.Bool.{Bool, cond}
@@ -23,7 +23,7 @@ use Rattle.lalr.specs.Strings.{entryStrings}
 use Rattle.lalr.specs.BookLaws.{Within}
 use Rattle.entry_strings.specs.Memory.{Blank, Listed}
 use Rattle.entry_strings.proofs.HoldsLaws.{entries-shaped, entries-held}
-use Rattle.builder.specs.Build.{Build, buildFrom, buildOf}
+use Rattle.builder.specs.Build.{buildFrom, buildOf}
 use Rattle.builder.specs.Stages.{Entered, Answers}
 
 -- ---- what was read

@@ -3,22 +3,20 @@ use Prim.Native.Nat.{ℕ, zero, suc, _+_, _*_, _-_, _≤_, _<_}
 use native.Mathlib.Decide.{ℕ-discrete, decLe}
 use native.Mathlib.Omega.{arith}
 use mathlib.Core.Path.{_≡_, refl, sym, ap, subst, _∙_}
-use mathlib.Core.Logic.{_⊎_, inl, inr}
 use mathlib.Core.Bool.{Bool, true, false}
-use mathlib.Core.List.{List, [], _∷_}
+use mathlib.Core.List.{List, []}
 use mathlib.Core.Option.{some}
 use lib.ListN.{length, getD, set}
 use lib.Seq.{getD-set-same, getD-set-other}
-use Rattle.language.specs.Grammar.{Grammar, Rule, ruleAt}
+use Rattle.language.specs.Grammar.{Grammar}
 use Rattle.language.specs.Sentence.{In}
-use Rattle.language.specs.GrammarLaws.{rule-range, in-string, in-index}
+use Rattle.language.specs.GrammarLaws.{in-string, in-index}
 use Rattle.leftcorner.specs.Table.{Table}
-use Rattle.leftcorner.specs.Construction.{entryItem, EntryAt, EntriesMeet}
+use Rattle.leftcorner.specs.Construction.{EntriesMeet}
 use Rattle.items.specs.Layout.{Holds}
 use Rattle.fixpoint.specs.Flags.{Decides}
 use Rattle.memory.specs.Memory.{HoldsEntries, stateAt, itemAt, dotAt}
 use Rattle.closure.specs.InMemory.{LineIs}
-use Rattle.kernel_lines.specs.Lines.{Lines}
 use Rattle.moves.specs.Moves.{nextAt}
 use Rattle.moves.proofs.MoveLaws.{next-goto, next-shift}
 use Rattle.entry_list.specs.Uses.{HoldsStrings, HoldsUses}
@@ -29,11 +27,9 @@ use Rattle.lalr.specs.Lists.{range-in}
 use Rattle.lalr.specs.Limits.{Limits}
 use Rattle.lalr.specs.MoveLaws.{move-only, moved-symbol}
 use Rattle.lalr.specs.StateLaws.{goes-to}
-use Rattle.lalr.specs.BuiltForm.{kernel-known}
 use Rattle.lalr.specs.BookLaws.{Within}
-use Rattle.state_kernels.specs.Cells.{shiftKind}
-use Rattle.state_kernels.specs.Discovered.{firstLine, nextState, HoldsStates}
-use Rattle.state_kernels.proofs.FoundLaws.{next-some}
+use Rattle.kernel_sets.specs.Cells.{shiftKind}
+use Rattle.state_kernels.specs.Discovered.{firstLine, nextState, next-some, HoldsStates, SafeStates}
 use Rattle.least_lookaheads.specs.StatesHeld.{entryTable, LineOf, StatesHeld}
 use Rattle.least_lookaheads.proofs.TableLaws.{entries-fit}
 use Rattle.kernel_moves.specs.Held.{HoldsGrammar, holds-grammar}
@@ -71,9 +67,9 @@ module _ {g : Grammar} {items : List ℕ} {terminals goal rules strings : ℕ} (
   pub grammar-of : HoldsGrammar items rules strings g
   grammar-of = holds-grammar (entryTable g) (E .formed) refl (E .holds-items (entryTable g) refl) (E .rule-count) (E .entry-count)
 
-  pub stated-of : {kernels starts kinds values gotos : List ℕ} {all lines : ℕ} → HoldsStates g kernels starts kinds values gotos all lines
+  pub stated-of : {kernels starts kinds values gotos : List ℕ} {all lines : ℕ} → SafeStates kernels starts (rules + strings) all lines → HoldsStates g kernels starts kinds values gotos all lines
       → Stated g items kernels kinds values gotos terminals goal rules strings all lines
-  stated-of {starts = starts} h = record { entered = E; starts = starts; found = h }
+  stated-of {starts = starts} s h = record { entered = E; starts = starts; safe = s; found = h }
 
 module _ {g : Grammar} {items kernels kinds values gotos : List ℕ} {terminals goal rules strings all lines : ℕ}
     (S : Stated g items kernels kinds values gotos terminals goal rules strings all lines) where
@@ -83,14 +79,8 @@ module _ {g : Grammar} {items kernels kinds values gotos : List ℕ} {terminals 
   pub within-of : Within g
   within-of = record { few-entries = S .entered .few-entries; few-states = S .found .fits .states; few-lines = S .found .fits .lines }
 
-  pub few-states : all ≤ 255
-  few-states = let z = S .found .state-count in let y = S .found .fits .states in omega (arith, z, y)
-
-  few-lines : lines ≤ 1023
-  few-lines = let z = S .found .line-count in let y = S .found .fits .lines in omega (arith, z, y)
-
   pub few-flags : {n : ℕ} → n ≡ 65536 → lines * 64 ≤ n
-  few-flags e = omega (arith, e, few-lines)
+  few-flags e = let z = S .safe .some-lines .few in omega (arith, e, z)
 
   -- ---- kernel lines
 
@@ -111,28 +101,6 @@ module _ {g : Grammar} {items kernels kinds values gotos : List ℕ} {terminals 
 
   stands : {l : ℕ} (p : Place (states g) l) → In (numberAt p) (kernelOf g (suc (p .state)))
   stands p = in-string (getD (states g) (p .state) []) (p .index) (p .index-low)
-
-  item-low : (l : ℕ) → l < lines → itemAt kernels l ≤ rules + strings
-  item-low l h =
-      let p = place l h in
-      let z = item-at p in
-      let w = go (itemOf (numberAt p)) (kernel-known g limits-of (entryTable g) refl (suc (p .state)) (numberAt p) (omega arith) (p .state-low) (stands p)) in
-      omega (arith, z, w)
-    where
-      go : (i : ℕ) → ((r : Rule) × (ruleAt g i ≡ some r)) ⊎ ((j : ℕ) × (s : ℕ) × (γ : List ℕ) × (i ≡ entryItem g (entryTable g) j) × EntryAt g (entryTable g) j s γ) → i ≤ rules + strings
-      go i (inl r) = let z = rule-range g i (r .1) .1 in let y = S .entered .rule-count in omega (arith, z, y)
-      go i (inr e) =
-          let z = entry-line g (entryTable g) refl (e .0) (e .4) .2 in
-          let y = S .entered .rule-count in
-          let x = S .entered .entry-count in omega (arith, e .3, z, y, x)
-
-  pub lines-of : length kernels ≡ 4096 → Lines kernels lines (rules + strings)
-  lines-of r = record {
-    room = omega (arith, r, few-lines);
-    few = few-lines;
-    item-low = item-low;
-    dot-low = λ l h. let z = dot-at (place l h) in omega (arith, z);
-  }
 
   line-of : (l : ℕ) → l < lines → LineOf g kernels l
   line-of l h =
@@ -166,7 +134,7 @@ module _ {g : Grammar} {items kernels kinds values gotos : List ℕ} {terminals 
   next-is : (q X x : ℕ) → 1 ≤ q → q ≤ length (states g) → In x (move g (kernelOf g q) X) → nextAt kinds values gotos q X ≡ goto g q X
   next-is q X x a b m = go (decLe 64 X)
     where
-      N : goto g q X ≡ nextState g q X
+      N : nextState g q X ≡ goto g q X
       N = next-some g q X (λ e. elim (subst (In x) e m) [ ])
 
       low : X < 128
@@ -178,17 +146,17 @@ module _ {g : Grammar} {items kernels kinds values gotos : List ℕ} {terminals 
       go : Dec (64 ≤ X) → nextAt kinds values gotos q X ≡ goto g q X
       go (yes l) =
           let z : 64 + (X - 64) ≡ X = omega (arith, l) in
-          sym (next-goto kinds values gotos q X l) ∙ S .found .holds-next .goto-is q (X - 64) (omega (arith, low, l)) ∙ ap (nextState g q) z ∙ sym N
+          sym (next-goto kinds values gotos q X l) ∙ S .found .holds-next .goto-is q (X - 64) (omega (arith, low, l)) ∙ ap (nextState g q) z ∙ N
       go (no f) =
           let l : X < 64 = omega (arith, f) in
-          let k = S .found .holds-next .kind-is q X l ∙ ap shiftKind (sym N) ∙ kind-one (goto g q X) some in
-          sym (next-shift kinds values gotos q X l k) ∙ S .found .holds-next .value-is q X l ∙ sym N
+          let k = S .found .holds-next .kind-is q X l ∙ ap shiftKind N ∙ kind-one (goto g q X) some in
+          sym (next-shift kinds values gotos q X l k) ∙ S .found .holds-next .value-is q X l ∙ N
 
   -- ---- entries
 
   pub entries-hold : {entries : List ℕ} → Numbered entries strings → (t : Table) → t .entries ≡ entryLines 1 (entryStrings g) → HoldsEntries entries t
   entries-hold N t same = record {
-    state-is = λ k s e. let w = entry-line g t same k e in N .state-is k (let y = S .entered .entry-count in omega (arith, w .2, y)) ∙ sym (w .0)
+    state-is = λ k s e. let w = entry-line g t same k e in N .state-is k (let y = S .entered .entry-count in omega (arith, w .2, y)) ∙ sym (w .0);
   }
 
   pub strings-hold : HoldsStrings g (entryTable g) items rules strings

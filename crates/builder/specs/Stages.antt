@@ -12,7 +12,7 @@ use Rattle.memory.specs.Memory.{HoldsItems, HoldsKernels}
 use Rattle.reply.specs.declared.Reply.{Reply}
 use Rattle.lalr.specs.Strings.{entryStrings, entryLines}
 use Rattle.lalr.specs.Builder.{builderReply, builderSlice}
-use Rattle.state_kernels.specs.Discovered.{HoldsStates}
+use Rattle.state_kernels.specs.Discovered.{HoldsStates, SafeStates}
 use Rattle.table_cells.specs.Cells.{itemsOf, Filled}
 
 -- a grammar that was accepted, and its entries, up to 127
@@ -32,6 +32,7 @@ pub record Entered (g : Grammar) (items : List ℕ) (terminals goal rules string
 pub record Stated (g : Grammar) (items kernels kinds values gotos : List ℕ) (terminals goal rules strings all lines : ℕ) : Type 0 where
   pub entered : Entered g items terminals goal rules strings
   pub starts : List ℕ
+  pub safe : SafeStates kernels starts (rules + strings) all lines
   pub found : HoldsStates g kernels starts kinds values gotos all lines
 
 -- entry k's state is k

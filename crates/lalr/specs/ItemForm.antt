@@ -12,7 +12,7 @@ use Rattle.leftcorner.specs.Construction.{entryItem, EntryAt, ActionAt, WellFor
 use Rattle.lalr.specs.States.{total, states}
 use Rattle.lalr.specs.Over.{entry-over}
 use Rattle.lalr.specs.Built.{items, built}
-use Rattle.lalr.specs.LineLaws.{itemTable, allOf}
+use Rattle.lalr.specs.LineLaws.{itemTable}
 use Rattle.lalr.specs.Once.{kernels-count}
 use Rattle.lalr.specs.BuiltForm.{fullTable, entries-both}
 
@@ -21,10 +21,6 @@ module _ (g : Grammar) (F : List ℕ → ℕ → ℕ → Type 0) (F? : (β : Lis
   pub items-states : itemTable g F F? first-codes F-in .states ≡ length (states g)
   unfolding items
   items-states = refl
-
-  pub items-kernels : itemTable g F F? first-codes F-in .kernels ≡ allOf g F F? first-codes F-in 1 (states g)
-  unfolding items
-  items-kernels = refl
 
   pub items-lines : length (itemTable g F F? first-codes F-in .kernels) ≡ total (states g)
   unfolding items

@@ -1,5 +1,5 @@
 -- The builder's items in memory are those of a table that was read, as closures, moves and cells ask.
-use Prim.Native.Nat.{ℕ, zero, suc, _+_, _≤_, _<_}
+use Prim.Native.Nat.{ℕ, zero, suc, _+_, _≤_}
 use native.Mathlib.Omega.{arith}
 use mathlib.Core.Path.{_≡_, sym, ap, subst, _∙_}
 use mathlib.Core.List.{List, []}
@@ -99,16 +99,10 @@ pub in-memory-of : {g : Grammar} {t : Table} {m entries kernels lookaheads kinds
     → Held g t m entries kernels lookaheads kinds values gotos rules strings lines → codes ≡ suc (g .terminals) → InMemory m kernels lookaheads rules lines codes g t
 in-memory-of H e = in-memory (H .formed) (H .fits) (H .holds-items) (H .holds-kernels) (H .rule-count) (H .line-count) (omega (arith, e))
 
-pub within : (a b : ℕ) → a ≤ a + b
-within a b = omega arith
-
-pub few-items : {a b : ℕ} → a ≤ 127 → b ≤ 127 → a + b < 256
-few-items a b = omega (arith, a, b)
-
 module _ {m kernels links lookaheads nul fst starts through : List ℕ} {rules strings lines codes : ℕ}
     (Z : Sized m kernels links lookaheads nul fst starts through rules strings lines codes) where
   pub readable-of : {present : List ℕ} → length present ≡ 64 → Readable m kernels links present (rules + strings) rules lines
-  readable-of e = record { lined = Z .lined; few = within rules strings; room = e }
+  readable-of e = record { lined = Z .lined; few = omega arith; room = e }
 
   pub ready-of : Ready m nul fst (rules + strings) codes
   ready-of = record { shaped = Z .lined .shaped; few-codes = Z .few-codes; nul-room = Z .nul-room; fst-room = Z .fst-room }

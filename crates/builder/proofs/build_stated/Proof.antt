@@ -1,4 +1,3 @@
-use native.Mathlib.Omega.{arith}
 use mathlib.Core.Path.{refl}
 use Rattle.builder.proofs.StateLaws.{few-strings, few-terminals}
 use Rattle.builder.proofs.BookLaws.{sized-of, answers-conflict, answers-book}

@@ -2,7 +2,7 @@ use native.Mathlib.Omega.{arith}
 use mathlib.Core.Path.{refl, sym, _∙_}
 use Rattle.judge.proofs.StateLaws.{within}
 use Rattle.judge.proofs.PassLaws.{few-codes-of, shaped-less}
-use Rattle.builder.proofs.StateLaws.{few-rules, few-strings, some-strings, few-terminals, few-states, few-flags, lines-of, rules-hold, strings-hold, uses-hold, states-held}
+use Rattle.builder.proofs.StateLaws.{few-rules, few-strings, some-strings, few-terminals, few-flags, rules-hold, strings-hold, uses-hold, states-held}
 use Rattle.builder.proofs.LineLaws.{settled-of}
 use borrow.Author.Needs.{needs}
 use Rattle.builder.proofs.settle_cells.Statement.{statement}
@@ -52,7 +52,7 @@ slice-aggregate-link-lines c = search needs
 
 link-lines-requires : tie.Need-link-lines-requires
 link-lines-requires c κs = let s = c .before .before .before .before .before .before .before .before .before .before .before .before .before .before .before .before .before .before .before .before .before .before .before in let S = s .pre .0 .is in let E = S .entered in let R = s .pre .1 .0 in let N = s .pre .1 .1 .0 in
-    (lines-of S (R .kernels-room), refl)
+    (S .safe .some-lines, refl)
 
 slice-aggregate-find-lookaheads : tie.Need-slice-aggregate-find-lookaheads
 slice-aggregate-find-lookaheads c = search needs
@@ -73,10 +73,13 @@ slice-aggregate-find-lookaheads-6 : tie.Need-slice-aggregate-find-lookaheads-6
 slice-aggregate-find-lookaheads-6 c = search needs
 
 find-lookaheads-requires : tie.Need-find-lookaheads-requires
-find-lookaheads-requires c κs = let s = c .before .before .before .before .before .before .before .before .before .before .before .before .before .before .before .before .before .before .before .before .before .before .before .before .before .before .before .before .before .before .before .before .before .before in let S = s .pre .0 .is in let E = S .entered in let R = s .pre .1 .0 in let N = s .pre .1 .1 .0 in let m = c .before .before .before .before .before .before .before .before .before .before .before .before .before .before .prepare-rules in
-    (record { lined = record { shaped = E .shaped; some-lines = lines-of S (R .kernels-room); linked = c .before .before .before .before .before .before .before .before .before .before .link-lines .ensures }; ready = record { shaped = E .shaped; few-codes = few-codes-of (few-terminals E); nul-room = c .before .before .before .before .before .before .before .before .before .before .before .before .before .before .before .before .before .before .before .before .before .find-sets .kept .1 .1 .1 .0; fst-room = c .before .before .before .before .before .before .before .before .before .before .before .before .before .before .before .before .before .before .before .before .before .find-sets .kept .1 .1 .1 .1 .0 }; few-rules = few-rules E; rules-within = within _ _; entries-room = omega (arith, N .room); uses-room = omega (arith, c .before .before .before .before .before .before .before .before .before .before .before .before .before .before .before .before .before .before .before .before .before .before .before .before .before .entries-meet .ensures .0) },
-    (record { kinds-room = omega (arith, R .kinds-room); values-room = omega (arith, R .values-room); gotos-room = omega (arith, R .gotos-room) },
-    ((m .kept .1 .1 .1 .1 .1 .1 .0, m .kept .1 .1 .1 .1 .1 .1 .1 .0), (m .ensures, (few-states S, few-strings E, few-flags S (s .pre .1 .1 .1))))))
+find-lookaheads-requires c κs = let s = c .before .before .before .before .before .before .before .before .before .before .before .before .before .before .before .before .before .before .before .before .before .before .before .before .before .before .before .before .before .before .before .before .before .before in let S = s .pre .0 .is in let E = S .entered in let R = s .pre .1 .0 in let N = s .pre .1 .1 .0 in let m = c .before .before .before .before .before .before .before .before .before .before .before .before .before .before .prepare-rules in (
+  record { lined = record { shaped = E .shaped; some-lines = S .safe .some-lines; linked = c .before .before .before .before .before .before .before .before .before .before .link-lines .ensures }; ready = record { shaped = E .shaped; few-codes = few-codes-of (few-terminals E); nul-room = c .before .before .before .before .before .before .before .before .before .before .before .before .before .before .before .before .before .before .before .before .before .find-sets .kept .1 .1 .1 .0; fst-room = c .before .before .before .before .before .before .before .before .before .before .before .before .before .before .before .before .before .before .before .before .before .find-sets .kept .1 .1 .1 .1 .0 }; few-rules = few-rules E; rules-within = within _ _; entries-room = omega (arith, N .room); uses-room = omega (arith, c .before .before .before .before .before .before .before .before .before .before .before .before .before .before .before .before .before .before .before .before .before .before .before .before .before .entries-meet .ensures .0) },
+  (
+    record { kinds-room = omega (arith, R .kinds-room); values-room = omega (arith, R .values-room); gotos-room = omega (arith, R .gotos-room) },
+    ((m .kept .1 .1 .1 .1 .1 .1 .0, m .kept .1 .1 .1 .1 .1 .1 .1 .0), (m .ensures, (S .safe .few-states, few-strings E, few-flags S (s .pre .1 .1 .1)))),
+  ),
+)
 
 slice-aggregate-fill-cells : tie.Need-slice-aggregate-fill-cells
 slice-aggregate-fill-cells c = search needs
@@ -94,9 +97,10 @@ slice-aggregate-fill-cells-5 : tie.Need-slice-aggregate-fill-cells-5
 slice-aggregate-fill-cells-5 c = search needs
 
 fill-cells-requires : tie.Need-fill-cells-requires
-fill-cells-requires c κs = let s = c .before .before .before .before .before .before .before .before .before .before .before .before .before .before .before .before .before .before .before .before .before .before .before .before .before .before .before .before .before .before .before .before .before .before .before .before .before .before .before .before .before .before .before .before .before in let S = s .pre .0 .is in let E = S .entered in let R = s .pre .1 .0 in let N = s .pre .1 .1 .0 in let m = c .before .before .before .before .before .before .before .before .before .before .before .before .before .before .before .before .before .before .before .before .before .before .before .before .before .prepare-rules in let k = c .before .before .before .before .before .before .before .before .before .before .before .before .before .before .before .before .before .before .before .before .before .before .before .before .before .before .before .before .before .before .before .before .find-sets .kept in
-    (record { lined = record { shaped = E .shaped; some-lines = lines-of S (R .kernels-room); linked = c .before .before .before .before .before .before .before .before .before .before .before .before .before .before .before .before .before .before .before .before .before .link-lines .ensures }; codes-room = few-flags S (c .before .before .before .before .before .before .before .before .before .before .find-lookaheads .kept .1 .1 .1 .1 .1 .1 .1 .1 .1 .1 .1 .1 .1 .1 .1 .1 .1 .0 ∙ s .pre .1 .1 .1); nul-room = k .1 .1 .1 .0; fst-room = k .1 .1 .1 .1 .0; starts-room = m .kept .1 .1 .1 .1 .1 .1 .0; through-room = m .kept .1 .1 .1 .1 .1 .1 .1 .0; prepared = m .ensures; few-codes = few-codes-of (few-terminals E); few-rules = few-rules E; few-strings = few-strings E },
-    (few-states S, omega (arith, R .kinds-room), omega (arith, R .values-room)))
+fill-cells-requires c κs = let s = c .before .before .before .before .before .before .before .before .before .before .before .before .before .before .before .before .before .before .before .before .before .before .before .before .before .before .before .before .before .before .before .before .before .before .before .before .before .before .before .before .before .before .before .before .before in let S = s .pre .0 .is in let E = S .entered in let R = s .pre .1 .0 in let N = s .pre .1 .1 .0 in let m = c .before .before .before .before .before .before .before .before .before .before .before .before .before .before .before .before .before .before .before .before .before .before .before .before .before .prepare-rules in let k = c .before .before .before .before .before .before .before .before .before .before .before .before .before .before .before .before .before .before .before .before .before .before .before .before .before .before .before .before .before .before .before .before .find-sets .kept in (
+  record { lined = record { shaped = E .shaped; some-lines = S .safe .some-lines; linked = c .before .before .before .before .before .before .before .before .before .before .before .before .before .before .before .before .before .before .before .before .before .link-lines .ensures }; codes-room = few-flags S (c .before .before .before .before .before .before .before .before .before .before .find-lookaheads .kept .1 .1 .1 .1 .1 .1 .1 .1 .1 .1 .1 .1 .1 .1 .1 .1 .1 .0 ∙ s .pre .1 .1 .1); nul-room = k .1 .1 .1 .0; fst-room = k .1 .1 .1 .1 .0; starts-room = m .kept .1 .1 .1 .1 .1 .1 .0; through-room = m .kept .1 .1 .1 .1 .1 .1 .1 .0; prepared = m .ensures; few-codes = few-codes-of (few-terminals E); few-rules = few-rules E; few-strings = few-strings E },
+  (S .safe .few-states, omega (arith, R .kinds-room), omega (arith, R .values-room)),
+)
 
 same-length : tie.Need-same-length
 same-length c = search needs

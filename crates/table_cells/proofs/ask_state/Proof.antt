@@ -1,7 +1,8 @@
+use native.Mathlib.Omega.{arith}
 use mathlib.Core.Path.{refl}
 use borrow.Author.Needs.{needs}
 use Rattle.moves.specs.Flags.{present-of}
-use Rattle.table_cells.proofs.HeldLaws.{in-memory-of, within, few-items, readable-of, ready-of}
+use Rattle.table_cells.proofs.HeldLaws.{in-memory-of, readable-of, ready-of}
 use Rattle.table_cells.proofs.ask_state.Statement.{statement}
 use Rattle.table_cells.proofs.ask_state.Tie as tie
 
@@ -16,7 +17,7 @@ slice-aggregate-close-state-2 c = search needs
 
 close-state-requires : tie.Need-close-state-requires
 close-state-requires c κs = let s = c .before .before .before .before .before .before .before .before .before .before .before in let Z = s .pre .0 in let Y = Z .lined in
-    (Y .shaped, ((within _ _, Z .few-rules, Z .few-codes), ((Y .some-lines .room, Z .codes-room), (Y .some-lines .item-low, ((Z .nul-room, Z .fst-room, Z .starts-room, Z .through-room), (Z .prepared, (refl, refl)))))))
+    (Y .shaped, ((omega arith, Z .few-rules, Z .few-codes), ((Y .some-lines .room, Z .codes-room), (Y .some-lines .item-low, ((Z .nul-room, Z .fst-room, Z .starts-room, Z .through-room), (Z .prepared, (refl, refl)))))))
 
 slice-aggregate-flag-moves : tie.Need-slice-aggregate-flag-moves
 slice-aggregate-flag-moves c = search needs
@@ -38,7 +39,7 @@ slice-aggregate-ask-cells-3 c = search needs
 
 ask-cells-requires : tie.Need-ask-cells-requires
 ask-cells-requires c κs = let s = c .before .before .before .before .before .before .before .before .before .before .before .before .before .before .before .before .before .before .before .before .before .before in let Z = s .pre .0 in
-    (readable-of Z (c .before .before .before .before .before .before .before .before .before .before .close-state .kept .1 .1 .1 .1 .1 .1 .1 .1 .1 .1 .1 .1 .0), (ready-of Z, ((few-items (Z .few-rules) (Z .few-strings), s .pre .1 .0, Z .codes-room), (c .before .before .before .before .before .before .before .before .before .before .close-state .kept .1 .1 .1 .1 .1 .1 .1 .1 .1 .1 .1 .1 .1 .0, c .before .before .before .before .before .flag-moves .ensures .0, s .pre .1 .1))))
+    (readable-of Z (c .before .before .before .before .before .before .before .before .before .before .close-state .kept .1 .1 .1 .1 .1 .1 .1 .1 .1 .1 .1 .1 .0), (ready-of Z, ((omega (arith, Z .few-rules, Z .few-strings), s .pre .1 .0, Z .codes-room), (c .before .before .before .before .before .before .before .before .before .before .close-state .kept .1 .1 .1 .1 .1 .1 .1 .1 .1 .1 .1 .1 .1 .0, c .before .before .before .before .before .flag-moves .ensures .0, s .pre .1 .1))))
 
 same-length : tie.Need-same-length
 same-length c = search needs
