@@ -1,11 +1,12 @@
 -- A next state that is stored.
 use Prim.Native.Nat.{ℕ, zero, suc, _+_, _*_, _-_, _≤_, _<_}
 use native.Mathlib.Omega.{arith}
-use mathlib.Core.Path.{_≡_, refl, sym, subst, _∙_}
+use mathlib.Core.Path.{_≡_, refl, sym, subst, _∙_, ap}
 use mathlib.Core.List.{List}
-use lib.ListN.{length, set}
+use lib.ListN.{length, getD, set, replicate}
 use lib.Seq.{getD-set-same, getD-set-other}
-use Rattle.kernel_sets.specs.Cells.{shiftKind, Cell, Stores}
+use Rattle.fixpoint.proofs.PassLaws.{none-on}
+use Rattle.kernel_sets.specs.Cells.{shiftKind, Cell, Stores, Blank}
 
 module _ (kinds values gotos : List ℕ) (q x v : ℕ) where
   pub stores-none : v ≡ 0 → Stores kinds values gotos kinds values gotos q x v
@@ -42,3 +43,11 @@ module _ (kinds values gotos : List ℕ) (q x v : ℕ) where
       next = c .next;
     };
   }
+
+-- slices that were cleared
+pub blank-zeros : {kinds values gotos : List ℕ} (a b c : ℕ) → kinds ≡ replicate a 0 → values ≡ replicate b 0 → gotos ≡ replicate c 0 → Blank kinds values gotos
+blank-zeros a b c ek ev eg = record {
+  kinds-blank = λ i. ap (λ (l : List ℕ). getD l i 0) ek ∙ none-on a i;
+  values-blank = λ i. ap (λ (l : List ℕ). getD l i 0) ev ∙ none-on b i;
+  gotos-blank = λ i. ap (λ (l : List ℕ). getD l i 0) eg ∙ none-on c i;
+}

@@ -20,14 +20,22 @@ use Rattle.lalr.specs.States.{total, states}
 use Rattle.lalr.specs.Built.{items, built}
 use Rattle.lalr.specs.Text.{tableText}
 
+-- "then 2 for the book's bytes, then 11", for a slice of this length
+abbrev pub textReply : List ℕ → ℕ → Reply
+textReply text room = cond (ltb 65536 (length text)) (refused LimitExceeded 0) (cond (ltb room (length text)) (refused BufferTooSmall 0) (Accepted 0))
+
+-- "After a refusal every output slice is zeros [..] After success a [..] book is followed by zeros."
+abbrev pub textSlice : List ℕ → ℕ → Reply → List ℕ
+textSlice text room (Accepted n) = text ++ replicate (room - length text) 0
+textSlice text room (Refused x) = replicate room 0
+
 module _ (g : Grammar) (F : List ℕ → ℕ → ℕ → Type 0) (F? : (β : List ℕ) (d c : ℕ) → Dec (F β d c)) (first-codes : List ℕ)
     (F-in : (β : List ℕ) (d c : ℕ) → F β d c → (c ≡ d) ⊎ In c first-codes) where
   unfoldable pub bookText : List ℕ
   bookText = tableText (built g F F? first-codes F-in)
 
-  -- "then 2 for the book's bytes, then 11", for a slice of this length
   abbrev pub afterConflicts : ℕ → Reply
-  afterConflicts room = cond (ltb 65536 (length bookText)) (refused LimitExceeded 0) (cond (ltb room (length bookText)) (refused BufferTooSmall 0) (Accepted 0))
+  afterConflicts room = textReply bookText room
 
   -- "9 | clash | one cell would hold two different actions | state, lowest"
   abbrev pub afterLimits : ℕ → Reply
@@ -40,10 +48,8 @@ module _ (g : Grammar) (F : List ℕ → ℕ → ℕ → Type 0) (F? : (β : Lis
       cond (ltb 127 (length (entryStrings g))) (refused LimitExceeded 0)
       (cond (ltb 255 (length (states g))) (refused LimitExceeded 0) (cond (ltb 1023 (total (states g))) (refused LimitExceeded 0) (afterLimits room)))
 
-  -- "After a refusal every output slice is zeros [..] After success a [..] book is followed by zeros."
   abbrev pub written : ℕ → Reply → List ℕ
-  written room (Accepted n) = bookText ++ replicate (room - length bookText) 0
-  written room (Refused x) = replicate room 0
+  written room r = textSlice bookText room r
 
   unfoldable pub buildSlice : ℕ → List ℕ
   buildSlice room = written room (buildReply room)

@@ -32,6 +32,7 @@ use Rattle.lalr.specs.LineLaws.{itemTable, has-state}
 use Rattle.lalr.specs.BuiltForm.{fullTable}
 use Rattle.lalr.specs.MeetsBuilt.{meets-built}
 use Rattle.lalr.specs.Conflicts.{TwoActions, two-actions}
+use Rattle.lalr.specs.Text.{tableText}
 use Rattle.lalr.specs.Book.{bookText, afterConflicts, afterLimits, buildReply, written, buildSlice}
 
 -- what is the lowest that fails
@@ -63,6 +64,10 @@ module _ (g : Grammar) (F : List ℕ → ℕ → ℕ → Type 0) (F? : (β : Lis
 
   abbrev text : List ℕ
   text = bookText g F F? first-codes F-in
+
+  pub text-is : text ≡ tableText (fullTable g F F? first-codes F-in)
+  unfolding bookText
+  text-is = refl
 
   abbrev reply : ℕ → Reply
   reply room = buildReply g F F? first-codes F-in room
@@ -122,7 +127,7 @@ module _ (g : Grammar) (F : List ℕ → ℕ → ℕ → Type 0) (F? : (β : Lis
   refuses-conflict room q w l f h =
       within-reply room w ∙ ap (λ (o : Option ℕ). first-of Conflict o (late room)) (lowest-some Agree test (suc (length (states g))) q (omega (arith, l)) f h)
 
-  past-conflicts : (room : ℕ) → Within g → ((q : ℕ) → Agree q) → reply room ≡ late room
+  pub past-conflicts : (room : ℕ) → Within g → ((q : ℕ) → Agree q) → reply room ≡ late room
   past-conflicts room w h =
       within-reply room w ∙ ap (λ (o : Option ℕ). first-of Conflict o (late room)) (lowest-none Agree test (suc (length (states g))) (λ q l. h q))
 

@@ -1,9 +1,10 @@
 -- The builder: its table, reply and slice with first by rules; and that a book it writes is accepted.
-use Prim.Native.Nat.{ℕ, _≤_}
+use Prim.Native.Nat.{ℕ, _≤_, _<_}
 use native.Mathlib.Omega.{arith}
-use mathlib.Core.Path.{_≡_, refl}
+use mathlib.Core.Path.{_≡_, refl, sym, ap, subst, _∙_}
 use mathlib.Core.Logic.{_⊎_, inl, inr}
 use mathlib.Core.List.{List, [], _∷_}
+use lib.ListN.{length}
 use Rattle.language.specs.Grammar.{Grammar, IsTerminal, IsNonterminal}
 use Rattle.language.specs.Derivation.{yields}
 use Rattle.language.specs.Sentence.{In, Reachable, Productive, AllProductive}
@@ -13,13 +14,13 @@ use Rattle.language.specs.FirstLaws.{right-productive, terminal-productive}
 use Rattle.language.specs.Strings.{AllDeclared, string-derives}
 use Rattle.language.specs.WellFormed as grammar
 use Rattle.leftcorner.specs.Table.{Table}
-use Rattle.leftcorner.specs.Construction.{MeetsWith, Meets}
+use Rattle.leftcorner.specs.Construction.{WellFormed, CellsAgree, MeetsWith, Meets}
 use Rattle.leftcorner.specs.Claim.{_↔_}
 use Rattle.leftcorner.specs.Swap.{swap}
 use Rattle.fixpoint.specs.Least.{least-every}
 use Rattle.analysis.specs.ByRules.{starting, BeginsByRules, FirstByRules, first-rules, rules-first}
 use Rattle.analysis.specs.Decided.{first?}
-use Rattle.reply.specs.declared.Kind.the-variants.{Conflict}
+use Rattle.reply.specs.declared.Kind.the-variants.{LimitExceeded, Conflict}
 use Rattle.reply.specs.declared.Reply.{Reply}
 use Rattle.reply.specs.declared.Reply.the-variants.{Accepted}
 use Rattle.verdict.specs.EntriesDecided.{entries?}
@@ -27,13 +28,15 @@ use Rattle.verdict.specs.ItemsDecided.{items?}
 use Rattle.verdict.specs.LookaheadsDecided.{lookaheads?}
 use Rattle.verdict.specs.CellsDecided.{agree?, cells?}
 use Rattle.verdict.specs.Verdict.{verdict, accepts, refused}
-use Rattle.lalr.specs.States.{range}
+use Rattle.lalr.specs.States.{range, states}
 use Rattle.lalr.specs.Lists.{in-range, range-in}
-use Rattle.lalr.specs.Limits.{declared}
-use Rattle.lalr.specs.Built.{built}
-use Rattle.lalr.specs.Book.{buildReply, buildSlice}
+use Rattle.lalr.specs.Limits.{Limits, declared}
+use Rattle.lalr.specs.Built.{items, built}
+use Rattle.lalr.specs.BuiltForm.{built-form}
+use Rattle.lalr.specs.Text.{tableText}
+use Rattle.lalr.specs.Book.{textReply, textSlice, buildReply, buildSlice}
 use Rattle.lalr.specs.Readable.{Readable, readable}
-use Rattle.lalr.specs.BookLaws.{limits, accepted-writes, book-meets, conflict-actions}
+use Rattle.lalr.specs.BookLaws.{Within, limits, text-is, refuses-many, refuses-conflict, past-conflicts, accepted-writes, book-meets, conflict-actions}
 use Rattle.lalr.specs.Conflicts.{TwoActions}
 
 module _ (g : Grammar) where
@@ -54,7 +57,7 @@ module _ (g : Grammar) where
   first-in β d c (inl h) = let w = starts-terminal β c h in inr (in-range 1 (g .terminals) c (w .0) (omega (arith, w .1)))
   first-in β d c (inr h) = inl (h .1)
 
-  codes-low : (c : ℕ) → In c terminalCodes → c ≤ g .terminals
+  pub codes-low : (c : ℕ) → In c terminalCodes → c ≤ g .terminals
   codes-low c m = let r = range-in 1 (g .terminals) c m in omega (arith, r .1)
 
   -- ---- the builder
@@ -67,6 +70,42 @@ module _ (g : Grammar) where
 
   unfoldable pub builderSlice : ℕ → List ℕ
   builderSlice room = buildSlice g (FirstByRules g) (first? g) terminalCodes first-in room
+
+  -- ---- what it replies
+
+  abbrev Agree : ℕ → Type 0
+  Agree q = CellsAgree g (items g (FirstByRules g) (first? g) terminalCodes first-in) (FirstByRules g) q
+
+  abbrev text : List ℕ
+  text = tableText (built g (FirstByRules g) (first? g) terminalCodes first-in)
+
+  pub replies-many : (room : ℕ) → (Within g → ⊥) → builderReply room ≡ refused LimitExceeded 0
+  unfolding builderReply
+  replies-many room f = refuses-many g (FirstByRules g) (first? g) terminalCodes first-in room f
+
+  pub replies-conflict : (room q : ℕ) → Within g → q ≤ length (states g) → (Agree q → ⊥) → ((k : ℕ) → k < q → Agree k) → builderReply room ≡ refused Conflict q
+  unfolding builderReply
+  replies-conflict room q w l f h = refuses-conflict g (FirstByRules g) (first? g) terminalCodes first-in room q w l f h
+
+  pub replies-text : (room : ℕ) → Within g → ((q : ℕ) → Agree q) → builderReply room ≡ textReply text room
+  unfolding builderReply
+  replies-text room w h =
+      past-conflicts g (FirstByRules g) (first? g) terminalCodes first-in room w h
+      ∙ ap (λ (l : List ℕ). textReply l room) (text-is g (FirstByRules g) (first? g) terminalCodes first-in)
+
+  pub slice-text : (room : ℕ) → builderSlice room ≡ textSlice text room (builderReply room)
+  unfolding builderSlice builderReply buildSlice
+  slice-text room = ap (λ (l : List ℕ). textSlice l room (builderReply room)) (text-is g (FirstByRules g) (first? g) terminalCodes first-in)
+
+  pub table-text : tableText builderTable ≡ text
+  unfolding builderTable
+  table-text = refl
+
+  pub writes-fit : (room : ℕ) → builderReply room ≡ Accepted 0 → length (tableText builderTable) ≤ 65536
+  unfolding builderReply
+  writes-fit room e =
+      let z = accepted-writes g (FirstByRules g) (first? g) terminalCodes first-in room e .fits in
+      subst (λ (l : List ℕ). length l ≤ 65536) (text-is g (FirstByRules g) (first? g) terminalCodes first-in ∙ sym table-text) z
 
   -- ---- where every nonterminal is productive and reached
 
@@ -86,6 +125,10 @@ module _ (g : Grammar) where
       to = λ h. rules-first g (right-productive g W P) (λ X m. symbol-productive (a X m)) h;
       from = λ h. first-rules g h;
     }
+
+    -- where the limits are kept, the book has the form of a table book
+    pub builder-form : Limits g → WellFormed g (built g (FirstByRules g) (first? g) terminalCodes first-in)
+    builder-form L = built-form g (FirstByRules g) (first? g) terminalCodes first-in L codes-low first-some reach
 
     module _ (room : ℕ) (written : builderReply room ≡ Accepted 0) where
       writes-by-rules : MeetsWith g builderTable (FirstByRules g)

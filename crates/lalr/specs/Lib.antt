@@ -19,6 +19,7 @@ pub mod CellLaws
 pub mod CellCases
 pub mod Once
 pub mod BuiltForm
+pub mod ItemForm
 pub mod MeetsBuilt
 pub mod Readable
 pub mod Least

@@ -26,3 +26,11 @@ module _ (g : Grammar) where
       of-move : {q i k d X : ℕ} {β : List ℕ} → Lookahead q i k d → Goes g bare i k X β → Lookahead (goto g q X) i (suc k) d
       of-group : {q d c : ℕ} (i : ℕ) {r : Rule} (δs : List (List ℕ)) (γ : List ℕ) (εs : List (List ℕ)) → ruleAt g i ≡ some r → Lookahead q i (length (r .before)) d
           → r .groups ≡ δs ++ γ ∷ εs → F (concat εs) d c → Lookahead (entryOf γ) (entryItem g bare (entryOf γ)) zero c
+
+  -- a first that says more gives more
+  module _ (F G : List ℕ → ℕ → ℕ → Type 0) (up : (β : List ℕ) (d c : ℕ) → F β d c → G β d c) where
+    pub look-over : {q i k d : ℕ} → Lookahead F q i k d → Lookahead G q i k d
+    look-over of-goal = of-goal
+    look-over (of-closure {d = d} j {c = c} {β = β} h go e l f) = of-closure j (look-over h) go e l (up β d c f)
+    look-over (of-move h go) = of-move (look-over h) go
+    look-over (of-group {d = d} {c = c} i δs γ εs e h p f) = of-group i δs γ εs e (look-over h) p (up (concat εs) d c f)

@@ -11,7 +11,7 @@ use Rattle.leftcorner.specs.Table.{EntryLine, Action, Table, entryAt, stringOf,
 use Rattle.leftcorner.specs.Construction.{KernelAt, Has, in-kernel, in-closure, MovedBy, moved, Carries, Asked, to-move, to-announce, to-pop}
 
 module _ (g : Grammar) (t u : Table) (same : t .entries ≡ u .entries) where
-  entry-over : (n : ℕ) → entryAt t n ≡ entryAt u n
+  pub entry-over : (n : ℕ) → entryAt t n ≡ entryAt u n
   entry-over zero = refl
   entry-over (suc n) = ap (λ (l : List EntryLine). at l n) same
 

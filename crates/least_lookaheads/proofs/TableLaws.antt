@@ -25,7 +25,7 @@ use Rattle.lalr.specs.Distinct.{in-at}
 use Rattle.lalr.specs.EntryLaws.{entry-line, one-entry, lines-length}
 use Rattle.lalr.specs.States.{range, keep, states}
 use Rattle.lalr.specs.Lists.{in-range, range-in, keep-only, keep-every}
-use Rattle.lalr.specs.Limits.{declared, wanted-short, wanted-filled}
+use Rattle.lalr.specs.Limits.{Limits, declared, wanted-short, wanted-filled}
 use Rattle.lalr.specs.BuiltForm.{kernel-known}
 use Rattle.least_lookaheads.specs.StatesHeld.{entryTable, StatesHeld}
 
@@ -75,10 +75,9 @@ line-is kernels fs a (suc n) (suc l) e =
     line-is kernels fs (suc a) n l e ∙ ap (lineIn kernels fs) y
 
 -- ---- the tables
-module _ (g : Grammar) {items entries uses kernels kinds values gotos : List ℕ} {rules strings lines all codes : ℕ}
-    (S : StatesHeld g items entries uses kernels kinds values gotos rules strings lines all codes) where
-  fits : Fits g (entryTable g)
-  fits = record {
+module _ (g : Grammar) (L : Limits g) where
+  pub entries-fit : Fits g (entryTable g)
+  entries-fit = record {
     form = record {
       one-entry = one-entry g (entryTable g) refl;
       one-action = λ q X x y m. elim m [ ];
@@ -90,12 +89,12 @@ module _ (g : Grammar) {items entries uses kernels kinds values gotos : List ℕ
       shift-kind = λ q a s m. elim m [ ];
       goto-kind = λ q X s m. elim m [ ];
     };
-    few-states = omega (arith, S .limits .few-entries);
-    few-entries = omega (arith, S .limits .few-entries, lines-length 1 (entryStrings g));
+    few-states = omega (arith, L .few-entries);
+    few-entries = omega (arith, L .few-entries, lines-length 1 (entryStrings g));
     few-kernels = omega arith;
-    string-some = λ k s γ e. wanted-filled g (S .limits .formed) (entryTable g) refl (entry-line g (entryTable g) refl k e .3);
-    string-short = λ k s γ e. wanted-short g (S .limits .formed) (entryTable g) refl (entry-line g (entryTable g) refl k e .3);
-    string-declared = λ k s γ e X m. wanted-declared g (entryTable g) (declared g (S .limits .formed)) γ (entry-line g (entryTable g) refl k e .3) X m;
+    string-some = λ k s γ e. wanted-filled g (L .formed) (entryTable g) refl (entry-line g (entryTable g) refl k e .3);
+    string-short = λ k s γ e. wanted-short g (L .formed) (entryTable g) refl (entry-line g (entryTable g) refl k e .3);
+    string-declared = λ k s γ e X m. wanted-declared g (entryTable g) (declared g (L .formed)) γ (entry-line g (entryTable g) refl k e .3) X m;
     dot-within = λ q i k σ m. elim m [ ];
     code-declared = λ q i k d σ m. elim m [ ];
     next-declared = λ q X s x m. elim m [ ];
@@ -104,11 +103,13 @@ module _ (g : Grammar) {items entries uses kernels kinds values gotos : List ℕ
     pop-kind = λ q X n m. elim m [ ];
   }
 
+module _ (g : Grammar) {items entries uses kernels kinds values gotos : List ℕ} {rules strings lines all codes : ℕ}
+    (S : StatesHeld g items entries uses kernels kinds values gotos rules strings lines all codes) where
   -- the items and entries
   pub held-entries : Held g (entryTable g) items entries [] [] [] [] [] rules strings 0
   held-entries = record {
     formed = S .limits .formed;
-    fits = fits;
+    fits = entries-fit g (S .limits);
     holds-items = S .holds-items;
     holds-entries = S .holds-entries;
     holds-kernels = record {

@@ -137,6 +137,19 @@ pub fn print_bytes(bytes: &[u8]) {
     }
 }
 
+// Writes to standard output what stands before the first 0.
+pub fn print_text(bytes: &[u8]) {
+    let mut n = 0;
+    while n < bytes.len() {
+        if bytes[n] == 0 {
+            io::write_all(STDOUT_FILENO, &bytes[..n]);
+            return;
+        }
+        n += 1;
+    }
+    io::write_all(STDOUT_FILENO, bytes);
+}
+
 // Writes what a session answers: `number,place,rules,units`, then each listed rule on a line.
 pub fn print_session(number: u64, place: u64, rules: u64, units: u64, listing: &[u8]) {
     print_field(number);

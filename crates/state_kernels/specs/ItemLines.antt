@@ -5,12 +5,12 @@ use mathlib.Core.Path.{_≡_, refl, ap, _∙_}
 use mathlib.Core.Logic.{_⊎_, inl, inr}
 use mathlib.Core.List.{List, [], _∷_, _++_}
 use mathlib.Core.Option.{some}
-use lib.ListN.{length, getD, length-append}
+use lib.ListN.{length, getD}
 use Rattle.language.specs.Grammar.{Grammar, at}
 use Rattle.language.specs.GrammarLaws.{not-there}
 use Rattle.language.specs.Sentence.{In}
 use Rattle.leftcorner.specs.Table.{KernelLine, K}
-use Rattle.lalr.specs.States.{Kernel, itemOf, dotOf, total}
+use Rattle.lalr.specs.States.{Kernel, itemOf, dotOf}
 use Rattle.lalr.specs.States as lalr
 use Rattle.lalr.specs.Built.{linesOf, allLines, items}
 use Rattle.memory.specs.Memory.{stateAt, itemAt, dotAt}
@@ -86,12 +86,3 @@ module _ (g : Grammar) (F : List ℕ → ℕ → ℕ → Type 0) (F? : (β : Lis
         ap (itemAt kernels) (s .line) ∙ H .line-item (s .set) (s .place) (s .low) (s .within) ∙ s .item,
         ap (dotAt kernels) (s .line) ∙ H .line-dot (s .set) (s .place) (s .low) (s .within) ∙ s .dot,
       )
-
-  -- and there are as many
-  pub item-lines : length (items g F F? first-codes F-in .kernels) ≡ total (lalr.states g)
-  unfolding items
-  item-lines = all-length 1 (lalr.states g)
-    where
-      all-length : (a : ℕ) (ks : List Kernel) → length (linesFrom a ks) ≡ total ks
-      all-length a [] = refl
-      all-length a (k ∷ ks) = omega (arith, length-append (linesIn a k) (linesFrom (suc a) ks), lines-length a k, all-length (suc a) ks)

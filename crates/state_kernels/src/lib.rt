@@ -1,6 +1,5 @@
 // The states of a grammar's table, found from the entries on.
 use kernel_sets::Size;
-ghost use mathlib.Core.Path.{_≡_};
 ghost use Prim.Native.Nat.{ℕ, _+_, _*_, _<_, _≤_};
 ghost use lib.ListN.{length, getD};
 ghost use Rattle.language.specs.Grammar.{Grammar};

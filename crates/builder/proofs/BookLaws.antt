@@ -1,0 +1,137 @@
+-- What is answered is the builder's reply and slice.
+use Prim.Native.Nat.{ℕ, zero, suc, _+_, _-_, _≤_, _<_, min}
+use native.Mathlib.Omega.{arith}
+use mathlib.Core.Path.{_≡_, refl, sym, ap, subst, _∙_}
+use mathlib.Core.List.{List}
+use mathlib.Core.Option.{some}
+use lib.ListN.{length, replicate}
+use borrow.Author.Tests.{lt-ltb, le-ltb}
+use Rattle.language.specs.Grammar.{Grammar, at}
+use Rattle.leftcorner.specs.Table.{KernelLine}
+use Rattle.leftcorner.specs.Construction.{WellFormed}
+use Rattle.analysis.specs.ByRules.{FirstByRules}
+use Rattle.analysis.specs.Decided.{first?}
+use Rattle.memory.specs.Memory.{HoldsKernels}
+use Rattle.reply.specs.declared.Kind.the-variants.{LimitExceeded, Conflict, BufferTooSmall}
+use Rattle.reply.specs.declared.Refusal.{Refusal}
+use Rattle.reply.specs.declared.Reply.{Reply}
+use Rattle.reply.specs.declared.Reply.the-variants.{Accepted, Refused}
+use Rattle.verdict.specs.Verdict.{refused}
+use Rattle.lalr.specs.Strings.{entryStrings, entryLines}
+use Rattle.lalr.specs.EntryLaws.{lines-length}
+use Rattle.lalr.specs.States.{states}
+use Rattle.lalr.specs.Discovery.{Fits}
+use Rattle.lalr.specs.BuiltForm.{built-entries, states-both}
+use Rattle.lalr.specs.ItemForm.{items-lines, kernels-both}
+use Rattle.lalr.specs.Text.{tableText}
+use Rattle.lalr.specs.Book.{textReply, textSlice}
+use Rattle.lalr.specs.BookLaws.{Within}
+use Rattle.lalr.specs.Builder.{terminalCodes, first-in, codes-low, builder-form, builderReply, replies-many, replies-conflict, replies-text, slice-text}
+use Rattle.table_writer.specs.Sink.{inRoom, fits-room}
+use Rattle.table_writer.specs.MemoryTable.{memoryTable, memoryText, Sized}
+use Rattle.table_writer.specs.InMemory.{memory-table}
+use Rattle.table_writer.specs.BuiltOrder.{built-ordered}
+use Rattle.table_cells.specs.Cells.{itemsOf, tableOf, Filled}
+use Rattle.builder.specs.Stages.{Stated, Numbered, Settled, Answers, Rooms}
+use Rattle.builder.proofs.StateLaws.{few-strings, few-terminals, few-flags, limits-of, within-of, entries-hold}
+
+-- ---- a text of which the length was counted up to 65,537
+module _ (text : List ℕ) (room : ℕ) {n : ℕ} (count : n ≡ min (length text) 65537) where
+  pub text-long : 65536 < n → refused LimitExceeded 0 ≡ textReply text room
+  text-long l = simp (lt-ltb 65536 (length text) (omega (arith, count, l)))
+
+  -- the slice's length, which did not change
+  module _ {size : ℕ} (long : size ≡ room) (few : n ≤ 65536) where
+    pub text-short : size < n → refused BufferTooSmall 0 ≡ textReply text room
+    text-short s = simp (le-ltb 65536 (length text) (omega (arith, count, few)), lt-ltb room (length text) (omega (arith, count, few, long, s)))
+
+    pub text-whole : n ≤ size → Accepted 0 ≡ textReply text room
+    text-whole s = simp (le-ltb 65536 (length text) (omega (arith, count, few)), le-ltb room (length text) (omega (arith, count, few, long, s)))
+
+    pub text-written : {out : List ℕ} → n ≤ size → out ≡ inRoom room text → out ≡ textSlice text room (Accepted 0)
+    text-written s e = e ∙ fits-room room text (omega (arith, count, few, long, s)) (omega (arith, count, few))
+
+-- a refusal leaves zeros
+pub text-none : (text : List ℕ) (room : ℕ) {r : Reply} {x : Refusal} {size : ℕ} {out : List ℕ} → r ≡ Refused x → size ≡ room → out ≡ replicate size 0 → out ≡ textSlice text room r
+text-none text room e long o = o ∙ ap (λ (n : ℕ). replicate n 0) long ∙ sym (ap (textSlice text room) e)
+
+-- ---- the reply and the slice go together
+module _ (g : Grammar) (room : ℕ) {r : Reply} {out : List ℕ} where
+  answers-as : r ≡ builderReply g room → out ≡ textSlice (tableText (tableOf g)) room r → Answers g room r out
+  answers-as e s = record { reply-is = e; slice-is = s ∙ ap (textSlice (tableText (tableOf g)) room) e ∙ sym (slice-text g room) }
+
+  refused-as : {x : Reply} → r ≡ x → x ≡ builderReply g room → textSlice (tableText (tableOf g)) room x ≡ replicate room 0 → out ≡ replicate room 0 → Answers g room r out
+  refused-as e f z s = answers-as (e ∙ f) (s ∙ sym z ∙ ap (textSlice (tableText (tableOf g)) room) (sym e))
+
+  pub answers-many : (Within g → ⊥) → r ≡ refused LimitExceeded 0 → out ≡ replicate room 0 → Answers g room r out
+  answers-many f e s = refused-as e (sym (replies-many g room f)) refl s
+
+-- ---- too many states or kernel lines
+pub too-many-states : {g : Grammar} → (Fits (states g) → ⊥) → Within g → ⊥
+too-many-states f w = f (record { states = w .few-states; lines = w .few-lines })
+
+module _ {g : Grammar} {items kernels kinds values gotos : List ℕ} {terminals goal rules strings all lines : ℕ}
+    (T : Stated g items kernels kinds values gotos terminals goal rules strings all lines) where
+  -- ---- a conflict
+
+  conflict-reply : (room q : ℕ) (kinds′ values′ : List ℕ) → (q ≡ 0 → ⊥) → Filled g kinds′ values′ gotos q → builderReply g room ≡ refused Conflict q
+  conflict-reply room zero k v n f = absurd (n refl)
+  conflict-reply room (suc q) k v n f = replies-conflict g room (suc q) (within-of T) (f .0) (f .1) (f .2)
+
+  pub answers-conflict : (room : ℕ) {q : ℕ} {lookaheads k v out : List ℕ} {r : Reply} → (q ≡ 0 → ⊥) → Settled g kernels lookaheads k v gotos q → r ≡ refused Conflict q → out ≡ replicate room 0
+      → Answers g room r out
+  answers-conflict room {q} {k = k} {v = v} n s e o = refused-as g room e (sym (conflict-reply room q k v n (s .filled))) refl o
+
+  -- ---- the book
+
+  pub sized-of : {entries lookaheads k v : List ℕ} → Numbered entries strings → Rooms kernels k v gotos → length lookaheads ≡ 65536
+      → Sized items entries kernels lookaheads k v gotos rules strings lines all (terminals + 1)
+  sized-of N R e = record {
+    shaped = T .entered .shaped;
+    entries-room = let z = few-strings (T .entered) in omega (arith, z, N .room);
+    kernels-room = T .safe .some-lines .room;
+    lookaheads-room = few-flags T e;
+    kinds-room = omega (arith, R .kinds-room);
+    values-room = omega (arith, R .values-room);
+    gotos-room = omega (arith, R .gotos-room);
+    few-strings = few-strings (T .entered);
+    few-states = T .safe .few-states;
+    few-codes = let z = few-terminals (T .entered) in omega (arith, z);
+  }
+
+  book-kernels : {lookaheads : List ℕ} → HoldsKernels kernels lookaheads (itemsOf g) → HoldsKernels kernels lookaheads (tableOf g)
+  book-kernels H = record {
+    line-state = λ l q i k e. H .line-state l q i k (back l e);
+    line-item = λ l q i k e. H .line-item l q i k (back l e);
+    line-dot = λ l q i k e. H .line-dot l q i k (back l e);
+    code-on = λ l q i k d e m. H .code-on l q i k d (back l e) m;
+    on-code = λ l q i k d e n on. H .on-code l q i k d (back l e) n on;
+  }
+    where
+      back : (l : ℕ) {x : KernelLine} → at (tableOf g .kernels) l ≡ some x → at (itemsOf g .kernels) l ≡ some x
+      back l e = ap (λ (ks : List KernelLine). at ks l) (kernels-both g (FirstByRules g) (first? g) (terminalCodes g) (first-in g)) ∙ e
+
+  table-is : {entries lookaheads k v : List ℕ} {codes : ℕ} → codes ≡ suc (g .terminals) → Numbered entries strings → Settled g kernels lookaheads k v gotos 0
+      → memoryTable items entries kernels lookaheads k v gotos rules strings lines all codes ≡ tableOf g
+  table-is {entries} {lookaheads} {k} {v} c N s =
+      ap (memoryTable items entries kernels lookaheads k v gotos rules strings lines all) c
+      ∙ memory-table (built-ordered g (FirstByRules g) (first? g) (terminalCodes g) (first-in g) (limits-of T) (codes-low g) form)
+      (T .entered .holds-items (tableOf g) entries-are) (entries-hold T N (tableOf g) entries-are) (book-kernels (s .holds-kernels)) (s .filled .1) rules strings lines all
+      (T .entered .rule-count) (ap length entries-are ∙ lines-length 1 (entryStrings g) ∙ T .entered .entry-count)
+      (ap length (sym (kernels-both g (FirstByRules g) (first? g) (terminalCodes g) (first-in g))) ∙ items-lines g (FirstByRules g) (first? g) (terminalCodes g) (first-in g) ∙ T .found .line-count)
+      (states-both g (FirstByRules g) (first? g) (terminalCodes g) (first-in g) ∙ T .found .state-count)
+    where
+      form : WellFormed g (tableOf g)
+      form = builder-form g (T .entered .formed) (T .entered .productive) (T .entered .reached) (limits-of T)
+
+      entries-are : tableOf g .entries ≡ entryLines 1 (entryStrings g)
+      entries-are = built-entries g (FirstByRules g) (first? g) (terminalCodes g) (first-in g)
+
+  pub answers-book : (room : ℕ) {q : ℕ} {entries lookaheads k v out : List ℕ} {r : Reply} → q ≡ 0 → Numbered entries strings → Settled g kernels lookaheads k v gotos q
+      → r ≡ textReply (memoryText items entries kernels lookaheads k v gotos rules strings lines all (terminals + 1)) room
+      → out ≡ textSlice (memoryText items entries kernels lookaheads k v gotos rules strings lines all (terminals + 1)) room r → Answers g room r out
+  answers-book room {q} {entries} {lookaheads} {k} {v} {out} {r} z N s e o =
+      let s₀ : Settled g kernels lookaheads k v gotos 0 = subst (Settled g kernels lookaheads k v gotos) z s in
+      let c : terminals + 1 ≡ suc (g .terminals) = let y = T .entered .terminal-count in omega (arith, y) in
+      let t = ap tableText (table-is c N s₀) in
+      answers-as g room (e ∙ ap (λ (l : List ℕ). textReply l room) t ∙ sym (replies-text g room (within-of T) (s₀ .filled .0))) (o ∙ ap (λ (l : List ℕ). textSlice l room r) t)

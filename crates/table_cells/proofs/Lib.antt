@@ -1,0 +1,4 @@
+pub mod FillLaws
+pub mod HeldLaws
+pub mod CellLaws
+pub mod TableLaws

@@ -1,0 +1,72 @@
+use native.Mathlib.Omega.{arith}
+use mathlib.Core.Path.{refl}
+use borrow.Author.Needs.{needs}
+use Rattle.moves.specs.Flags.{present-of}
+use Rattle.table_cells.proofs.HeldLaws.{in-memory-of, readable-of, ready-of}
+use Rattle.table_cells.proofs.ask_state.Statement.{statement}
+use Rattle.table_cells.proofs.ask_state.Tie as tie
+
+add-count : tie.Need-add-count
+add-count c = search needs
+
+slice-aggregate-close-state : tie.Need-slice-aggregate-close-state
+slice-aggregate-close-state c = search needs
+
+slice-aggregate-close-state-2 : tie.Need-slice-aggregate-close-state-2
+slice-aggregate-close-state-2 c = search needs
+
+close-state-requires : tie.Need-close-state-requires
+close-state-requires c κs = let s = c .before .before .before .before .before .before .before .before .before .before .before in let Z = s .pre .0 in let Y = Z .lined in
+    (Y .shaped, ((omega arith, Z .few-rules, Z .few-codes), ((Y .some-lines .room, Z .codes-room), (Y .some-lines .item-low, ((Z .nul-room, Z .fst-room, Z .starts-room, Z .through-room), (Z .prepared, (refl, refl)))))))
+
+slice-aggregate-flag-moves : tie.Need-slice-aggregate-flag-moves
+slice-aggregate-flag-moves c = search needs
+
+slice-aggregate-flag-moves-2 : tie.Need-slice-aggregate-flag-moves-2
+slice-aggregate-flag-moves-2 c = search needs
+
+flag-moves-requires : tie.Need-flag-moves-requires
+flag-moves-requires c κs = let s = c .before .before .before .before .before .before .before .before .before .before .before .before .before .before .before .before in (readable-of (s .pre .0) (search needs), (s .pre .1 .0, refl))
+
+slice-aggregate-ask-cells : tie.Need-slice-aggregate-ask-cells
+slice-aggregate-ask-cells c = search needs
+
+slice-aggregate-ask-cells-2 : tie.Need-slice-aggregate-ask-cells-2
+slice-aggregate-ask-cells-2 c = search needs
+
+slice-aggregate-ask-cells-3 : tie.Need-slice-aggregate-ask-cells-3
+slice-aggregate-ask-cells-3 c = search needs
+
+ask-cells-requires : tie.Need-ask-cells-requires
+ask-cells-requires c κs = let s = c .before .before .before .before .before .before .before .before .before .before .before .before .before .before .before .before .before .before .before .before .before .before in let Z = s .pre .0 in
+    (readable-of Z (c .before .before .before .before .before .before .before .before .before .before .close-state .kept .1 .1 .1 .1 .1 .1 .1 .1 .1 .1 .1 .1 .0), (ready-of Z, ((omega (arith, Z .few-rules, Z .few-strings), s .pre .1 .0, Z .codes-room), (c .before .before .before .before .before .before .before .before .before .before .close-state .kept .1 .1 .1 .1 .1 .1 .1 .1 .1 .1 .1 .1 .1 .0, c .before .before .before .before .before .flag-moves .ensures .0, s .pre .1 .1))))
+
+same-length : tie.Need-same-length
+same-length c = search needs
+
+returns : tie.Need-returns
+returns c = (
+  c .before .before .ask-cells .ensures .0,
+  λ g t entries kinds values gotos H e.
+      let K = c .before .before .before .before .before .before .before .before .before .before .before .before .before .close-state .ensures g t (in-memory-of H e) in
+      let M = c .before .before .before .before .before .before .before .before .flag-moves .ensures .1 g t _ _ _ _ _ _ H (present-of K) in
+      c .before .before .ask-cells .ensures .1 g t _ _ _ _ _ H e K M,
+)
+
+pub ask-state-spec : {M : Type 1} → statement M
+ask-state-spec =
+    tie.close
+    (tie.spec
+    add-count
+    slice-aggregate-close-state
+    slice-aggregate-close-state-2
+    close-state-requires
+    slice-aggregate-flag-moves
+    slice-aggregate-flag-moves-2
+    flag-moves-requires
+    slice-aggregate-ask-cells
+    slice-aggregate-ask-cells-2
+    slice-aggregate-ask-cells-3
+    ask-cells-requires
+    same-length
+    returns)

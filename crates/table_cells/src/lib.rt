@@ -1,0 +1,213 @@
+// The cells of the builder's table: announces and pops join the moves, unless items ask two different actions of one cell.
+ghost use mathlib.Core.Path.{_≡_};
+ghost use mathlib.Core.Bool.{true};
+ghost use mathlib.Core.List.{List};
+ghost use Prim.Native.Nat.{ℕ, suc, _+_, _*_, _<_, _≤_};
+ghost use lib.ListN.{length, replicate};
+ghost use Rattle.language.specs.Grammar.{Grammar};
+ghost use Rattle.leftcorner.specs.Table.{Table};
+ghost use Rattle.leftcorner.specs.Construction.{CellsAgree};
+ghost use Rattle.fixpoint.specs.Flags.{Decides};
+ghost use Rattle.memory.specs.Held.{Held};
+ghost use Rattle.closure.specs.FirstBy.{FirstBy};
+ghost use Rattle.cells.specs.Demands.{HoldsAsked};
+ghost use Rattle.table_cells.specs.Fill.{FillsCell, FillsState};
+ghost use Rattle.table_cells.specs.Cells.{Agree, HoldsMoves, HoldsLines, StateFilled, Filled, Sized};
+
+// Fills cell x with what is asked of it, a move apart.
+fn fill_cell(kinds: &mut [u8], values: &mut [u8], x: usize, demand: usize)
+    requires { ⌜ (x < length (now kinds)) × (x < length (now values)) ⌝ }
+    ensures { λ _. ⌜ FillsCell demand x (now (kinds .entry)) (now (values .entry)) (now (kinds .exit)) (now (values .exit)) ⌝ }
+{
+    if demand < 512 {
+        return;
+    }
+    if 1023 < demand {
+        return;
+    }
+    kinds[x] = (demand / 256) as u8;
+    values[x] = (demand % 256) as u8;
+}
+
+// Fills the cells of q.
+fn fill_state(asked: &[usize], q: usize, kinds: &mut [u8], values: &mut [u8])
+    requires { ⌜ (length (now asked) ≡ 64) × (q < 256) × (16384 ≤ length (now kinds)) × (16384 ≤ length (now values)) ⌝ }
+    ensures { λ _. ⌜ FillsState (now (asked .entry)) q 64 (now (kinds .entry)) (now (values .entry)) (now (kinds .exit)) (now (values .exit)) ⌝ }
+{
+    let mut c = 0;
+    while c < 64 {
+        fill_cell(kinds, values, q * 64 + c, asked[c]);
+        c += 1;
+    }
+}
+
+// Finds what the items of q ask of each code's cell. The answer is no where they ask two different things of one.
+fn ask_state(
+    items: &[u8],
+    kernels: &[u8],
+    links: &[usize],
+    lookaheads: &[u8],
+    nul: &[u8],
+    fst: &[u8],
+    starts: &[u8],
+    through: &[u8],
+    rules: usize,
+    strings: usize,
+    lines: usize,
+    codes: usize,
+    q: usize,
+    asked: &mut [usize],
+) -> bool
+    requires { ⌜ Sized (now items) (now kernels) (now links) (now lookaheads) (now nul) (now fst) (now starts) (now through) rules strings lines codes ⌝ }
+    requires { ⌜ (q < 256) × (now asked ≡ replicate 64 0) ⌝ }
+    ensures { λ b. ⌜ length (now (asked .exit)) ≡ 64 ⌝ }
+    ensures { λ b. ⌜ ((g : Grammar) (t : Table) (entries kinds values gotos : List ℕ) → Held g t (now (items .entry)) entries (now (kernels .entry)) (now (lookaheads .entry)) kinds values gotos rules strings lines → codes ≡ suc (g .terminals)
+        → Decides (CellsAgree g t (FirstBy codes (now (nul .entry)) (now (fst .entry))) q) b × (b ≡ true → HoldsAsked g t (FirstBy codes (now (nul .entry)) (now (fst .entry))) q (now (asked .exit)))) ⌝ }
+{
+    let count = rules + strings;
+    let mut present = [0u8; 64];
+    let mut follow = [0u8; 4096];
+    let mut symbols = [0u8; 128];
+    closure::close_state(
+        items,
+        count,
+        rules,
+        kernels,
+        lookaheads,
+        lines,
+        q,
+        codes,
+        nul,
+        fst,
+        starts,
+        through,
+        &mut present,
+        &mut follow,
+    );
+    moves::flag_moves(
+        items,
+        kernels,
+        links,
+        &present,
+        count,
+        rules,
+        lines,
+        q,
+        &mut symbols,
+    );
+    cells::ask_cells(
+        items,
+        kernels,
+        links,
+        lookaheads,
+        &present,
+        &follow,
+        &symbols,
+        nul,
+        fst,
+        count,
+        rules,
+        lines,
+        codes,
+        q,
+        asked,
+    )
+}
+
+// Fills the cells of q with what its items ask; the answer is no where they ask two different things of one cell.
+fn settle_state(
+    items: &[u8],
+    kernels: &[u8],
+    links: &[usize],
+    lookaheads: &[u8],
+    nul: &[u8],
+    fst: &[u8],
+    starts: &[u8],
+    through: &[u8],
+    rules: usize,
+    strings: usize,
+    lines: usize,
+    codes: usize,
+    q: usize,
+    kinds: &mut [u8],
+    values: &mut [u8],
+) -> bool
+    requires { ⌜ Sized (now items) (now kernels) (now links) (now lookaheads) (now nul) (now fst) (now starts) (now through) rules strings lines codes ⌝ }
+    requires { ⌜ (q < 256) × (16384 ≤ length (now kinds)) × (16384 ≤ length (now values)) ⌝ }
+    ensures { λ b. ⌜ (length (now (kinds .exit)) ≡ length (now (kinds .entry))) × (length (now (values .exit)) ≡ length (now (values .entry))) ⌝ }
+    ensures { λ b. ⌜ ((g : Grammar) (entries : List ℕ) (all : ℕ) → HoldsLines g (now (items .entry)) entries (now (kernels .entry)) (now (lookaheads .entry)) (now (nul .entry)) (now (fst .entry)) rules strings lines all codes
+        → Decides (Agree g q) b × (b ≡ true → StateFilled g q (now (kinds .entry)) (now (values .entry)) (now (kinds .exit)) (now (values .exit)))) ⌝ }
+{
+    let mut asked = [0usize; 64];
+    if !ask_state(
+        items,
+        kernels,
+        links,
+        lookaheads,
+        nul,
+        fst,
+        starts,
+        through,
+        rules,
+        strings,
+        lines,
+        codes,
+        q,
+        &mut asked,
+    ) {
+        return false;
+    }
+    fill_state(&asked, q, kinds, values);
+    true
+}
+
+// Adds announces and pops to the cells of all states, which hold the moves. Answers the lowest state whose items ask two different actions
+// of one cell, 0 where there is none.
+pub fn fill_cells(
+    items: &[u8],
+    kernels: &[u8],
+    links: &[usize],
+    lookaheads: &[u8],
+    nul: &[u8],
+    fst: &[u8],
+    starts: &[u8],
+    through: &[u8],
+    rules: usize,
+    strings: usize,
+    lines: usize,
+    all: usize,
+    codes: usize,
+    kinds: &mut [u8],
+    values: &mut [u8],
+) -> usize
+    requires { ⌜ Sized (now items) (now kernels) (now links) (now lookaheads) (now nul) (now fst) (now starts) (now through) rules strings lines codes ⌝ }
+    requires { ⌜ (all ≤ 255) × (16384 ≤ length (now kinds)) × (16384 ≤ length (now values)) ⌝ }
+    ensures { λ r. ⌜ (length (now (kinds .exit)) ≡ length (now (kinds .entry))) × (length (now (values .exit)) ≡ length (now (values .entry))) ⌝ }
+    ensures { λ r. ⌜ ((g : Grammar) (entries gotos : List ℕ) → HoldsLines g (now (items .entry)) entries (now (kernels .entry)) (now (lookaheads .entry)) (now (nul .entry)) (now (fst .entry)) rules strings lines all codes → HoldsMoves g (now (kinds .entry)) (now (values .entry)) gotos
+        → Filled g (now (kinds .exit)) (now (values .exit)) gotos r) ⌝ }
+{
+    let mut q = 1;
+    while q <= all {
+        if !settle_state(
+            items,
+            kernels,
+            links,
+            lookaheads,
+            nul,
+            fst,
+            starts,
+            through,
+            rules,
+            strings,
+            lines,
+            codes,
+            q,
+            kinds,
+            values,
+        ) {
+            return q;
+        }
+        q += 1;
+    }
+    0
+}
