@@ -1,27 +1,11 @@
 /* How long checking a table book takes: each pair of a grammar book and a table book that the arguments name, best of many runs.
    rt staticlib buraigue_c && gcc -O2 bench/check.c target/staticlib/libburaigue_c.a -o target/bench-check
    tools/bench_tables.py target/bench && target/bench-check examples/hospital.grammar examples/hospital.tables target/bench/<name>.grammar target/bench/<name>.tables .. */
-#include <stdint.h>
-#include <stdio.h>
-#include <time.h>
+#include "bench.h"
 
 uint64_t buraigue_check_tables(const uint8_t *grammar, size_t n, const uint8_t *book, size_t m, uint64_t *place, size_t k);
 
 static uint8_t grammar[65537], book[65537];
-
-static double now(void) {
-    struct timespec t;
-    clock_gettime(CLOCK_MONOTONIC, &t);
-    return t.tv_sec * 1e6 + t.tv_nsec / 1e3;
-}
-
-static size_t load(const char *path, uint8_t *to) {
-    FILE *f = fopen(path, "rb");
-    if (!f) return 0;
-    size_t n = fread(to, 1, 65537, f);
-    fclose(f);
-    return n;
-}
 
 int main(int argc, char **argv) {
     for (int i = 1; i + 1 < argc; i += 2) {

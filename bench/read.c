@@ -1,21 +1,13 @@
 /* How long reading takes: grammar books, table books and scan files of 4, 16 and 64 KiB, best of many runs.
    rt staticlib buraigue_c && gcc -O2 bench/read.c target/staticlib/libburaigue_c.a -o target/bench-read && target/bench-read */
-#include <stdint.h>
-#include <stdio.h>
+#include "bench.h"
 #include <string.h>
-#include <time.h>
 
 uint64_t buraigue_read_grammar(const uint8_t *book, size_t n, uint8_t *items, size_t m, uint64_t *place, size_t k);
 uint64_t buraigue_check_tables(const uint8_t *grammar, size_t n, const uint8_t *book, size_t m, uint64_t *place, size_t k);
 uint64_t buraigue_read_scans(const uint8_t *file, size_t n, uint8_t *tokens, size_t m, uint64_t *place, size_t k);
 
 static uint8_t book[65537], items[16640], tokens[65536];
-
-static double now(void) {
-    struct timespec t;
-    clock_gettime(CLOCK_MONOTONIC, &t);
-    return t.tv_sec * 1e6 + t.tv_nsec / 1e3;
-}
 
 /* rules of 15 symbols, with leading zeros up to the length asked for */
 static size_t grammar_book(size_t size) {

@@ -1,11 +1,9 @@
 /* How long a session takes, beside the parser that bison generates for the same grammar: 65,535 tokens of D and a long day of the hospital's grammar,
    best of many runs. The walk alone is the whole call less the same call with no token: that one reads and checks both books.
    rt staticlib buraigue_c && bench/session.sh */
+#include "bench.h"
 #include "bison.h"
-#include <stdint.h>
-#include <stdio.h>
 #include <string.h>
-#include <time.h>
 
 uint64_t buraigue_run_session(const uint8_t *grammar, size_t g, const uint8_t *tables, size_t t, const uint8_t *tokens, size_t n, uint8_t *stack, size_t s,
                               uint8_t *listing, size_t l, uint64_t *place, size_t p, uint64_t *rules, size_t r, uint64_t *units, size_t u);
@@ -17,20 +15,6 @@ static uint8_t grammar[65537], tables[65537], tokens[65535], stack[65536], listi
 /* works of a day: an intake, an issue, a return, a discard, a temperature, a pooling, a transfer, a control, a remark, a quarantine */
 static const uint8_t works[] = {11, 13, 1, 4, 2, 3, 5, 6, 22, 6, 21, 19, 7, 1, 2, 3, 12, 20, 10, 15, 14, 1, 3, 26, 27, 19, 20, 10, 16, 1, 13, 18, 10, 17, 1, 10, 10,
                                 18, 10, 28, 1, 1, 1, 29, 1, 5, 30, 10, 11, 13, 1, 1, 12, 31, 18, 10, 32, 19, 6, 7, 6, 20, 10, 23, 25, 25, 25, 24, 33, 1, 1, 34, 20, 10};
-
-static double now(void) {
-    struct timespec t;
-    clock_gettime(CLOCK_MONOTONIC, &t);
-    return t.tv_sec * 1e6 + t.tv_nsec / 1e3;
-}
-
-static size_t load(const char *path, uint8_t *to) {
-    FILE *f = fopen(path, "rb");
-    if (!f) return 0;
-    size_t n = fread(to, 1, 65537, f);
-    fclose(f);
-    return n;
-}
 
 static size_t day(void) {
     size_t n = 0;
