@@ -128,6 +128,19 @@ module _ (g : Grammar) (t : Table) {items entries kernels lookaheads kinds value
     asked-low (to-announce i e h f) = inl (first-low codes nul fst (code-low g t H nul fst count h) f)
     asked-low (to-pop k e h) = inl (code-low g t H nul fst count h)
 
+    -- cells agree where what is asked of each code is one number
+    pub agree-below : ((X : ℕ) (x y : Action) → X < codes → X < 64 → Asked g t (FirstBy codes nul fst) q X x → Asked g t (FirstBy codes nul fst) q X y → demandOf x ≡ demandOf y)
+        → CellsAgree g t (FirstBy codes nul fst) q
+    agree-below same = record { one = λ X x y h k. go X x y h k (asked-low h) (asked-low k) }
+      where
+        low : (X : ℕ) (x y : Action) → X < codes → Asked g t (FirstBy codes nul fst) q X x → Asked g t (FirstBy codes nul fst) q X y → x ≡ y
+        low X x y l h k = same-action (askable h) (askable k) (same X x y l (omega (arith, H .formed .few-terminals)) h k)
+        go : (X : ℕ) (x y : Action) → Asked g t (FirstBy codes nul fst) q X x → Asked g t (FirstBy codes nul fst) q X y
+            → (X < codes) ⊎ (IsNonterminal g X × (x ≡ S 0)) → (X < codes) ⊎ (IsNonterminal g X × (y ≡ S 0)) → x ≡ y
+        go X x y h k (inl l) u = low X x y l h k
+        go X x y h k (inr p) (inl l) = low X x y l h k
+        go X x y h k (inr p) (inr r) = p .1 ∙ sym (r .1)
+
     module _ {present follow moves : List ℕ} (C : HoldsClosure g t (FirstBy codes nul fst) q present follow) (M : HoldsMoves g t q moves) where
       -- what is asked in memory
       abbrev pub StateAsks : ℕ → ℕ → Type 0
@@ -188,18 +201,7 @@ module _ (g : Grammar) (t : Table) {items entries kernels lookaheads kinds value
           every = λ c x l h. a .met e c (demandOf x) (asked-state l h) .is }
 
         cells-agree : b ≡ true → CellsAgree g t (FirstBy codes nul fst) q
-        cells-agree e = record { one = λ X x y h k. go X x y h k (asked-low h) (asked-low k) }
-          where
-            low : (X : ℕ) (x y : Action) → X < codes → Asked g t (FirstBy codes nul fst) q X x → Asked g t (FirstBy codes nul fst) q X y → x ≡ y
-            low X x y l h k =
-                let m : X < 64 = omega (arith, H .formed .few-terminals) in
-                let ha = holds-asked e in
-                same-action (askable h) (askable k) (sym (ha .every X x m h) ∙ ha .every X y m k)
-            go : (X : ℕ) (x y : Action) → Asked g t (FirstBy codes nul fst) q X x → Asked g t (FirstBy codes nul fst) q X y
-                → (X < codes) ⊎ (IsNonterminal g X × (x ≡ S 0)) → (X < codes) ⊎ (IsNonterminal g X × (y ≡ S 0)) → x ≡ y
-            go X x y h k (inl l) u = low X x y l h k
-            go X x y h k (inr p) (inl l) = low X x y l h k
-            go X x y h k (inr p) (inr r) = p .1 ∙ sym (r .1)
+        cells-agree e = agree-below (λ X x y l m h k. let ha = holds-asked e in sym (ha .every X x m h) ∙ ha .every X y m k)
 
         cells-clash : b ≡ false → CellsAgree g t (FirstBy codes nul fst) q → ⊥
         cells-clash e u =

@@ -55,7 +55,7 @@ fn ask_codes(from: &[u8], start: usize, low: usize, codes: usize, demand: usize,
 }
 
 // Asks what item i with dot k asks, where the flags of its lookaheads stand from `start` on.
-fn ask_item(items: &[u8], nul: &[u8], fst: &[u8], from: &[u8], count: usize, rules: usize, codes: usize, i: usize, k: usize, start: usize, asked: &mut [usize]) -> bool
+pub fn ask_item(items: &[u8], nul: &[u8], fst: &[u8], from: &[u8], count: usize, rules: usize, codes: usize, i: usize, k: usize, start: usize, asked: &mut [usize]) -> bool
     requires { ⌜ Ready (now items) (now nul) (now fst) count codes ⌝ }
     requires { ⌜ (i ≤ count) × (i < 256) × (k ≤ 15) × (start + 64 ≤ length (now from)) ⌝ }
     requires { ⌜ length (now asked) ≡ 64 ⌝ }
@@ -164,7 +164,7 @@ fn wide(x: u8) -> usize
 }
 
 // What the cell of q for code c holds, as the number of what would be asked.
-fn demand_of(kinds: &[u8], values: &[u8], q: usize, c: usize) -> usize
+pub fn demand_of(kinds: &[u8], values: &[u8], q: usize, c: usize) -> usize
     requires { ⌜ (16384 ≤ length (now kinds)) × (16384 ≤ length (now values)) × (q < 256) × (c < 64) ⌝ }
     ensures { λ r. ⌜ r ≡ demandAt (now (kinds .entry)) (now (values .entry)) q c ⌝ }
 {
@@ -195,7 +195,7 @@ fn codes_meet(asked: &[usize], kinds: &[u8], values: &[u8], codes: usize, q: usi
 }
 
 // Whether q has a next state for nonterminal 64 + b exactly where something moves.
-fn goto_meets(moves: &[u8], gotos: &[u8], q: usize, b: usize) -> bool
+pub fn goto_meets(moves: &[u8], gotos: &[u8], q: usize, b: usize) -> bool
     requires { ⌜ (length (now moves) ≡ 128) × (16384 ≤ length (now gotos)) × (q < 256) × (b < 64) ⌝ }
     ensures { λ r. ⌜ Decides (GotoMeets (now (moves .entry)) (now (gotos .entry)) q b) r ⌝ }
 {

@@ -43,7 +43,7 @@ fn wide(x: u8) -> usize
 }
 
 // Whether q, where it is the state of entry k, has that entry's item and only that.
-fn entry_meets(
+pub fn entry_meets(
     entries: &[u8],
     kernels: &[u8],
     links: &[usize],

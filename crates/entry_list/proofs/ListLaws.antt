@@ -103,6 +103,15 @@ module _ (g : Grammar) (t : Table) {items : List ℕ} {rules strings : ℕ} (S :
   same-entry : (k : ℕ) {s u : ℕ} {γ δ : List ℕ} → EntryAt g t k s γ → EntryAt g t k u δ → γ ≡ δ
   same-entry k e f = cc
 
+  -- an entry after the goal's that is not flagged is neither the goal nor a group
+  pub unwanted : {uses wanted₀ wanted : List ℕ} {u x s : ℕ} {γ : List ℕ} → EntryAt g t 1 u (g .goal ∷ []) → Filled g t (rules + 1) uses wanted₀ wanted → 2 ≤ x → Off wanted x
+      → EntryAt g t x s γ → Wanted g γ → ⊥
+  unwanted {u = u} {x = x} {s = s} {γ = γ} a F two off e (of-goal f) =
+      let z : 1 ≡ x = S .fits .form .one-entry 1 x u s γ (subst (EntryAt g t 1 u) (sym f) a) e in
+      omega (arith, two, z)
+  unwanted {wanted = wanted} {x = x} {s = s} {γ = γ} a F two off e (of-group i {r = r} f n) =
+      F .flagged i r (rule-low i f) f γ n .nonzero (subst (λ (k : ℕ). getD wanted k 0 ≡ 0) (sym (entry-is g t (S .fits .form) x s γ e)) off)
+
   module _ {uses wanted₀ wanted : List ℕ} (none : wanted₀ ≡ replicate 128 0) where
     pub entries-hold : 1 ≤ strings → GoalFirst → Filled g t (rules + 1) uses wanted₀ wanted
         → (r : Found) → Lowest (Off wanted) 2 (strings + 1) r → r ≡ Found.Nothing → EntriesMeet g t
@@ -136,17 +145,8 @@ module _ (g : Grammar) (t : Table) {items : List ℕ} {rules strings : ℕ} (S :
     entries-fail m F r found {x} is-r = let low : Lowest (Off wanted) 2 (strings + 1) (Found.At x) = subst (Lowest (Off wanted) 2 (strings + 1)) is-r found in
         go low (entry-at t (S .entry-count) x (omega (arith, low .0)) (low .1))
       where
-        on : Lowest (Off wanted) 2 (strings + 1) (Found.At x) → {s : ℕ} {γ : List ℕ} → EntryAt g t x s γ → Wanted g γ → ⊥
-        on low {s} {γ} e (of-goal f) =
-            let a = m .goal-first in
-            let z : 1 ≡ x = S .fits .form .one-entry 1 x (a .0) s γ (subst (EntryAt g t 1 (a .0)) (sym f) (a .1)) e in
-            omega (arith, low .0, z)
-        on low {s} {γ} e (of-group i {r = r} f n) =
-            F .flagged i r (rule-low i f) f γ n .nonzero
-            (subst (λ (k : ℕ). getD wanted k 0 ≡ 0) (sym (entry-is g t (S .fits .form) x s γ e)) (low .2))
-
         go : Lowest (Off wanted) 2 (strings + 1) (Found.At x) → (y : EntryLine) × (entryAt t x ≡ some y) → ⊥
-        go low (E s γ, e) = on low e (m .only-wanted x s γ e)
+        go low (E s γ, e) = unwanted (m .goal-first .1) F (low .0) (low .2) e (m .only-wanted x s γ e)
 
   pub meets-entered : EntriesMeet g t → (i : ℕ) (r : Rule) → ruleAt g i ≡ some r → AllEntered g t r
   meets-entered m i r e γ n = m .all-wanted γ (of-group i e n)

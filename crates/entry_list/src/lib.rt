@@ -36,7 +36,7 @@ fn same_part(items: &[u8], count: usize, i: usize, from: usize, n: usize, e: usi
 }
 
 // The number of an entry with that string; 0 where there is none.
-fn entry_of(items: &[u8], rules: usize, strings: usize, i: usize, from: usize, n: usize) -> usize
+pub fn entry_of(items: &[u8], rules: usize, strings: usize, i: usize, from: usize, n: usize) -> usize
     requires { ⌜ Shaped (now items) (rules + strings) ⌝ }
     requires { ⌜ (i ≤ rules) × (rules ≤ 127) × (strings ≤ 127) × (from + n ≤ 15) ⌝ }
     ensures { λ r. ⌜ FindsEntry (now (items .entry)) rules strings i from n r ⌝ }
@@ -103,7 +103,7 @@ fn fill_rule(
 }
 
 // Does so for every rule.
-fn fill_rules(
+pub fn fill_rules(
     items: &[u8],
     rules: usize,
     strings: usize,
@@ -128,7 +128,7 @@ fn fill_rules(
 }
 
 // Whether item i's string is the goal alone.
-fn is_goal(items: &[u8], count: usize, i: usize, goal: usize) -> bool
+pub fn is_goal(items: &[u8], count: usize, i: usize, goal: usize) -> bool
     requires { ⌜ Shaped (now items) count ⌝ }
     requires { ⌜ i ≤ count ⌝ }
     ensures { λ b. ⌜ Decides ((lengthAt (now (items .entry)) i ≡ 1) × (symbolAt (now (items .entry)) i 0 ≡ goal)) b ⌝ }

@@ -142,7 +142,7 @@ fn came(
 }
 
 // Whether line l came by a move from q on x.
-fn line_came(
+pub fn line_came(
     items: &[u8],
     kernels: &[u8],
     links: &[usize],

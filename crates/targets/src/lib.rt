@@ -13,7 +13,7 @@ ghost use Rattle.moves.specs.Flags.{HoldsPresent, HoldsMoves};
 ghost use Rattle.targets.specs.Targets.{Arrives, TargetOnly, MovesMeet};
 
 // Whether item i, dot k of q has its line in the next state, where q has one for the symbol after the dot.
-fn arrives(
+pub fn arrives(
     items: &[u8],
     kernels: &[u8],
     links: &[usize],
@@ -46,7 +46,7 @@ fn arrives(
 }
 
 // Whether the item of line l arrives from q.
-fn line_arrives(
+pub fn line_arrives(
     items: &[u8],
     kernels: &[u8],
     links: &[usize],

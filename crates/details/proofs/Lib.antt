@@ -1,0 +1,3 @@
+pub mod MissLaws
+pub mod EntryLaws
+pub mod ItemLaws

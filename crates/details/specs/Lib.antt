@@ -1,0 +1,3 @@
+pub mod Misses
+pub mod Entries
+pub mod Items

@@ -1,0 +1,62 @@
+use mathlib.Core.Path.{refl}
+use native.Mathlib.Omega.{arith}
+use borrow.Author.Needs.{needs}
+use Rattle.explain_tables.proofs.explain_cells.Statement.{statement}
+use Rattle.explain_tables.proofs.explain_cells.Tie as tie
+
+slice-aggregate-ask-cells : tie.Need-slice-aggregate-ask-cells
+slice-aggregate-ask-cells c = search needs
+
+ask-cells-requires : tie.Need-ask-cells-requires
+ask-cells-requires c κs = (c .before .before .before .before .before .before .before .before .before .before .before .before .before .pre .0, (c .before .before .before .before .before .before .before .before .before .before .before .before .before .pre .1 .0, (c .before .before .before .before .before .before .before .before .before .before .before .before .before .pre .1 .1 .1 .0, (c .before .before .before .before .before .before .before .before .before .before .before .before .before .pre .1 .1 .1 .1 .0, c .before .before .before .before .before .before .before .before .before .before .before .before .before .pre .1 .1 .1 .1 .1, refl))))
+
+slice-aggregate-find-cell : tie.Need-slice-aggregate-find-cell
+slice-aggregate-find-cell c = search needs
+
+find-cell-requires : tie.Need-find-cell-requires
+find-cell-requires c κs = ((c .before .before .ask-cells .ensures .0, c .before .before .before .before .before .before .before .before .before .before .before .before .before .before .before .before .pre .1 .0 .few-codes), (c .before .before .before .before .before .before .before .before .before .before .before .before .before .before .before .before .pre .1 .1 .0 .kinds-room, c .before .before .before .before .before .before .before .before .before .before .before .before .before .before .before .before .pre .1 .1 .0 .values-room, c .before .before .before .before .before .before .before .before .before .before .before .before .before .before .before .before .pre .1 .1 .1 .0 .1))
+
+enum-known-cell : tie.Need-enum-known-cell
+enum-known-cell c = search needs
+
+enum-told : tie.Need-enum-told
+enum-told c = search needs
+
+explain-goto-requires : tie.Need-explain-goto-requires
+explain-goto-requires c κs = (c .before .before .before .before .before .before .before .before .before .before .before .before .before .before .before .before .before .before .before .pre .1 .1 .1 .1 .1, c .before .before .before .before .before .before .before .before .before .before .before .before .before .before .before .before .before .before .before .pre .1 .1 .0 .gotos-room, c .before .before .before .before .before .before .before .before .before .before .before .before .before .before .before .before .before .before .before .pre .1 .1 .1 .0 .1)
+
+returns : tie.Need-returns
+returns c = search needs
+
+mul-print-cell : tie.Need-mul-print-cell
+mul-print-cell c = omega (arith, c .before .before .before .find-cell .ensures .found _ (c .before .cell .given .1) .1, c .before .before .before .before .before .before .before .before .before .before .before .before .before .before .before .before .before .before .before .before .pre .1 .0 .few-codes)
+
+array-read-print-cell : tie.Need-array-read-print-cell
+array-read-print-cell c = omega (arith, c .before .before .before .find-cell .ensures .found _ (c .before .cell .given .1) .1, c .before .before .before .before .before .before .before .before .before .before .before .before .before .before .before .before .before .before .before .before .pre .1 .0 .few-codes, c .before .before .before .before .before .before .ask-cells .ensures .0)
+
+demand-of-requires : tie.Need-demand-of-requires
+demand-of-requires c κs = (c .before .before .before .before .before .before .before .before .before .before .before .before .before .before .before .before .before .before .before .before .pre .1 .1 .0 .kinds-room, c .before .before .before .before .before .before .before .before .before .before .before .before .before .before .before .before .before .before .before .before .pre .1 .1 .0 .values-room, c .before .before .before .before .before .before .before .before .before .before .before .before .before .before .before .before .before .before .before .before .pre .1 .1 .1 .0 .1, omega (arith, c .before .before .before .find-cell .ensures .found _ (c .before .cell .given .1) .1, c .before .before .before .before .before .before .before .before .before .before .before .before .before .before .before .before .before .before .before .before .pre .1 .0 .few-codes))
+
+print-cell-requires : tie.Need-print-cell-requires
+print-cell-requires c κs = search needs
+
+returns-2 : tie.Need-returns-2
+returns-2 c = search needs
+
+pub explain-cells-spec : {M : Type 1} → statement M
+explain-cells-spec =
+    tie.close
+    (tie.spec
+    slice-aggregate-ask-cells
+    ask-cells-requires
+    slice-aggregate-find-cell
+    find-cell-requires
+    enum-known-cell
+    enum-told
+    explain-goto-requires
+    returns
+    mul-print-cell
+    array-read-print-cell
+    demand-of-requires
+    print-cell-requires
+    returns-2)

@@ -1,0 +1,103 @@
+use mathlib.Core.Path.{refl}
+use native.Mathlib.Omega.{arith}
+use borrow.Author.Needs.{needs}
+use Rattle.judge.proofs.StateLaws.{within, in-room, few-items, readable-of, ready-of}
+use Rattle.explain_tables.proofs.explain_state.Statement.{statement}
+use Rattle.explain_tables.proofs.explain_state.Tie as tie
+
+explain-lookaheads-requires : tie.Need-explain-lookaheads-requires
+explain-lookaheads-requires c κs = c .before .before .before .before .before .before .before .before .before .before .before .before .before .before .before .pre
+
+returns : tie.Need-returns
+returns c = search needs
+
+add-count : tie.Need-add-count
+add-count c = search needs
+
+slice-aggregate-close-state : tie.Need-slice-aggregate-close-state
+slice-aggregate-close-state c = search needs
+
+slice-aggregate-close-state-2 : tie.Need-slice-aggregate-close-state-2
+slice-aggregate-close-state-2 c = search needs
+
+close-state-requires : tie.Need-close-state-requires
+close-state-requires c κs = let S = c .before .before .before .before .before .before .before .before .before .before .before .before .before .before .before .before .before .pre .0 in let C = c .before .before .before .before .before .before .before .before .before .before .before .before .before .before .before .before .before .pre .1 .0 in let low = c .before .before .before .before .before .before .before .before .before .before .before .before .before .before .before .before .before .pre .1 .1 .2 in (S .shaped, ((within _ _, S .few-rules, C .few-codes), ((S .some-lines .room, S .codes-room), (S .some-lines .item-low, ((C .nul-room, C .fst-room, C .starts-room, C .through-room), (C .prepared, (refl, refl)))))))
+
+slice-aggregate-flag-moves : tie.Need-slice-aggregate-flag-moves
+slice-aggregate-flag-moves c = search needs
+
+slice-aggregate-flag-moves-2 : tie.Need-slice-aggregate-flag-moves-2
+slice-aggregate-flag-moves-2 c = search needs
+
+flag-moves-requires : tie.Need-flag-moves-requires
+flag-moves-requires c κs = let S = c .before .before .before .before .before .before .before .before .before .before .before .before .before .before .before .before .before .before .before .before .before .before .pre .0 in let C = c .before .before .before .before .before .before .before .before .before .before .before .before .before .before .before .before .before .before .before .before .before .before .pre .1 .0 in let low = c .before .before .before .before .before .before .before .before .before .before .before .before .before .before .before .before .before .before .before .before .before .before .pre .1 .1 .2 in (readable-of S C (c .before .before .before .before .close-state .kept .1 .1 .1 .1 .1 .1 .1 .1 .1 .1 .1 .1 .0), (low, refl))
+
+slice-aggregate-explain-items : tie.Need-slice-aggregate-explain-items
+slice-aggregate-explain-items c = search needs
+
+slice-aggregate-explain-items-2 : tie.Need-slice-aggregate-explain-items-2
+slice-aggregate-explain-items-2 c = search needs
+
+explain-items-requires : tie.Need-explain-items-requires
+explain-items-requires c κs = let S = c .before .before .before .before .before .before .before .before .before .before .before .before .before .before .before .before .before .before .before .before .before .before .before .before .before .before .before .pre .0 in let C = c .before .before .before .before .before .before .before .before .before .before .before .before .before .before .before .before .before .before .before .before .before .before .before .before .before .before .before .pre .1 .0 in let low = c .before .before .before .before .before .before .before .before .before .before .before .before .before .before .before .before .before .before .before .before .before .before .before .before .before .before .before .pre .1 .1 .2 in (readable-of S C (c .before .before .before .before .before .before .before .before .before .close-state .kept .1 .1 .1 .1 .1 .1 .1 .1 .1 .1 .1 .1 .0), (S .cells-room, ((in-room low (S .named-room), c .before .before .before .before .flag-moves .ensures .0), (low, S .few-rules, S .few-strings, in-room (omega (arith, S .few-strings)) (S .entries-room)))))
+
+returns-2 : tie.Need-returns-2
+returns-2 c = search needs
+
+slice-aggregate-explain-conflict : tie.Need-slice-aggregate-explain-conflict
+slice-aggregate-explain-conflict c = search needs
+
+slice-aggregate-explain-conflict-2 : tie.Need-slice-aggregate-explain-conflict-2
+slice-aggregate-explain-conflict-2 c = search needs
+
+slice-aggregate-explain-conflict-3 : tie.Need-slice-aggregate-explain-conflict-3
+slice-aggregate-explain-conflict-3 c = search needs
+
+explain-conflict-requires : tie.Need-explain-conflict-requires
+explain-conflict-requires c κs = let S = c .before .before .before .before .before .before .before .before .before .before .before .before .before .before .before .before .before .before .before .before .before .before .before .before .before .before .before .before .before .pre .0 in let C = c .before .before .before .before .before .before .before .before .before .before .before .before .before .before .before .before .before .before .before .before .before .before .before .before .before .before .before .before .before .pre .1 .0 in let low = c .before .before .before .before .before .before .before .before .before .before .before .before .before .before .before .before .before .before .before .before .before .before .before .before .before .before .before .before .before .pre .1 .1 .2 in (readable-of S C (c .before .before .before .before .before .before .before .before .before .before .before .close-state .kept .1 .1 .1 .1 .1 .1 .1 .1 .1 .1 .1 .1 .0), (ready-of S C, ((few-items (S .few-rules) (S .few-strings), low, S .codes-room), (c .before .before .before .before .before .before .before .before .before .before .before .close-state .kept .1 .1 .1 .1 .1 .1 .1 .1 .1 .1 .1 .1 .1 .0, c .before .before .before .before .before .before .flag-moves .ensures .0))))
+
+returns-3 : tie.Need-returns-3
+returns-3 c = search needs
+
+slice-aggregate-explain-cells : tie.Need-slice-aggregate-explain-cells
+slice-aggregate-explain-cells c = search needs
+
+slice-aggregate-explain-cells-2 : tie.Need-slice-aggregate-explain-cells-2
+slice-aggregate-explain-cells-2 c = search needs
+
+slice-aggregate-explain-cells-3 : tie.Need-slice-aggregate-explain-cells-3
+slice-aggregate-explain-cells-3 c = search needs
+
+explain-cells-requires : tie.Need-explain-cells-requires
+explain-cells-requires c κs = let S = c .before .before .before .before .before .before .before .before .before .before .before .before .before .before .before .before .before .before .before .before .before .before .before .before .before .before .before .before .before .pre .0 in let C = c .before .before .before .before .before .before .before .before .before .before .before .before .before .before .before .before .before .before .before .before .before .before .before .before .before .before .before .before .before .pre .1 .0 in let low = c .before .before .before .before .before .before .before .before .before .before .before .before .before .before .before .before .before .before .before .before .before .before .before .before .before .before .before .before .before .pre .1 .1 .2 in (readable-of S C (c .before .before .before .before .before .before .before .before .before .before .before .close-state .kept .1 .1 .1 .1 .1 .1 .1 .1 .1 .1 .1 .1 .0), (ready-of S C, (S .cells-room, ((few-items (S .few-rules) (S .few-strings), low, S .codes-room), (c .before .before .before .before .before .before .before .before .before .before .before .close-state .kept .1 .1 .1 .1 .1 .1 .1 .1 .1 .1 .1 .1 .1 .0, c .before .before .before .before .before .before .flag-moves .ensures .0)))))
+
+returns-4 : tie.Need-returns-4
+returns-4 c = search needs
+
+pub explain-state-spec : {M : Type 1} → statement M
+explain-state-spec =
+    tie.close
+    (tie.spec
+    explain-lookaheads-requires
+    returns
+    add-count
+    slice-aggregate-close-state
+    slice-aggregate-close-state-2
+    close-state-requires
+    slice-aggregate-flag-moves
+    slice-aggregate-flag-moves-2
+    flag-moves-requires
+    slice-aggregate-explain-items
+    slice-aggregate-explain-items-2
+    explain-items-requires
+    returns-2
+    slice-aggregate-explain-conflict
+    slice-aggregate-explain-conflict-2
+    slice-aggregate-explain-conflict-3
+    explain-conflict-requires
+    returns-3
+    slice-aggregate-explain-cells
+    slice-aggregate-explain-cells-2
+    slice-aggregate-explain-cells-3
+    explain-cells-requires
+    returns-4)

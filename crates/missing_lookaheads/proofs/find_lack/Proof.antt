@@ -1,0 +1,75 @@
+-- The goal, then state by state.
+use Prim.Native.Nat.{_+_, _-_, _≤_}
+use native.Mathlib.Omega.{arith}
+use borrow.Author.Needs.{needs}
+use Rattle.missing_lookaheads.proofs.find_lack.Statement.{statement}
+use Rattle.missing_lookaheads.proofs.find_lack.Tie as tie
+
+abbrev Inv-loop : tie.InvT-loop
+Inv-loop items entries kernels links lookaheads kinds values gotos named uses nul fst starts through rules strings lines codes states q p₀ p = (1 ≤ p) × (p ≤ states + 1)
+
+abbrev μ-loop : tie.MeasureT-loop
+μ-loop items entries kernels links lookaheads kinds values gotos named uses nul fst starts through rules strings lines codes states q p₀ p = states + 1 - p
+
+add-find-goal : tie.Need-add-find-goal Inv-loop μ-loop
+add-find-goal c = search needs
+
+find-goal-requires : tie.Need-find-goal-requires Inv-loop μ-loop
+find-goal-requires c κs = let S = c .before .before .before .before .before .before .before .before .before .before .before .before .before .before .pre .0 in (S .some-lines, (c .before .before .before .before .before .before .before .before .before .before .before .before .before .before .pre .1 .0 .linked, (c .before .before .before .before .before .before .before .before .before .before .before .before .before .before .pre .1 .1 .2, c .before .before .before .before .before .before .before .before .before .before .before .before .before .before .pre .1 .1 .0, S .few-rules, S .codes-room, omega (arith, S .entries-room))))
+
+enum-told : tie.Need-enum-told Inv-loop μ-loop
+enum-told c = search needs
+
+enum-told-2 : tie.Need-enum-told-2 Inv-loop μ-loop
+enum-told-2 c = search needs
+
+returns : tie.Need-returns Inv-loop μ-loop
+returns c = (c .before .before .find-goal .ensures .0, λ g t G U. c .before .before .find-goal .ensures .1 g t _ _ _ _ _ _ _ (c .before .before .before .before .before .before .before .before .before .before .before .before .before .before .before .before .before .pre .0 .some-strings) (G .held))
+
+loop-holds : tie.Need-loop-holds Inv-loop μ-loop
+loop-holds c = (omega arith, omega arith)
+
+find-from-requires : tie.Need-find-from-requires Inv-loop μ-loop
+find-from-requires c κs = (c .before .before .before .before .before .before .before .before .before .before .before .before .before .before .before .before .before .before .before .pre .0, (c .before .before .before .before .before .before .before .before .before .before .before .before .before .before .before .before .before .before .before .pre .1 .0, (c .before .loop .inv .0, omega (arith, c .before .before .before .before .before .before .before .before .before .before .before .before .before .before .before .before .before .before .before .pre .1 .1 .1), c .before .before .before .before .before .before .before .before .before .before .before .before .before .before .before .before .before .before .before .pre .1 .1 .2)))
+
+enum-told-3 : tie.Need-enum-told-3 Inv-loop μ-loop
+enum-told-3 c = search needs
+
+enum-told-4 : tie.Need-enum-told-4 Inv-loop μ-loop
+enum-told-4 c = search needs
+
+returns-2 : tie.Need-returns-2 Inv-loop μ-loop
+returns-2 c = (c .before .before .find-from .ensures .0, λ g t G U. c .before .before .find-from .ensures .1 g t _ G U)
+
+add-p : tie.Need-add-p Inv-loop μ-loop
+add-p c = omega (arith, c .before .before .before .loop-test .taken, c .before .before .before .before .before .before .before .before .before .before .before .before .before .before .before .before .before .before .before .before .before .before .pre .1 .1 .1)
+
+loop-less : tie.Need-loop-less Inv-loop μ-loop
+loop-less c = search needs
+
+loop-again : tie.Need-loop-again Inv-loop μ-loop
+loop-again c = (omega arith, omega arith)
+
+returns-3 : tie.Need-returns-3 Inv-loop μ-loop
+returns-3 c = (tt, λ g t G U. tt)
+
+pub find-lack-spec : {M : Type 1} → statement M
+find-lack-spec =
+    tie.close
+    (tie.spec
+    Inv-loop
+    μ-loop
+    add-find-goal
+    find-goal-requires
+    enum-told
+    enum-told-2
+    returns
+    loop-holds
+    find-from-requires
+    enum-told-3
+    enum-told-4
+    returns-2
+    add-p
+    loop-less
+    loop-again
+    returns-3)

@@ -1,0 +1,37 @@
+-- Reply 8 at a state: "a kernel context misses an inclusion", with the line, the code and what asks it.
+use Prim.Native.Nat.{ℕ, zero, _+_, _*_, _≤_, _<_}
+use mathlib.Core.Path.{_≡_}
+use mathlib.Core.List.{List}
+use Rattle.language.specs.Grammar.{Grammar}
+use Rattle.leftcorner.specs.Table.{Table}
+use Rattle.leftcorner.specs.Construction.{entryItem, EntryAt}
+use Rattle.fixpoint.specs.Flags.{On, Off}
+use Rattle.memory.specs.Memory.{stateAt, itemAt, dotAt}
+use Rattle.inclusions.specs.Included.{Includes}
+use Rattle.missing_lookaheads.specs.declared.Lack.{Lack}
+
+-- line l is of q, and code c is none of its lookaheads
+pub record LackLine (kernels lookaheads : List ℕ) (lines codes q l c : ℕ) : Type 0 where
+  pub low : l < lines
+  pub state : stateAt kernels l ≡ q
+  pub code-low : c < codes
+  pub off : Off lookaheads (l * 64 + c)
+
+abbrev pub LackAt : List ℕ → List ℕ → ℕ → ℕ → ℕ → Lack → Type 0
+LackAt kernels lookaheads lines codes q (Lack.Code l c p) = LackLine kernels lookaheads lines codes q l c
+LackAt kernels lookaheads lines codes q Lack.Nothing = Unit {0}
+
+-- the flag of such a line and code is set in `asked`; nothing where all that are set stand in their lines
+pub record LackIn (kernels lookaheads asked : List ℕ) (lines codes q source : ℕ) (r : Lack) : Type 0 where
+  pub code : (l c p : ℕ) → r ≡ Lack.Code l c p → (p ≡ source) × LackLine kernels lookaheads lines codes q l c × On asked (l * 64 + c)
+  pub none : r ≡ Lack.Nothing → (l : ℕ) → l < lines → stateAt kernels l ≡ q → (c : ℕ) → c < codes → On asked (l * 64 + c) → On lookaheads (l * 64 + c)
+
+-- code c is asked of state q's item i with dot k: "The goal's entry context includes 0.", or by the items of state p
+pub data AskedFrom (g : Grammar) (t : Table) (F : List ℕ → ℕ → ℕ → Type 0) : ℕ → ℕ → ℕ → ℕ → ℕ → Type 0 where
+  by-goal : {q : ℕ} {γ : List ℕ} → EntryAt g t 1 q γ → AskedFrom g t F zero q (entryItem g t 1) zero zero
+  by-state : {p q i k c : ℕ} → 1 ≤ p → Includes g t F p q i k c → AskedFrom g t F p q i k c
+
+-- what is named is so
+abbrev pub LackIs : (g : Grammar) (t : Table) (F : List ℕ → ℕ → ℕ → Type 0) → List ℕ → ℕ → Lack → Type 0
+LackIs g t F kernels q (Lack.Code l c p) = AskedFrom g t F p q (itemAt kernels l) (dotAt kernels l) c
+LackIs g t F kernels q Lack.Nothing = Unit {0}

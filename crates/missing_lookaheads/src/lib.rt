@@ -1,0 +1,189 @@
+// Which lookahead a kernel line of a state lacks.
+use fixpoint::Found;
+ghost use mathlib.Core.Path.{_≡_};
+ghost use mathlib.Core.List.{List};
+ghost use Prim.Native.Nat.{ℕ, _+_, _*_, _<_, _≤_};
+ghost use lib.ListN.{length};
+ghost use Rattle.language.specs.Grammar.{Grammar};
+ghost use Rattle.leftcorner.specs.Table.{Table};
+ghost use Rattle.fixpoint.specs.Flags.{On};
+ghost use Rattle.memory.specs.Held.{Held};
+ghost use Rattle.kernel_lines.specs.Lines.{Lines, Linked};
+ghost use Rattle.closure.specs.FirstBy.{FirstBy};
+ghost use Rattle.entry_list.specs.Uses.{HoldsUses};
+ghost use Rattle.details.specs.Misses.{Misses};
+ghost use Rattle.judge.specs.Given.{Sized, Computed, Given};
+ghost use Rattle.missing_lookaheads.specs.Lacks.{LackIn, LackAt, LackIs};
+
+// A kernel line, a code that it lacks, and the state whose items ask it; 0 where it is asked of the goal's entry.
+pub enum Lack {
+    Code(usize, usize, usize),
+    Nothing,
+}
+
+fn wide(x: u8) -> usize
+    ensures { λ r. ⌜ (r ≡ x) × (r < 256) ⌝ }
+{
+    x as usize
+}
+
+// The first code that is asked of line l and not one of its lookaheads.
+fn find_code(asked: &[u8], lookaheads: &[u8], lines: usize, l: usize, codes: usize) -> Found
+    requires { ⌜ (l < lines) × (lines ≤ 1023) × (codes ≤ 64) × (lines * 64 ≤ length (now asked)) × (lines * 64 ≤ length (now lookaheads)) ⌝ }
+    ensures { λ r. ⌜ Misses (λ c. On (now (asked .entry)) (l * 64 + c)) (λ c. On (now (lookaheads .entry)) (l * 64 + c)) 0 codes r ⌝ }
+{
+    let mut c = 0;
+    while c < codes {
+        if asked[l * 64 + c] == 0 {
+            c += 1;
+            continue;
+        }
+        if lookaheads[l * 64 + c] == 0 {
+            return Found::At(c);
+        }
+        c += 1;
+    }
+    Found::Nothing
+}
+
+// The last line of q that lacks a code that is asked of it; `asked` has those of each line that `source` asks.
+fn find_asked(
+    kernels: &[u8],
+    links: &[usize],
+    lookaheads: &[u8],
+    asked: &[u8],
+    lines: usize,
+    count: usize,
+    codes: usize,
+    q: usize,
+    source: usize,
+) -> Lack
+    requires { ⌜ Lines (now kernels) lines count ⌝ }
+    requires { ⌜ Linked (now kernels) (now links) lines ⌝ }
+    requires { ⌜ (q < 256) × (codes ≤ 64) × (lines * 64 ≤ length (now asked)) × (lines * 64 ≤ length (now lookaheads)) ⌝ }
+    ensures { λ r. ⌜ LackIn (now (kernels .entry)) (now (lookaheads .entry)) (now (asked .entry)) lines codes q source r ⌝ }
+{
+    let mut p = kernel_lines::last_line(kernels, links, lines, q);
+    while 0 < p {
+        let l = p - 1;
+        let found = find_code(asked, lookaheads, lines, l, codes);
+        if let Found::At(c) = found {
+            return Lack::Code(l, c, source);
+        }
+        p = kernel_lines::line_before(kernels, links, lines, l);
+    }
+    Lack::Nothing
+}
+
+// A lookahead that q lacks and that the items of p ask.
+fn find_from(
+    items: &[u8],
+    entries: &[u8],
+    kernels: &[u8],
+    links: &[usize],
+    lookaheads: &[u8],
+    kinds: &[u8],
+    values: &[u8],
+    gotos: &[u8],
+    named: &[u8],
+    uses: &[u8],
+    nul: &[u8],
+    fst: &[u8],
+    starts: &[u8],
+    through: &[u8],
+    rules: usize,
+    strings: usize,
+    lines: usize,
+    codes: usize,
+    p: usize,
+    q: usize,
+) -> Lack
+    requires { ⌜ Sized (now items) (now entries) (now kernels) (now lookaheads) (now kinds) (now values) (now gotos) (now named) rules strings lines ⌝ }
+    requires { ⌜ Computed (now items) (now kernels) (now links) (now uses) (now nul) (now fst) (now starts) (now through) rules lines codes ⌝ }
+    requires { ⌜ (1 ≤ p) × (p < 256) × (q < 256) ⌝ }
+    ensures { λ r. ⌜ LackAt (now (kernels .entry)) (now (lookaheads .entry)) lines codes q r ⌝ }
+    ensures { λ r. ⌜ ((g : Grammar) (t : Table) (states : ℕ) → Given g t (now (items .entry)) (now (entries .entry)) (now (kernels .entry)) (now (lookaheads .entry)) (now (kinds .entry)) (now (values .entry)) (now (gotos .entry)) (now (named .entry)) rules strings lines states codes → HoldsUses (now (uses .entry)) g t → LackIs g t (FirstBy codes (now (nul .entry)) (now (fst .entry))) (now (kernels .entry)) q r) ⌝ }
+{
+    let count = rules + strings;
+    let mut present = [0u8; 64];
+    let mut follow = [0u8; 4096];
+    let mut asked = [0u8; 65536];
+    closure::close_state(items, count, rules, kernels, lookaheads, lines, p, codes, nul, fst, starts, through, &mut present, &mut follow);
+    inclusions::add_inclusions(items, kernels, links, lookaheads, kinds, values, gotos, entries, uses, nul, fst, &present, &follow, count, rules, lines, codes, p, &mut asked);
+    find_asked(kernels, links, lookaheads, &asked, lines, count, codes, q, p)
+}
+
+// Code 0, which the line of the goal's entry lacks where q is its state.
+fn find_goal(
+    entries: &[u8],
+    kernels: &[u8],
+    links: &[usize],
+    lookaheads: &[u8],
+    rules: usize,
+    lines: usize,
+    count: usize,
+    codes: usize,
+    q: usize,
+) -> Lack
+    requires { ⌜ Lines (now kernels) lines count ⌝ }
+    requires { ⌜ Linked (now kernels) (now links) lines ⌝ }
+    requires { ⌜ (q < 256) × (1 ≤ codes) × (rules ≤ 127) × (lines * 64 ≤ length (now lookaheads)) × (2 ≤ length (now entries)) ⌝ }
+    ensures { λ r. ⌜ LackAt (now (kernels .entry)) (now (lookaheads .entry)) lines codes q r ⌝ }
+    ensures { λ r. ⌜ ((g : Grammar) (t : Table) (items kinds values gotos nul fst : List ℕ) (strings : ℕ) → 1 ≤ strings → Held g t items (now (entries .entry)) (now (kernels .entry)) (now (lookaheads .entry)) kinds values gotos rules strings lines → LackIs g t (FirstBy codes nul fst) (now (kernels .entry)) q r) ⌝ }
+{
+    if wide(entries[1]) != q {
+        return Lack::Nothing;
+    }
+    let found = kernel_lines::find_line(kernels, links, lines, count, q, rules + 1, 0);
+    let Found::At(l) = found else {
+        return Lack::Nothing;
+    };
+    if lookaheads[l * 64] != 0 {
+        return Lack::Nothing;
+    }
+    Lack::Code(l, 0, 0)
+}
+
+// A lookahead that a line of q lacks.
+pub fn find_lack(
+    items: &[u8],
+    entries: &[u8],
+    kernels: &[u8],
+    links: &[usize],
+    lookaheads: &[u8],
+    kinds: &[u8],
+    values: &[u8],
+    gotos: &[u8],
+    named: &[u8],
+    uses: &[u8],
+    nul: &[u8],
+    fst: &[u8],
+    starts: &[u8],
+    through: &[u8],
+    rules: usize,
+    strings: usize,
+    lines: usize,
+    codes: usize,
+    states: usize,
+    q: usize,
+) -> Lack
+    requires { ⌜ Sized (now items) (now entries) (now kernels) (now lookaheads) (now kinds) (now values) (now gotos) (now named) rules strings lines ⌝ }
+    requires { ⌜ Computed (now items) (now kernels) (now links) (now uses) (now nul) (now fst) (now starts) (now through) rules lines codes ⌝ }
+    requires { ⌜ (1 ≤ codes) × (states ≤ 255) × (q < 256) ⌝ }
+    ensures { λ r. ⌜ LackAt (now (kernels .entry)) (now (lookaheads .entry)) lines codes q r ⌝ }
+    ensures { λ r. ⌜ ((g : Grammar) (t : Table) → Given g t (now (items .entry)) (now (entries .entry)) (now (kernels .entry)) (now (lookaheads .entry)) (now (kinds .entry)) (now (values .entry)) (now (gotos .entry)) (now (named .entry)) rules strings lines states codes → HoldsUses (now (uses .entry)) g t → LackIs g t (FirstBy codes (now (nul .entry)) (now (fst .entry))) (now (kernels .entry)) q r) ⌝ }
+{
+    let goal = find_goal(entries, kernels, links, lookaheads, rules, lines, rules + strings, codes, q);
+    let Lack::Nothing = goal else {
+        return goal;
+    };
+    let mut p = 1;
+    while p <= states {
+        let lack = find_from(items, entries, kernels, links, lookaheads, kinds, values, gotos, named, uses, nul, fst, starts, through, rules, strings, lines, codes, p, q);
+        let Lack::Nothing = lack else {
+            return lack;
+        };
+        p += 1;
+    }
+    Lack::Nothing
+}
