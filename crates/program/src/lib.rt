@@ -158,11 +158,6 @@ pub fn print_session(number: u64, place: u64, rules: u64, units: u64, listing: &
     print_bytes(listing);
 }
 
-// Writes a text to standard output.
-pub fn print_text(text: &[u8]) {
-    io::write_all(STDOUT_FILENO, text);
-}
-
 // Writes a text and a number to standard output.
 pub fn print_count(text: &[u8], n: usize) {
     print_text(text);
