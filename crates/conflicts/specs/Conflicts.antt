@@ -31,6 +31,11 @@ pub record AskedAs (g : Grammar) (t : Table) (F : List ℕ → ℕ → ℕ → T
   pub asked : Asked g t F q c action
   pub number : demandOf action ≡ v
 
+-- the code that is named
+abbrev pub CodeBelow : ℕ → Conflict → Type 0
+CodeBelow codes (Conflict.On c a b) = c < codes
+CodeBelow codes Conflict.Nothing = Unit {0}
+
 -- two actions that are asked of one cell, or none where they agree
 abbrev pub ConflictIs : (g : Grammar) (t : Table) (F : List ℕ → ℕ → ℕ → Type 0) → ℕ → Conflict → Type 0
 ConflictIs g t F q (Conflict.On c a b) = AskedAs g t F q c a × AskedAs g t F q c b × (b ≡ a → ⊥)

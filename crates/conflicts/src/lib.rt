@@ -14,7 +14,7 @@ ghost use Rattle.moves.specs.Flags.{HoldsMoves};
 ghost use Rattle.items.specs.Layout.{leftAt};
 ghost use Rattle.carried.specs.Rows.{Ready};
 ghost use Rattle.cells.specs.Demands.{CodeAsks, ItemAsks, LinesAsk, RuleAsks, RulesAsk};
-ghost use Rattle.conflicts.specs.Conflicts.{Sole, Other, CellAsks, ConflictIs};
+ghost use Rattle.conflicts.specs.Conflicts.{Sole, Other, CellAsks, CodeBelow, ConflictIs};
 
 // The lowest code whose cell is asked to hold two actions, and both, numbered as `cells` does.
 pub enum Conflict {
@@ -36,7 +36,7 @@ fn is_other(demand: usize, other: usize) -> bool
 }
 
 // What item i with dot k asks of the cell for code c; 0 for nothing.
-fn item_demand(
+pub fn item_demand(
     items: &[u8],
     nul: &[u8],
     fst: &[u8],
@@ -278,6 +278,7 @@ pub fn find_conflict(
     requires { ⌜ Ready (now items) (now nul) (now fst) count codes ⌝ }
     requires { ⌜ (count < 256) × (q < 256) × (lines * 64 ≤ length (now lookaheads)) ⌝ }
     requires { ⌜ (length (now follow) ≡ 4096) × (length (now moves) ≡ 128) ⌝ }
+    ensures { λ r. ⌜ CodeBelow codes r ⌝ }
     ensures { λ r. ⌜ ((g : Grammar) (t : Table) (entries kinds values gotos : List ℕ) (strings : ℕ) → Held g t (now (items .entry)) entries (now (kernels .entry)) (now (lookaheads .entry)) kinds values gotos rules strings lines → codes ≡ suc (g .terminals) → HoldsClosure g t (FirstBy codes (now (nul .entry)) (now (fst .entry))) q (now (present .entry)) (now (follow .entry)) → HoldsMoves g t q (now (moves .entry)) → ConflictIs g t (FirstBy codes (now (nul .entry)) (now (fst .entry))) q r) ⌝ }
 {
     let mut c = 0;

@@ -25,11 +25,11 @@ cell-demand-requires-2 : tie.Need-cell-demand-requires-2 Inv-loop μ-loop
 cell-demand-requires-2 c κs = (c .before .before .before .before .before .before .before .before .before .before .before .before .pre .0, (c .before .before .before .before .before .before .before .before .before .before .before .before .pre .1 .0, ((c .before .before .before .before .before .before .before .before .before .before .before .before .pre .1 .1 .0 .0, c .before .before .before .before .before .before .before .before .before .before .before .before .pre .1 .1 .0 .1, c .before .before .before .before .before .before .before .before .before .before .before .before .pre .1 .1 .0 .2, c .before .loop-test .taken), c .before .before .before .before .before .before .before .before .before .before .before .before .pre .1 .1 .1)))
 
 returns : tie.Need-returns Inv-loop μ-loop
-returns c = λ g t entries kinds values gotos strings H e C M. (
+returns c = (c .before .before .before .loop-test .taken, λ g t entries kinds values gotos strings H e C M. (
   asked-as g t H e C M (first-asked (c .before .before .cell-demand .ensures) (c .before .cell-demand2 .ensures) (c .if1 .taken)),
   asked-as g t H e C M (c .before .cell-demand2 .ensures .asked (c .if1 .taken)),
   c .before .cell-demand2 .ensures .differs (c .if1 .taken),
-)
+))
 
 add-c : tie.Need-add-c Inv-loop μ-loop
 add-c c = search needs
@@ -41,7 +41,7 @@ loop-again : tie.Need-loop-again Inv-loop μ-loop
 loop-again c = (omega arith, below-more _ (c .before .before .before .before .loop .c) (c .before .before .before .before .loop .inv .1) (one-asked (c .before .before .cell-demand .ensures) (c .before .cell-demand2 .ensures) (c .if1 .left)))
 
 returns-2 : tie.Need-returns-2 Inv-loop μ-loop
-returns-2 c = λ g t entries kinds values gotos strings H e C M. all-agree g t H e C M (λ d l. c .before .loop .inv .1 d (omega (arith, l)))
+returns-2 c = (tt, λ g t entries kinds values gotos strings H e C M. all-agree g t H e C M (λ d l. c .before .loop .inv .1 d (omega (arith, l))))
 
 pub find-conflict-spec : {M : Type 1} → statement M
 find-conflict-spec =

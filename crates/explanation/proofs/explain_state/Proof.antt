@@ -2,8 +2,8 @@ use mathlib.Core.Path.{refl}
 use native.Mathlib.Omega.{arith}
 use borrow.Author.Needs.{needs}
 use Rattle.judge.proofs.StateLaws.{within, in-room, few-items, readable-of, ready-of}
-use Rattle.explain_tables.proofs.explain_state.Statement.{statement}
-use Rattle.explain_tables.proofs.explain_state.Tie as tie
+use Rattle.explanation.proofs.explain_state.Statement.{statement}
+use Rattle.explanation.proofs.explain_state.Tie as tie
 
 explain-lookaheads-requires : tie.Need-explain-lookaheads-requires
 explain-lookaheads-requires c κs = c .before .before .before .before .before .before .before .before .before .before .before .before .before .before .before .pre

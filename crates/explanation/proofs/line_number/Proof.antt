@@ -1,8 +1,8 @@
 use Prim.Native.Nat.{_+_, _-_, _≤_}
 use native.Mathlib.Omega.{arith}
 use borrow.Author.Needs.{needs}
-use Rattle.explain_tables.proofs.line_number.Statement.{statement}
-use Rattle.explain_tables.proofs.line_number.Tie as tie
+use Rattle.explanation.proofs.line_number.Statement.{statement}
+use Rattle.explanation.proofs.line_number.Tie as tie
 
 abbrev Inv-loop : tie.InvT-loop
 Inv-loop book place n₀ i₀ n i = (n ≤ i + 1) × (i ≤ place)

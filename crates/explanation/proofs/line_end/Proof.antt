@@ -2,8 +2,8 @@ use Prim.Native.Nat.{_-_, _≤_}
 use lib.ListN.{length}
 use native.Mathlib.Omega.{arith}
 use borrow.Author.Needs.{needs}
-use Rattle.explain_tables.proofs.line_end.Statement.{statement}
-use Rattle.explain_tables.proofs.line_end.Tie as tie
+use Rattle.explanation.proofs.line_end.Statement.{statement}
+use Rattle.explanation.proofs.line_end.Tie as tie
 
 abbrev Inv-loop : tie.InvT-loop
 Inv-loop book place i₀ i = (place ≤ i) × (i ≤ length book)

@@ -1,7 +1,7 @@
 use native.Mathlib.Omega.{arith}
 use borrow.Author.Needs.{needs}
-use Rattle.explain_tables.proofs.explain_goto.Statement.{statement}
-use Rattle.explain_tables.proofs.explain_goto.Tie as tie
+use Rattle.explanation.proofs.explain_goto.Statement.{statement}
+use Rattle.explanation.proofs.explain_goto.Tie as tie
 
 find-goto-requires : tie.Need-find-goto-requires
 find-goto-requires c κs = c .before .before .pre

@@ -3,8 +3,8 @@ use native.Mathlib.Omega.{arith}
 use borrow.Author.Needs.{needs}
 use Rattle.judge.proofs.StateLaws.{within}
 use Rattle.judge.proofs.PassLaws.{shaped-less, few-codes-of}
-use Rattle.explain_tables.proofs.explain_memory.Statement.{statement}
-use Rattle.explain_tables.proofs.explain_memory.Tie as tie
+use Rattle.explanation.proofs.explain_memory.Statement.{statement}
+use Rattle.explanation.proofs.explain_memory.Tie as tie
 
 explain-entries-requires : tie.Need-explain-entries-requires
 explain-entries-requires c κs = let S = c .before .before .before .before .before .before .before .before .before .pre .0 in (S .shaped, (S .few-rules, S .some-strings, S .few-strings))

@@ -3,8 +3,8 @@ use borrow.Author.Needs.{needs}
 use Rattle.details.specs.Entries.{BareIs}
 use mathlib.Core.Path.{subst}
 use Prim.Native.Nat.{_+_}
-use Rattle.explain_tables.proofs.explain_entries.Statement.{statement}
-use Rattle.explain_tables.proofs.explain_entries.Tie as tie
+use Rattle.explanation.proofs.explain_entries.Statement.{statement}
+use Rattle.explanation.proofs.explain_entries.Tie as tie
 
 find-entry-fault-requires : tie.Need-find-entry-fault-requires
 find-entry-fault-requires c κs = search needs

@@ -1,8 +1,8 @@
 use Prim.Native.Nat.{_-_}
 use native.Mathlib.Omega.{arith}
 use borrow.Author.Needs.{needs}
-use Rattle.explain_tables.proofs.print_symbols.Statement.{statement}
-use Rattle.explain_tables.proofs.print_symbols.Tie as tie
+use Rattle.explanation.proofs.print_symbols.Statement.{statement}
+use Rattle.explanation.proofs.print_symbols.Tie as tie
 
 abbrev Inv-loop : tie.InvT-loop
 Inv-loop items count i from to k₀ arg k = Unit {0}

@@ -1,8 +1,8 @@
 use mathlib.Core.Path.{refl}
 use native.Mathlib.Omega.{arith}
 use borrow.Author.Needs.{needs}
-use Rattle.explain_tables.proofs.explain_cells.Statement.{statement}
-use Rattle.explain_tables.proofs.explain_cells.Tie as tie
+use Rattle.explanation.proofs.explain_cells.Statement.{statement}
+use Rattle.explanation.proofs.explain_cells.Tie as tie
 
 slice-aggregate-ask-cells : tie.Need-slice-aggregate-ask-cells
 slice-aggregate-ask-cells c = search needs
@@ -40,6 +40,12 @@ demand-of-requires c κs = (c .before .before .before .before .before .before .b
 print-cell-requires : tie.Need-print-cell-requires
 print-cell-requires c κs = search needs
 
+print-line-demands-requires : tie.Need-print-line-demands-requires
+print-line-demands-requires c κs = let p = c .before .before .before .before .before .before .before .before .before .before .before .before .before .before .before .before .before .before .before .before .before .before .pre in (p .0 .lined .some-lines, (p .1 .0, (p .1 .1 .1 .0 .0, p .1 .1 .1 .0 .2, omega (arith, c .before .before .before .before .before .find-cell .ensures .found _ (c .before .before .before .cell .given .1) .1, p .1 .0 .few-codes))))
+
+print-rule-demands-requires : tie.Need-print-rule-demands-requires
+print-rule-demands-requires c κs = let p = c .before .before .before .before .before .before .before .before .before .before .before .before .before .before .before .before .before .before .before .before .before .before .before .pre in (p .1 .0, ((p .0 .few, p .1 .1 .1 .0 .0, omega (arith, c .before .before .before .before .before .before .find-cell .ensures .found _ (c .before .before .before .before .cell .given .1) .1, p .1 .0 .few-codes)), (p .0 .room, p .1 .1 .1 .1 .0)))
+
 returns-2 : tie.Need-returns-2
 returns-2 c = search needs
 
@@ -59,4 +65,6 @@ explain-cells-spec =
     array-read-print-cell
     demand-of-requires
     print-cell-requires
+    print-line-demands-requires
+    print-rule-demands-requires
     returns-2)

@@ -1,0 +1,84 @@
+use borrow.Author.Needs.{needs}
+use Rattle.explanation.proofs.explain_lookaheads.Statement.{statement}
+use Rattle.explanation.proofs.explain_lookaheads.Tie as tie
+
+add-count : tie.Need-add-count
+add-count c = search needs
+
+find-lack-requires : tie.Need-find-lack-requires
+find-lack-requires c κs = c .before .before .before .before .before .before .before .before .before .before .before .before .before .before .pre
+
+enum-known-lack : tie.Need-enum-known-lack
+enum-known-lack c = search needs
+
+enum-told : tie.Need-enum-told
+enum-told c = search needs
+
+returns : tie.Need-returns
+returns c = search needs
+
+item-of-requires : tie.Need-item-of-requires
+item-of-requires c κs = let f = c .before .before .before .find-lack .ensures .0 in let e = c .before .lack .given .1 in let h = rw e at f in (c .before .before .before .before .before .before .before .before .before .before .before .before .before .before .before .before .before .before .pre .0 .some-lines, h .low)
+
+slice-aggregate-print-item : tie.Need-slice-aggregate-print-item
+slice-aggregate-print-item c = search needs
+
+dot-of-requires : tie.Need-dot-of-requires
+dot-of-requires c κs = let f = c .before .before .before .before .before .find-lack .ensures .0 in let e = c .before .before .before .lack .given .1 in let h = rw e at f in (c .before .before .before .before .before .before .before .before .before .before .before .before .before .before .before .before .before .before .before .before .pre .0 .some-lines, h .low)
+
+print-item-requires : tie.Need-print-item-requires
+print-item-requires c κs = (c .before .before .before .before .before .before .before .before .before .before .before .before .before .before .before .before .before .before .before .before .before .pre .0 .shaped, c .before .before .item-of .ensures .1)
+
+slice-aggregate-print-count : tie.Need-slice-aggregate-print-count
+slice-aggregate-print-count c = search needs
+
+print-count-requires : tie.Need-print-count-requires
+print-count-requires c κs = search needs
+
+slice-aggregate-print-text : tie.Need-slice-aggregate-print-text
+slice-aggregate-print-text c = search needs
+
+print-text-requires : tie.Need-print-text-requires
+print-text-requires c κs = search needs
+
+returns-2 : tie.Need-returns-2
+returns-2 c = search needs
+
+slice-aggregate-print-count-2 : tie.Need-slice-aggregate-print-count-2
+slice-aggregate-print-count-2 c = search needs
+
+print-count-requires-2 : tie.Need-print-count-requires-2
+print-count-requires-2 c κs = search needs
+
+slice-aggregate-print-text-2 : tie.Need-slice-aggregate-print-text-2
+slice-aggregate-print-text-2 c = search needs
+
+print-text-requires-2 : tie.Need-print-text-requires-2
+print-text-requires-2 c κs = search needs
+
+returns-3 : tie.Need-returns-3
+returns-3 c = search needs
+
+pub explain-lookaheads-spec : {M : Type 1} → statement M
+explain-lookaheads-spec =
+    tie.close
+    (tie.spec
+    add-count
+    find-lack-requires
+    enum-known-lack
+    enum-told
+    returns
+    item-of-requires
+    slice-aggregate-print-item
+    dot-of-requires
+    print-item-requires
+    slice-aggregate-print-count
+    print-count-requires
+    slice-aggregate-print-text
+    print-text-requires
+    returns-2
+    slice-aggregate-print-count-2
+    print-count-requires-2
+    slice-aggregate-print-text-2
+    print-text-requires-2
+    returns-3)

@@ -1,0 +1,58 @@
+use Prim.Native.Nat.{_-_}
+use native.Mathlib.Omega.{arith}
+use borrow.Author.Needs.{needs}
+use Rattle.explanation.proofs.print_line_demands.Statement.{statement}
+use Rattle.explanation.proofs.print_line_demands.Tie as tie
+
+abbrev Inv-loop : tie.InvT-loop
+Inv-loop items kernels lookaheads nul fst count rules lines codes q c l₀ l = Unit {0}
+
+abbrev μ-loop : tie.MeasureT-loop
+μ-loop items kernels lookaheads nul fst count rules lines codes q c l₀ l = lines - l
+
+loop-holds : tie.Need-loop-holds Inv-loop μ-loop
+loop-holds c = search needs
+
+state-of-requires : tie.Need-state-of-requires Inv-loop μ-loop
+state-of-requires c κs = (c .before .before .before .before .before .before .before .pre .0, c .loop-test .taken)
+
+item-of-requires : tie.Need-item-of-requires Inv-loop μ-loop
+item-of-requires c κs = (c .before .before .before .before .before .before .before .before .before .pre .0, c .before .before .loop-test .taken)
+
+dot-of-requires : tie.Need-dot-of-requires Inv-loop μ-loop
+dot-of-requires c κs = (c .before .before .before .before .before .before .before .before .before .before .pre .0, c .before .before .before .loop-test .taken)
+
+mul-print-demand : tie.Need-mul-print-demand Inv-loop μ-loop
+mul-print-demand c = search needs
+
+print-demand-requires : tie.Need-print-demand-requires Inv-loop μ-loop
+print-demand-requires c κs = let p = c .before .before .before .before .before .before .before .before .before .before .before .pre in let i = c .before .item-of .ensures .1 in (p .1 .0, (i, omega (arith, i, p .1 .1 .0), c .dot-of .ensures .1, omega (arith, c .before .before .before .before .loop-test .taken, p .1 .1 .1), p .1 .1 .2))
+
+add-l : tie.Need-add-l Inv-loop μ-loop
+add-l c = search needs
+
+loop-less : tie.Need-loop-less Inv-loop μ-loop
+loop-less c = search needs
+
+loop-again : tie.Need-loop-again Inv-loop μ-loop
+loop-again c = search needs
+
+returns : tie.Need-returns Inv-loop μ-loop
+returns c = search needs
+
+pub print-line-demands-spec : {M : Type 1} → statement M
+print-line-demands-spec =
+    tie.close
+    (tie.spec
+    Inv-loop
+    μ-loop
+    loop-holds
+    state-of-requires
+    item-of-requires
+    dot-of-requires
+    mul-print-demand
+    print-demand-requires
+    add-l
+    loop-less
+    loop-again
+    returns)

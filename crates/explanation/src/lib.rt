@@ -1,0 +1,594 @@
+// Refusals in words: the line, the item, the code, the actions.
+use conflicts::Conflict;
+use details::EntryFault;
+use details::ItemFault;
+use fixpoint::Found;
+use missing_lookaheads::Lack;
+use program::print_count;
+use program::print_text;
+ghost use mathlib.Core.Path.{_≡_};
+ghost use Prim.Native.Nat.{_+_, _*_, _<_, _≤_};
+ghost use lib.ListN.{length};
+ghost use Rattle.items.specs.Layout.{Shaped};
+ghost use Rattle.kernel_lines.specs.Lines.{Lines};
+ghost use Rattle.moves.specs.Moves.{Readable, Cells};
+ghost use Rattle.carried.specs.Rows.{Ready};
+ghost use Rattle.judge.specs.Given.{Sized, Computed};
+
+// What stands before symbol k of item i: its dot, its recognition point, the cut between two groups.
+fn print_marks(items: &[u8], count: usize, i: usize, k: usize, dot: usize)
+    requires { ⌜ Shaped (now items) count ⌝ }
+    requires { ⌜ (i ≤ count) × (k ≤ 15) ⌝ }
+{
+    if k == dot {
+        print_text(b" .");
+    }
+    if k == items::mark_of(items, count, i) {
+        print_text(b" ^");
+        return;
+    }
+    if 15 <= k {
+        return;
+    }
+    if items::start_of(items, count, i, k) != 0 {
+        print_text(b" /");
+    }
+}
+
+// Item i with its dot, as a rule or an entry's string.
+fn print_dotted(items: &[u8], count: usize, rules: usize, i: usize, dot: usize)
+    requires { ⌜ Shaped (now items) count ⌝ }
+    requires { ⌜ i ≤ count ⌝ }
+{
+    if i <= rules {
+        print_count(b"rule ", i);
+        print_count(b": ", items::left_of(items, count, i));
+        print_text(b" ->");
+    } else {
+        print_count(b"entry ", i - rules);
+        print_text(b":");
+    }
+    let n = items::length_of(items, count, i);
+    let mut k = 0;
+    while k < n {
+        print_marks(items, count, i, k, dot);
+        print_count(b" ", items::symbol_of(items, count, i, k));
+        k += 1;
+    }
+    print_marks(items, count, i, n, dot);
+}
+
+// A text, then item i with its dot.
+fn print_item(text: &[u8], items: &[u8], count: usize, rules: usize, i: usize, dot: usize)
+    requires { ⌜ Shaped (now items) count ⌝ }
+    requires { ⌜ i ≤ count ⌝ }
+{
+    print_text(text);
+    print_count(b"item ", i);
+    print_count(b", dot ", dot);
+    print_text(b" (");
+    print_dotted(items, count, rules, i, dot);
+    print_text(b")");
+}
+
+// An action, by the number that `cells` gives it.
+fn print_action(demand: usize) {
+    if demand == 0 {
+        print_text(b"nothing");
+        return;
+    }
+    if demand < 512 {
+        print_text(b"shift");
+        return;
+    }
+    if demand < 768 {
+        print_count(b"announce of rule ", demand - 512);
+        return;
+    }
+    if demand < 1023 {
+        print_count(b"pop of ", demand - 767);
+        return;
+    }
+    print_text(b"pop of a count that no entry has");
+}
+
+// What the replies on lines mean.
+fn print_meaning(number: u64) {
+    if number == 1 {
+        print_text(b"the line breaks its form, or lines are missing or too many\n");
+        return;
+    }
+    if number == 2 {
+        print_text(b"a figure is out of its limits\n");
+        return;
+    }
+    if number == 3 {
+        print_text(b"a symbol, letter, rule, item or state is undeclared or of the wrong kind\n");
+        return;
+    }
+    print_text(b"^ or / is misplaced\n");
+}
+
+// The number of the line that begins at `place`.
+fn line_number(book: &[u8], place: usize) -> usize
+    requires { ⌜ place ≤ length (now book) ⌝ }
+{
+    let mut n = 1;
+    let mut i = 0;
+    while i < place {
+        if book[i] != b'\n' {
+            i += 1;
+            continue;
+        }
+        n += 1;
+        i += 1;
+    }
+    n
+}
+
+// The end of that line, or of what can be shown of it.
+fn line_end(book: &[u8], place: usize) -> usize
+    requires { ⌜ place ≤ length (now book) ⌝ }
+    ensures { λ r. ⌜ (place ≤ r) × (r ≤ length (now (book .entry))) ⌝ }
+{
+    let mut i = place;
+    while i < book.len() {
+        if book[i] < b' ' {
+            return i;
+        }
+        if book[i] > b'~' {
+            return i;
+        }
+        i += 1;
+    }
+    i
+}
+
+// A refusal of the line of a book that begins at `place`.
+pub fn explain_line(name: &[u8], book: &[u8], number: u64, place: usize) {
+    print_text(name);
+    if book.len() <= place {
+        print_text(b": it ends where a line is due\n");
+        print_meaning(number);
+        return;
+    }
+    print_count(b", line ", line_number(book, place));
+    print_text(b": ");
+    let end = line_end(book, place);
+    print_text(&book[place..end]);
+    print_text(b"\n");
+    print_meaning(number);
+}
+
+// A refusal of a nonterminal: 5 or 6.
+pub fn explain_nonterminal(number: u64, place: usize) {
+    print_count(b"nonterminal ", place);
+    if number == 5 {
+        print_text(b" derives no string of terminals\n");
+        return;
+    }
+    print_text(b" is not reached from the goal\n");
+}
+
+// The symbols of item i from one number up to another.
+fn print_symbols(items: &[u8], count: usize, i: usize, from: usize, to: usize)
+    requires { ⌜ Shaped (now items) count ⌝ }
+    requires { ⌜ (i ≤ count) × (to ≤ 15) ⌝ }
+{
+    let mut k = from;
+    while k < to {
+        print_count(b" ", items::symbol_of(items, count, i, k));
+        k += 1;
+    }
+}
+
+// Reply 7 at place 0.
+fn explain_entries(items: &[u8], rules: usize, strings: usize, goal: usize)
+    requires { ⌜ Shaped (now items) (rules + strings) ⌝ }
+    requires { ⌜ (rules ≤ 127) × (1 ≤ strings) × (strings ≤ 127) ⌝ }
+{
+    let fault = details::find_entry_fault(items, rules, strings, goal);
+    match fault {
+        EntryFault::NotGoal => print_text(b"entry 1 is not the goal alone\n"),
+        EntryFault::Bare(i, from, to) => {
+            print_count(b"rule ", i);
+            print_text(b": its group");
+            print_symbols(items, rules + strings, i, from, to);
+            print_text(b" has no entry\n");
+        }
+        EntryFault::Unwanted(k) => {
+            print_count(b"entry ", k);
+            print_text(b" is neither the goal nor a group\n");
+        }
+        EntryFault::Nothing => {}
+    }
+}
+
+// What item i, dot k asks of the cell for code c, where it asks something.
+fn print_demand(
+    items: &[u8],
+    nul: &[u8],
+    fst: &[u8],
+    from: &[u8],
+    count: usize,
+    rules: usize,
+    codes: usize,
+    i: usize,
+    k: usize,
+    start: usize,
+    c: usize,
+)
+    requires { ⌜ Ready (now items) (now nul) (now fst) count codes ⌝ }
+    requires { ⌜ (i ≤ count) × (i < 256) × (k ≤ 15) × (start + 64 ≤ length (now from)) × (c < 64) ⌝ }
+{
+    let mut demand = conflicts::item_demand(items, nul, fst, from, count, rules, codes, i, k, start, c);
+    if c != 0 {
+        if moves::symbol_after(items, count, i, k) == c {
+            demand = 256;
+        }
+    }
+    if demand == 0 {
+        return;
+    }
+    print_action(demand);
+    print_item(b": ", items, count, rules, i, k);
+    print_text(b"\n");
+}
+
+// The kernel items of q that ask something of the cell for code c.
+fn print_line_demands(
+    items: &[u8],
+    kernels: &[u8],
+    lookaheads: &[u8],
+    nul: &[u8],
+    fst: &[u8],
+    count: usize,
+    rules: usize,
+    lines: usize,
+    codes: usize,
+    q: usize,
+    c: usize,
+)
+    requires { ⌜ Lines (now kernels) lines count ⌝ }
+    requires { ⌜ Ready (now items) (now nul) (now fst) count codes ⌝ }
+    requires { ⌜ (count < 256) × (lines * 64 ≤ length (now lookaheads)) × (c < 64) ⌝ }
+{
+    let mut l = 0;
+    while l < lines {
+        if kernel_lines::state_of(kernels, lines, count, l) == q {
+            let i = kernel_lines::item_of(kernels, lines, count, l);
+            let k = kernel_lines::dot_of(kernels, lines, count, l);
+            print_demand(items, nul, fst, lookaheads, count, rules, codes, i, k, l * 64, c);
+        }
+        l += 1;
+    }
+}
+
+// The rules that the closure adds and that ask something of it.
+fn print_rule_demands(
+    items: &[u8],
+    present: &[u8],
+    follow: &[u8],
+    nul: &[u8],
+    fst: &[u8],
+    count: usize,
+    rules: usize,
+    codes: usize,
+    c: usize,
+)
+    requires { ⌜ Ready (now items) (now nul) (now fst) count codes ⌝ }
+    requires { ⌜ (rules ≤ count) × (count < 256) × (c < 64) ⌝ }
+    requires { ⌜ (length (now present) ≡ 64) × (length (now follow) ≡ 4096) ⌝ }
+{
+    let mut i = 1;
+    while i <= rules {
+        if moves::is_present(items, present, count, i) {
+            let left = items::left_of(items, count, i);
+            print_demand(items, nul, fst, follow, count, rules, codes, i, 0, (left - 64) * 64, c);
+        }
+        i += 1;
+    }
+}
+
+// Where a state goes.
+fn print_goes(x: usize, q: usize, s: usize) {
+    print_count(b"on symbol ", x);
+    print_count(b" state ", q);
+    print_count(b" goes to state ", s);
+    print_text(b", whose kernel is not the moved items: it ");
+}
+
+// Reply 7 at state q.
+fn explain_items(
+    items: &[u8],
+    entries: &[u8],
+    kernels: &[u8],
+    links: &[usize],
+    kinds: &[u8],
+    values: &[u8],
+    gotos: &[u8],
+    named: &[u8],
+    present: &[u8],
+    symbols: &[u8],
+    rules: usize,
+    strings: usize,
+    lines: usize,
+    q: usize,
+)
+    requires { ⌜ Readable (now items) (now kernels) (now links) (now present) (rules + strings) rules lines ⌝ }
+    requires { ⌜ Cells (now kinds) (now values) (now gotos) ⌝ }
+    requires { ⌜ (q < length (now named)) × (length (now symbols) ≡ 128) ⌝ }
+    requires { ⌜ (q < 256) × (rules ≤ 127) × (strings ≤ 127) × (strings < length (now entries)) ⌝ }
+{
+    let count = rules + strings;
+    let fault = details::find_item_fault(items, entries, kernels, links, kinds, values, gotos, named, present, symbols, rules, strings, lines, q);
+    match fault {
+        ItemFault::Unnamed => {
+            print_count(b"state ", q);
+            print_text(b" is neither that of an entry nor named as next\n");
+        }
+        ItemFault::Entry(k) => {
+            print_count(b"state ", q);
+            print_count(b" is that of entry ", k);
+            print_item(b", and its kernel is not the one ", items, count, rules, rules + k, 0);
+            print_text(b"\n");
+        }
+        ItemFault::Lost(i, k) => {
+            let x = moves::symbol_after(items, count, i, k);
+            print_goes(x, q, moves::next_of(kinds, values, gotos, q, x));
+            print_item(b"lacks ", items, count, rules, i, k + 1);
+            print_text(b"\n");
+        }
+        ItemFault::Extra(x, l) => {
+            print_goes(x, q, moves::next_of(kinds, values, gotos, q, x));
+            let i = kernel_lines::item_of(kernels, lines, count, l);
+            print_item(b"has ", items, count, rules, i, kernel_lines::dot_of(kernels, lines, count, l));
+            print_text(b", which does not move there\n");
+        }
+        ItemFault::Nothing => {}
+    }
+}
+
+// Reply 8 at state q.
+fn explain_lookaheads(
+    items: &[u8],
+    entries: &[u8],
+    kernels: &[u8],
+    links: &[usize],
+    lookaheads: &[u8],
+    kinds: &[u8],
+    values: &[u8],
+    gotos: &[u8],
+    named: &[u8],
+    uses: &[u8],
+    nul: &[u8],
+    fst: &[u8],
+    starts: &[u8],
+    through: &[u8],
+    rules: usize,
+    strings: usize,
+    lines: usize,
+    codes: usize,
+    states: usize,
+    q: usize,
+)
+    requires { ⌜ Sized (now items) (now entries) (now kernels) (now lookaheads) (now kinds) (now values) (now gotos) (now named) rules strings lines ⌝ }
+    requires { ⌜ Computed (now items) (now kernels) (now links) (now uses) (now nul) (now fst) (now starts) (now through) rules lines codes ⌝ }
+    requires { ⌜ (1 ≤ codes) × (states ≤ 255) × (q < 256) ⌝ }
+{
+    let count = rules + strings;
+    let lack = missing_lookaheads::find_lack(items, entries, kernels, links, lookaheads, kinds, values, gotos, named, uses, nul, fst, starts, through, rules, strings, lines, codes, states, q);
+    let Lack::Code(l, c, p) = lack else {
+        return;
+    };
+    let i = kernel_lines::item_of(kernels, lines, count, l);
+    print_item(b"", items, count, rules, i, kernel_lines::dot_of(kernels, lines, count, l));
+    print_count(b": its context lacks code ", c);
+    if p == 0 {
+        print_text(b", which the goal's entry must have\n");
+        return;
+    }
+    print_count(b", which the items of state ", p);
+    print_text(b" ask for\n");
+}
+
+// Reply 9 at state q.
+fn explain_conflict(
+    items: &[u8],
+    kernels: &[u8],
+    links: &[usize],
+    lookaheads: &[u8],
+    present: &[u8],
+    follow: &[u8],
+    symbols: &[u8],
+    nul: &[u8],
+    fst: &[u8],
+    count: usize,
+    rules: usize,
+    lines: usize,
+    codes: usize,
+    q: usize,
+)
+    requires { ⌜ Readable (now items) (now kernels) (now links) (now present) count rules lines ⌝ }
+    requires { ⌜ Ready (now items) (now nul) (now fst) count codes ⌝ }
+    requires { ⌜ (count < 256) × (q < 256) × (lines * 64 ≤ length (now lookaheads)) ⌝ }
+    requires { ⌜ (length (now follow) ≡ 4096) × (length (now symbols) ≡ 128) ⌝ }
+{
+    let conflict = conflicts::find_conflict(items, kernels, links, lookaheads, present, follow, symbols, nul, fst, count, rules, lines, codes, q);
+    let Conflict::On(c, first, second) = conflict else {
+        return;
+    };
+    print_count(b"on code ", c);
+    print_text(b": ");
+    print_action(first);
+    print_text(b", and ");
+    print_action(second);
+    print_text(b"\n");
+    print_line_demands(items, kernels, lookaheads, nul, fst, count, rules, lines, codes, q, c);
+    print_rule_demands(items, present, follow, nul, fst, count, rules, codes, c);
+}
+
+// A cell that is not what is asked.
+fn print_cell(symbol: usize, asked: usize, there: usize) {
+    print_count(b"on symbol ", symbol);
+    if there == 0 {
+        print_text(b": the line is missing");
+    } else if asked == 0 {
+        print_text(b": the line is extra");
+    } else {
+        print_text(b": the line is different");
+    }
+    print_text(b"; asked: ");
+    print_action(asked);
+    print_text(b"; there: ");
+    print_action(there);
+    print_text(b"\n");
+}
+
+// A nonterminal's line that is missing or extra.
+fn explain_goto(symbols: &[u8], gotos: &[u8], q: usize)
+    requires { ⌜ (length (now symbols) ≡ 128) × (16384 ≤ length (now gotos)) × (q < 256) ⌝ }
+{
+    let goto = details::find_goto(symbols, gotos, q);
+    let Found::At(b) = goto else {
+        return;
+    };
+    print_count(b"on symbol ", 64 + b);
+    if gotos[q * 64 + b] == 0 {
+        print_text(b": the line is missing; asked: a next state; there: nothing\n");
+        return;
+    }
+    print_text(b": the line is extra; asked: nothing; there: a next state\n");
+}
+
+// Reply 10 at state q.
+fn explain_cells(
+    items: &[u8],
+    kernels: &[u8],
+    links: &[usize],
+    lookaheads: &[u8],
+    kinds: &[u8],
+    values: &[u8],
+    gotos: &[u8],
+    present: &[u8],
+    follow: &[u8],
+    symbols: &[u8],
+    nul: &[u8],
+    fst: &[u8],
+    count: usize,
+    rules: usize,
+    lines: usize,
+    codes: usize,
+    q: usize,
+)
+    requires { ⌜ Readable (now items) (now kernels) (now links) (now present) count rules lines ⌝ }
+    requires { ⌜ Ready (now items) (now nul) (now fst) count codes ⌝ }
+    requires { ⌜ Cells (now kinds) (now values) (now gotos) ⌝ }
+    requires { ⌜ (count < 256) × (q < 256) × (lines * 64 ≤ length (now lookaheads)) ⌝ }
+    requires { ⌜ (length (now follow) ≡ 4096) × (length (now symbols) ≡ 128) ⌝ }
+{
+    let mut asked = [0usize; 64];
+    cells::ask_cells(items, kernels, links, lookaheads, present, follow, symbols, nul, fst, count, rules, lines, codes, q, &mut asked);
+    let cell = details::find_cell(&asked, kinds, values, codes, q);
+    let Found::At(c) = cell else {
+        explain_goto(symbols, gotos, q);
+        return;
+    };
+    print_cell(c, asked[c], cells::demand_of(kinds, values, q, c));
+    print_line_demands(items, kernels, lookaheads, nul, fst, count, rules, lines, codes, q, c);
+    print_rule_demands(items, present, follow, nul, fst, count, rules, codes, c);
+}
+
+// A refusal at state q, where what the check computes of the grammar is at hand.
+fn explain_state(
+    items: &[u8],
+    entries: &[u8],
+    kernels: &[u8],
+    links: &[usize],
+    lookaheads: &[u8],
+    kinds: &[u8],
+    values: &[u8],
+    gotos: &[u8],
+    named: &[u8],
+    uses: &[u8],
+    nul: &[u8],
+    fst: &[u8],
+    starts: &[u8],
+    through: &[u8],
+    rules: usize,
+    strings: usize,
+    lines: usize,
+    codes: usize,
+    states: usize,
+    number: u64,
+    q: usize,
+)
+    requires { ⌜ Sized (now items) (now entries) (now kernels) (now lookaheads) (now kinds) (now values) (now gotos) (now named) rules strings lines ⌝ }
+    requires { ⌜ Computed (now items) (now kernels) (now links) (now uses) (now nul) (now fst) (now starts) (now through) rules lines codes ⌝ }
+    requires { ⌜ (1 ≤ codes) × (states ≤ 255) × (q < 256) ⌝ }
+{
+    if number == 8 {
+        explain_lookaheads(items, entries, kernels, links, lookaheads, kinds, values, gotos, named, uses, nul, fst, starts, through, rules, strings, lines, codes, states, q);
+        return;
+    }
+    let count = rules + strings;
+    let mut present = [0u8; 64];
+    let mut follow = [0u8; 4096];
+    let mut symbols = [0u8; 128];
+    closure::close_state(items, count, rules, kernels, lookaheads, lines, q, codes, nul, fst, starts, through, &mut present, &mut follow);
+    moves::flag_moves(items, kernels, links, &present, count, rules, lines, q, &mut symbols);
+    if number == 7 {
+        explain_items(items, entries, kernels, links, kinds, values, gotos, named, &present, &symbols, rules, strings, lines, q);
+        return;
+    }
+    if number == 9 {
+        explain_conflict(items, kernels, links, lookaheads, &present, &follow, &symbols, nul, fst, count, rules, lines, codes, q);
+        return;
+    }
+    explain_cells(items, kernels, links, lookaheads, kinds, values, gotos, &present, &follow, &symbols, nul, fst, count, rules, lines, codes, q);
+}
+
+// A refusal of tables in memory: 7 to 10.
+pub fn explain_memory(
+    items: &[u8],
+    entries: &[u8],
+    kernels: &[u8],
+    lookaheads: &[u8],
+    kinds: &[u8],
+    values: &[u8],
+    gotos: &[u8],
+    named: &[u8],
+    terminals: usize,
+    goal: usize,
+    rules: usize,
+    strings: usize,
+    lines: usize,
+    states: usize,
+    number: u64,
+    place: usize,
+)
+    requires { ⌜ Sized (now items) (now entries) (now kernels) (now lookaheads) (now kinds) (now values) (now gotos) (now named) rules strings lines ⌝ }
+    requires { ⌜ (terminals ≤ 63) × (states ≤ 255) ⌝ }
+{
+    if place == 0 {
+        explain_entries(items, rules, strings, goal);
+        return;
+    }
+    if place > 255 {
+        return;
+    }
+    let count = rules + strings;
+    let codes = terminals + 1;
+    let mut uses = [0u8; 2048];
+    let mut nul = [0u8; 128];
+    let mut fst = [0u8; 8192];
+    let mut starts = [0u8; 8192];
+    let mut through = [0u8; 128];
+    let mut links = [0usize; 1280];
+    entry_list::entries_meet(items, rules, strings, goal, &mut uses);
+    analysis::find_sets(items, terminals, rules, &mut nul, &mut fst);
+    closure::prepare_rules(items, count, rules, codes, &nul, &fst, &mut starts, &mut through);
+    kernel_lines::link_lines(kernels, lines, count, &mut links);
+    explain_state(items, entries, kernels, &links, lookaheads, kinds, values, gotos, named, &uses, &nul, &fst, &starts, &through, rules, strings, lines, codes, states, number, place);
+}
+
