@@ -3,7 +3,6 @@
 use grammar::GrammarReply;
 use program::print_text;
 use table::TableReply;
-ghost use Rattle.table.specs.Memory.{slices, Rooms};
 
 // A refusal of a line: which book's, by whether the grammar book is read.
 fn explain_line(grammar: &[u8], book: &[u8], number: u64, place: usize) {
@@ -15,50 +14,8 @@ fn explain_line(grammar: &[u8], book: &[u8], number: u64, place: usize) {
     }
 }
 
-// A refusal with 7 to 10: both books are read again, into slices with room.
-fn explain_read(
-    grammar: &[u8],
-    book: &[u8],
-    items: &mut [u8],
-    entries: &mut [u8],
-    kernels: &mut [u8],
-    lookaheads: &mut [u8],
-    kinds: &mut [u8],
-    values: &mut [u8],
-    gotos: &mut [u8],
-    named: &mut [u8],
-    number: u64,
-    place: usize,
-)
-    requires { ⌜ Rooms (slices (now items) (now entries) (now kernels) (now lookaheads) (now kinds) (now values) (now gotos) (now named)) ⌝ }
-{
-    let answer = table::read_tables(grammar, book, items, entries, kernels, lookaheads, kinds, values, gotos, named);
-    let TableReply::Read(counts) = answer else {
-        return;
-    };
-    let heading = counts.grammar;
-    explanation::explain_memory(
-        items,
-        entries,
-        kernels,
-        lookaheads,
-        kinds,
-        values,
-        gotos,
-        named,
-        heading.terminals,
-        heading.goal,
-        heading.rules,
-        counts.entries,
-        counts.kernels,
-        counts.states,
-        number,
-        place,
-    );
-}
-
-// A refusal with 7 to 10.
-fn explain_judged(grammar: &[u8], book: &[u8], number: u64, place: usize) {
+// A refusal with 7 to 10: both books are read again.
+fn explain_tables(grammar: &[u8], book: &[u8], number: u64, place: usize) {
     let mut items = [0u8; table::ITEMS];
     let mut entries = [0u8; table::ENTRY_STATES];
     let mut kernels = [0u8; table::KERNELS];
@@ -67,7 +24,7 @@ fn explain_judged(grammar: &[u8], book: &[u8], number: u64, place: usize) {
     let mut values = [0u8; table::CELLS];
     let mut gotos = [0u8; table::CELLS];
     let mut named = [0u8; table::NAMED];
-    explain_read(
+    let answer = table::read_tables(
         grammar,
         book,
         &mut items,
@@ -78,6 +35,26 @@ fn explain_judged(grammar: &[u8], book: &[u8], number: u64, place: usize) {
         &mut values,
         &mut gotos,
         &mut named,
+    );
+    let TableReply::Read(counts) = answer else {
+        return;
+    };
+    let heading = counts.grammar;
+    explanation::explain_memory(
+        &items,
+        &entries,
+        &kernels,
+        &lookaheads,
+        &kinds,
+        &values,
+        &gotos,
+        &named,
+        heading.terminals,
+        heading.goal,
+        heading.rules,
+        counts.entries,
+        counts.kernels,
+        counts.states,
         number,
         place,
     );
@@ -105,7 +82,7 @@ fn explain(grammar: &[u8], book: &[u8], number: u64, place: usize) {
         explanation::explain_nonterminal(number, place);
         return;
     }
-    explain_judged(grammar, book, number, place);
+    explain_tables(grammar, book, number, place);
 }
 
 fn show(grammar: &[u8], book: &[u8]) {
