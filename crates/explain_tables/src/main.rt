@@ -63,7 +63,7 @@ fn explain_tables(grammar: &[u8], book: &[u8], number: u64, place: usize) {
 // Why both books are refused with that number at that place.
 fn explain(grammar: &[u8], book: &[u8], number: u64, place: usize) {
     if number == 0 {
-        print_text(b"the tables are those of the construction\n");
+        print_text(b"the tables meet the construction\n");
         return;
     }
     if grammar.len() > 65536 {
@@ -123,7 +123,7 @@ fn take(before: usize, i: usize) -> usize {
 
 fn main() {
     let count = os::arg_count();
-    if count < 3 {
+    if count < 2 {
         run(1, 2);
         return;
     }
@@ -132,5 +132,9 @@ fn main() {
     while i < count {
         before = take(before, i);
         i += 1;
+    }
+    // A grammar book without its table book.
+    if before != 0 {
+        run(before, i);
     }
 }
