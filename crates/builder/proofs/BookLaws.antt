@@ -19,21 +19,19 @@ use Rattle.reply.specs.declared.Reply.the-variants.{Accepted, Refused}
 use Rattle.verdict.specs.Verdict.{refused}
 use Rattle.lalr.specs.Strings.{entryStrings, entryLines}
 use Rattle.lalr.specs.EntryLaws.{lines-length}
-use Rattle.lalr.specs.States.{states}
-use Rattle.lalr.specs.Discovery.{Fits}
 use Rattle.lalr.specs.BuiltForm.{built-entries, states-both}
 use Rattle.lalr.specs.ItemForm.{items-lines, kernels-both}
 use Rattle.lalr.specs.Text.{tableText}
 use Rattle.lalr.specs.Book.{textReply, textSlice}
 use Rattle.lalr.specs.BookLaws.{Within}
-use Rattle.lalr.specs.Builder.{terminalCodes, first-in, codes-low, builder-form, builderReply, replies-many, replies-conflict, replies-text, slice-text}
+use Rattle.lalr.specs.Builder.{terminalCodes, first-in, codes-low, builder-form, builderReply, builderSlice, replies-many, replies-conflict, replies-text, slice-text}
 use Rattle.table_writer.specs.Sink.{inRoom, fits-room}
 use Rattle.table_writer.specs.MemoryTable.{memoryTable, memoryText, Sized}
 use Rattle.table_writer.specs.InMemory.{memory-table}
 use Rattle.table_writer.specs.BuiltOrder.{built-ordered}
 use Rattle.table_cells.specs.Cells.{itemsOf, tableOf, Filled}
-use Rattle.builder.specs.Stages.{Stated, Numbered, Settled, Answers, Rooms}
-use Rattle.builder.proofs.StateLaws.{few-strings, few-terminals, few-flags, limits-of, within-of, entries-hold}
+use Rattle.build_memory.specs.Stages.{Stated, Numbered, Settled, Rooms}
+use Rattle.build_memory.proofs.StateLaws.{few-strings, few-terminals, few-flags, limits-of, within-of, entries-hold}
 
 -- ---- a text of which the length was counted up to 65,537
 module _ (text : List ℕ) (room : ℕ) {n : ℕ} (count : n ≡ min (length text) 65537) where
@@ -55,7 +53,12 @@ module _ (text : List ℕ) (room : ℕ) {n : ℕ} (count : n ≡ min (length tex
 pub text-none : (text : List ℕ) (room : ℕ) {r : Reply} {x : Refusal} {size : ℕ} {out : List ℕ} → r ≡ Refused x → size ≡ room → out ≡ replicate size 0 → out ≡ textSlice text room r
 text-none text room e long o = o ∙ ap (λ (n : ℕ). replicate n 0) long ∙ sym (ap (textSlice text room) e)
 
--- ---- the reply and the slice go together
+-- ---- the builder's reply and slice
+
+pub record Answers (g : Grammar) (room : ℕ) (r : Reply) (out : List ℕ) : Type 0 where
+  pub reply-is : r ≡ builderReply g room
+  pub slice-is : out ≡ builderSlice g room
+
 module _ (g : Grammar) (room : ℕ) {r : Reply} {out : List ℕ} where
   answers-as : r ≡ builderReply g room → out ≡ textSlice (tableText (tableOf g)) room r → Answers g room r out
   answers-as e s = record { reply-is = e; slice-is = s ∙ ap (textSlice (tableText (tableOf g)) room) e ∙ sym (slice-text g room) }
@@ -65,10 +68,6 @@ module _ (g : Grammar) (room : ℕ) {r : Reply} {out : List ℕ} where
 
   pub answers-many : (Within g → ⊥) → r ≡ refused LimitExceeded 0 → out ≡ replicate room 0 → Answers g room r out
   answers-many f e s = refused-as e (sym (replies-many g room f)) refl s
-
--- ---- too many states or kernel lines
-pub too-many-states : {g : Grammar} → (Fits (states g) → ⊥) → Within g → ⊥
-too-many-states f w = f (record { states = w .few-states; lines = w .few-lines })
 
 module _ {g : Grammar} {items kernels kinds values gotos : List ℕ} {terminals goal rules strings all lines : ℕ}
     (T : Stated g items kernels kinds values gotos terminals goal rules strings all lines) where

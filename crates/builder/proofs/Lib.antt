@@ -1,6 +1,2 @@
-pub mod PlaceLaws
-pub mod StateLaws
-pub mod LineLaws
-pub mod MoveLaws
 pub mod BookLaws
-pub mod ReadLaws
+pub mod AnswerLaws

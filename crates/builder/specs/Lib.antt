@@ -1,3 +1,2 @@
 pub mod Build
-pub mod Stages
 pub mod Accepted

@@ -1,7 +1,8 @@
 use denote.Ref.{now}
+use mathlib.Core.Path.{refl, _∙_}
 use lib.ListN.{length}
-use Rattle.builder.proofs.BookLaws.{answers-many}
-use Rattle.builder.proofs.ReadLaws.{read-as, read-refused, blank-of, listed-many, entered-of, zeros-again, in-room, build-refused, build-answers}
+use Rattle.builder.proofs.BookLaws.{sized-of}
+use Rattle.builder.proofs.AnswerLaws.{zeros-again, build-refused, build-conflict, build-book}
 use borrow.Author.Needs.{needs}
 use Rattle.builder.proofs.build_tables.Statement.{statement}
 use Rattle.builder.proofs.build_tables.Tie as tie
@@ -9,68 +10,112 @@ use Rattle.builder.proofs.build_tables.Tie as tie
 clear-requires : tie.Need-clear-requires
 clear-requires c κs = search needs
 
-slice-aggregate-read-grammar : tie.Need-slice-aggregate-read-grammar
-slice-aggregate-read-grammar c = search needs
+slice-aggregate-build : tie.Need-slice-aggregate-build
+slice-aggregate-build c = search needs
 
-read-grammar-requires : tie.Need-read-grammar-requires
-read-grammar-requires c κs = search needs
+slice-aggregate-build-2 : tie.Need-slice-aggregate-build-2
+slice-aggregate-build-2 c = search needs
 
-enum-known-answer : tie.Need-enum-known-answer
-enum-known-answer c = search needs
+slice-aggregate-build-3 : tie.Need-slice-aggregate-build-3
+slice-aggregate-build-3 c = search needs
 
-enum-known-answer-2 : tie.Need-enum-known-answer-2
-enum-known-answer-2 c = search needs
+slice-aggregate-build-4 : tie.Need-slice-aggregate-build-4
+slice-aggregate-build-4 c = search needs
+
+slice-aggregate-build-5 : tie.Need-slice-aggregate-build-5
+slice-aggregate-build-5 c = search needs
+
+slice-aggregate-build-6 : tie.Need-slice-aggregate-build-6
+slice-aggregate-build-6 c = search needs
+
+slice-aggregate-build-7 : tie.Need-slice-aggregate-build-7
+slice-aggregate-build-7 c = search needs
+
+build-requires : tie.Need-build-requires
+build-requires c κs = record { items-room = refl; entries-room = refl; kernels-room = refl; lookaheads-room = refl; kinds-zeros = refl; values-zeros = refl; gotos-zeros = refl }
+
+enum-known-built : tie.Need-enum-known-built
+enum-known-built c = search needs
+
+enum-known-built-2 : tie.Need-enum-known-built-2
+enum-known-built-2 c = search needs
+
+refuse-requires : tie.Need-refuse-requires
+refuse-requires c κs = search needs
+
+enum-known-built-3 : tie.Need-enum-known-built-3
+enum-known-built-3 c = search needs
+
+slice-aggregate-write-book : tie.Need-slice-aggregate-write-book
+slice-aggregate-write-book c = search needs
+
+slice-aggregate-write-book-2 : tie.Need-slice-aggregate-write-book-2
+slice-aggregate-write-book-2 c = search needs
+
+slice-aggregate-write-book-3 : tie.Need-slice-aggregate-write-book-3
+slice-aggregate-write-book-3 c = search needs
+
+slice-aggregate-write-book-4 : tie.Need-slice-aggregate-write-book-4
+slice-aggregate-write-book-4 c = search needs
+
+slice-aggregate-write-book-5 : tie.Need-slice-aggregate-write-book-5
+slice-aggregate-write-book-5 c = search needs
+
+slice-aggregate-write-book-6 : tie.Need-slice-aggregate-write-book-6
+slice-aggregate-write-book-6 c = search needs
+
+slice-aggregate-write-book-7 : tie.Need-slice-aggregate-write-book-7
+slice-aggregate-write-book-7 c = search needs
+
+write-book-requires : tie.Need-write-book-requires
+write-book-requires c κs = let b = c .before .before .before .before .before .before .before .before .before .before .before .before .before .before .before .before .before .before .build .ensures in let C = rw (c .before .before .before .before .before .before .before .before .before .built3 .given .1) at b in (sized-of (C .stated) (C .numbered) (C .rooms) (C .lookaheads-room), zeros-again (length (now (c .before .before .before .before .before .before .before .before .before .before .before .before .before .before .before .before .before .before .before .before .before .before .before .before .before .before .before .before .before .before .before .before .args .out))) (c .before .before .before .before .before .before .before .before .before .before .before .before .before .before .before .before .before .before .before .before .before .before .before .before .before .before .before .before .clear .ensures))
 
 same-length : tie.Need-same-length
 same-length c = search needs
 
 returns : tie.Need-returns
-returns c = build-refused _ _ (read-refused _ _ (search needs) (c .before .before .before .before .read-grammar .ensures .0) (c .before .answer2 .given .1)) (c .before .before .before .before .before .before .before .before .clear .ensures)
-
-slice-aggregate-list-entries : tie.Need-slice-aggregate-list-entries
-slice-aggregate-list-entries c = search needs
-
-list-entries-requires : tie.Need-list-entries-requires
-list-entries-requires c κs = let R = read-as _ _ (search needs) (c .before .before .before .before .before .read-grammar .ensures .0) (search needs) (c .before .before .before .before .before .read-grammar .ensures .1) (c .before .before .answer .given .1) in record { grammar = R .grammar; blank = blank-of R (search needs) }
-
-refuse-requires : tie.Need-refuse-requires
-refuse-requires c κs = search needs
+returns c = let b = c .before .before .before .before .before .before .before .before .before .before .build .ensures in build-refused _ _ (rw (c .before .built .given .1) at b) (c .before .before .before .before .before .before .before .before .before .before .before .before .before .before .before .before .before .before .before .before .clear .ensures)
 
 same-length-2 : tie.Need-same-length-2
 same-length-2 c = search needs
 
 returns-2 : tie.Need-returns-2
-returns-2 c = let R = read-as _ _ (search needs) (c .before .before .before .before .before .before .before .before .before .read-grammar .ensures .0) (search needs) (c .before .before .before .before .before .before .before .before .before .read-grammar .ensures .1) (c .before .before .before .before .before .before .answer .given .1) in let L = c .before .before .before .list-entries .ensures .1 (R .grammar) (blank-of R (search needs)) in build-answers _ _ (R .book-is) (answers-many (R .grammar) _ (listed-many L (c .before .if1 .taken)) (c .refuse .ensures) (c .before .before .before .before .before .before .before .before .before .before .before .before .before .clear .ensures))
-
-slice-aggregate-build-entered : tie.Need-slice-aggregate-build-entered
-slice-aggregate-build-entered c = search needs
-
-build-entered-requires : tie.Need-build-entered-requires
-build-entered-requires c κs = let R = read-as _ _ (search needs) (c .before .before .before .before .before .before .before .before .before .before .read-grammar .ensures .0) (search needs) (c .before .before .before .before .before .before .before .before .before .before .read-grammar .ensures .1) (c .before .before .before .before .before .before .before .answer .given .1) in let L = c .before .before .before .before .list-entries .ensures .1 (R .grammar) (blank-of R (search needs)) in (record { grammar = R .grammar; is = entered-of R (search needs) L (c .before .before .if1 .left) }, zeros-again (length (now (c .before .before .before .before .before .before .before .before .before .before .before .before .before .before .before .before .before .before .args .out))) (c .before .before .before .before .before .before .before .before .before .before .before .before .before .before .clear .ensures))
+returns-2 c = let b = c .before .before .before .before .before .before .before .before .before .before .before .build .ensures in let C = rw (c .before .before .built2 .given .1) at b in build-conflict _ _ (C .1) (C .0) (c .refuse .ensures) (c .before .before .before .before .before .before .before .before .before .before .before .before .before .before .before .before .before .before .before .before .before .clear .ensures)
 
 same-length-3 : tie.Need-same-length-3
-same-length-3 c = search needs
+same-length-3 c = c .before .before .write-book .kept .1 .1 .1 .1 .1 .1 .1 .1 .0 ∙ c .before .before .before .before .before .before .before .before .before .before .before .before .before .before .before .before .before .before .before .before .before .before .before .before .before .before .before .before .before .before .before .clear .kept .0
 
 returns-3 : tie.Need-returns-3
-returns-3 c = let R = read-as _ _ (search needs) (c .before .before .before .before .before .before .before .before .before .before .before .before .before .read-grammar .ensures .0) (search needs) (c .before .before .before .before .before .before .before .before .before .before .before .before .before .read-grammar .ensures .1) (c .before .before .before .before .before .before .before .before .before .before .answer .given .1) in let L = c .before .before .before .before .before .before .before .list-entries .ensures .1 (R .grammar) (blank-of R (search needs)) in build-answers _ _ (R .book-is) (in-room (c .before .before .before .before .before .before .before .before .before .before .before .before .before .before .before .before .before .clear .ensures) (c .before .before .build-entered .ensures (R .grammar) (entered-of R (search needs) L (c .before .before .before .before .before .if1 .left))))
+returns-3 c = let b = c .before .before .before .before .before .before .before .before .before .before .before .before .before .before .before .before .before .before .before .before .before .build .ensures in let C = rw (c .before .before .before .before .before .before .before .before .before .before .before .before .built3 .given .1) at b in let w = c .before .before .write-book .ensures in build-book _ _ C (c .before .before .before .before .before .before .before .before .before .before .before .before .before .before .before .before .before .before .before .before .before .before .before .before .before .before .before .before .before .before .before .clear .ensures) refl (w .0) (w .1)
 
 pub build-tables-spec : {M : Type 1} → statement M
 build-tables-spec =
     tie.close
     (tie.spec
     clear-requires
-    slice-aggregate-read-grammar
-    read-grammar-requires
-    enum-known-answer
-    enum-known-answer-2
+    slice-aggregate-build
+    slice-aggregate-build-2
+    slice-aggregate-build-3
+    slice-aggregate-build-4
+    slice-aggregate-build-5
+    slice-aggregate-build-6
+    slice-aggregate-build-7
+    build-requires
+    enum-known-built
+    enum-known-built-2
+    refuse-requires
+    enum-known-built-3
+    slice-aggregate-write-book
+    slice-aggregate-write-book-2
+    slice-aggregate-write-book-3
+    slice-aggregate-write-book-4
+    slice-aggregate-write-book-5
+    slice-aggregate-write-book-6
+    slice-aggregate-write-book-7
+    write-book-requires
     same-length
     returns
-    slice-aggregate-list-entries
-    list-entries-requires
-    refuse-requires
     same-length-2
     returns-2
-    slice-aggregate-build-entered
-    build-entered-requires
     same-length-3
     returns-3)

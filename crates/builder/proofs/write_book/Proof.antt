@@ -1,3 +1,4 @@
+use Prim.Native.Nat.{_+_}
 use denote.Ref.{now}
 use mathlib.Core.Path.{_∙_}
 use lib.ListN.{length}
@@ -7,8 +8,11 @@ use borrow.Author.Needs.{needs}
 use Rattle.builder.proofs.write_book.Statement.{statement}
 use Rattle.builder.proofs.write_book.Tie as tie
 
+add-write-table : tie.Need-add-write-table
+add-write-table c = search needs
+
 write-table-requires : tie.Need-write-table-requires
-write-table-requires c κs = let p = c .before .before .before .before .before .before .before .before .before .pre in (p .0, p .1)
+write-table-requires c κs = let p = c .before .before .before .before .before .before .before .before .before .before .before .pre in (p .0, p .1)
 
 clear-requires : tie.Need-clear-requires
 clear-requires c κs = search needs
@@ -20,7 +24,7 @@ same-length : tie.Need-same-length
 same-length c = search needs
 
 returns : tie.Need-returns
-returns c = let a = c .before .before .before .before .before .before .before .before .before .before .before .before .before .before .before .before .before .before .args in let t = memoryText (now (a .items)) (now (a .entries)) (now (a .kernels)) (now (a .lookaheads)) (now (a .kinds)) (now (a .values)) (now (a .gotos)) (a .rules) (a .strings) (a .lines) (a .all) (a .codes) in let n = length (now (a .out)) in
+returns c = let a = c .before .before .before .before .before .before .before .before .before .before .before .before .before .before .before .before .before .before .before .before .args in let t = memoryText (now (a .items)) (now (a .entries)) (now (a .kernels)) (now (a .lookaheads)) (now (a .kinds)) (now (a .values)) (now (a .gotos)) (a .counts .grammar .rules) (a .counts .entries) (a .counts .kernels) (a .counts .states) (a .counts .grammar .terminals + 1) in let n = length (now (a .out)) in
     let w = c .before .before .before .before .before .before .before .before .write-table in let k = w .kept .1 .1 .1 .1 .1 .1 .1 .1 .1 .1 .1 .1 .0 in
     (c .refuse .ensures ∙ text-long t n (w .ensures .0) (c .before .before .before .before .before .if1 .taken), text-none t n (c .refuse .ensures) k (c .before .before .before .clear .ensures))
 
@@ -34,7 +38,7 @@ same-length-2 : tie.Need-same-length-2
 same-length-2 c = search needs
 
 returns-2 : tie.Need-returns-2
-returns-2 c = let a = c .before .before .before .before .before .before .before .before .before .before .before .before .before .before .before .before .before .before .before .args in let t = memoryText (now (a .items)) (now (a .entries)) (now (a .kernels)) (now (a .lookaheads)) (now (a .kinds)) (now (a .values)) (now (a .gotos)) (a .rules) (a .strings) (a .lines) (a .all) (a .codes) in let n = length (now (a .out)) in
+returns-2 c = let a = c .before .before .before .before .before .before .before .before .before .before .before .before .before .before .before .before .before .before .before .before .before .args in let t = memoryText (now (a .items)) (now (a .entries)) (now (a .kernels)) (now (a .lookaheads)) (now (a .kinds)) (now (a .values)) (now (a .gotos)) (a .counts .grammar .rules) (a .counts .entries) (a .counts .kernels) (a .counts .states) (a .counts .grammar .terminals + 1) in let n = length (now (a .out)) in
     let w = c .before .before .before .before .before .before .before .before .before .write-table in let k = w .kept .1 .1 .1 .1 .1 .1 .1 .1 .1 .1 .1 .1 .0 in
     (c .refuse2 .ensures ∙ text-short t n (w .ensures .0) k (c .before .before .before .before .before .before .if1 .left) (c .before .before .before .before .before .if2 .taken), text-none t n (c .refuse2 .ensures) k (c .before .before .before .clear2 .ensures))
 
@@ -42,7 +46,7 @@ same-length-3 : tie.Need-same-length-3
 same-length-3 c = search needs
 
 returns-3 : tie.Need-returns-3
-returns-3 c = let a = c .before .before .before .before .before .before .before .before .before .before .before .before .before .before .args in let t = memoryText (now (a .items)) (now (a .entries)) (now (a .kernels)) (now (a .lookaheads)) (now (a .kinds)) (now (a .values)) (now (a .gotos)) (a .rules) (a .strings) (a .lines) (a .all) (a .codes) in let n = length (now (a .out)) in
+returns-3 c = let a = c .before .before .before .before .before .before .before .before .before .before .before .before .before .before .before .before .args in let t = memoryText (now (a .items)) (now (a .entries)) (now (a .kernels)) (now (a .lookaheads)) (now (a .kinds)) (now (a .values)) (now (a .gotos)) (a .counts .grammar .rules) (a .counts .entries) (a .counts .kernels) (a .counts .states) (a .counts .grammar .terminals + 1) in let n = length (now (a .out)) in
     let w = c .before .before .before .before .write-table in let k = w .kept .1 .1 .1 .1 .1 .1 .1 .1 .1 .1 .1 .1 .0 in
     (text-whole t n (w .ensures .0) k (c .before .if1 .left) (c .if2 .left), text-written t n (w .ensures .0) k (c .before .if1 .left) (c .if2 .left) (w .ensures .1))
 
@@ -50,6 +54,7 @@ pub write-book-spec : {M : Type 1} → statement M
 write-book-spec =
     tie.close
     (tie.spec
+    add-write-table
     write-table-requires
     clear-requires
     refuse-requires

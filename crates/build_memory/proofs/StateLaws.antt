@@ -33,8 +33,8 @@ use Rattle.state_kernels.specs.Discovered.{firstLine, nextState, next-some, Hol
 use Rattle.least_lookaheads.specs.StatesHeld.{entryTable, LineOf, StatesHeld}
 use Rattle.least_lookaheads.proofs.TableLaws.{entries-fit}
 use Rattle.kernel_moves.specs.Held.{HoldsGrammar, holds-grammar}
-use Rattle.builder.specs.Stages.{Entered, Stated, Numbered}
-use Rattle.builder.proofs.PlaceLaws.{Place, place-of, place-low}
+use Rattle.build_memory.specs.Stages.{Entered, Stated, Numbered}
+use Rattle.build_memory.proofs.PlaceLaws.{Place, place-of, place-low}
 
 -- entry k's state was stored
 pub number-more : (entries : List ℕ) {k : ℕ} → k < length entries → ((j : ℕ) → j < k → getD entries j 0 ≡ j) → (j : ℕ) → j < k + 1 → getD (set entries k k) j 0 ≡ j

@@ -1,17 +1,15 @@
--- The grammar that was read, and its entries.
+-- The grammar that was read, its entries, and what is past the limits.
 use Prim.Native.Nat.{ℕ, _+_, _≤_, _<_}
 use native.Mathlib.Omega.{arith}
 use mathlib.Core.Path.{_≡_, refl, sym, ap, subst, _∙_}
 use mathlib.Core.Bool.{Bool, cond}
 use mathlib.Core.List.{List}
 use borrow.Author.Tests.{le-ltb}
-use lib.ListN.{length, replicate, length-replicate}
+use lib.ListN.{length}
 use Rattle.language.specs.Grammar.{Grammar}
 use Rattle.leftcorner.specs.ReadOff.{clash}
 use Rattle.items.specs.Layout.{layout, Shaped}
 use Rattle.reply.specs.declared.Refusal.{Refusal}
-use Rattle.reply.specs.declared.Reply.{Reply}
-use Rattle.reply.specs.declared.Reply.the-variants.{Refused}
 use Rattle.reply.specs.declared.Kind.the-variants as kind
 use Rattle.header.specs.declared.Heading.{Heading}
 use Rattle.grammar.specs.declared.GrammarReply.{GrammarReply}
@@ -20,11 +18,13 @@ use Rattle.grammar.specs.Book.{Book, accepted, rejected, rejectedAt, grammarOf}
 use Rattle.grammar.specs.Memory.{headingOf, replyOf, within, readOf, memoryOf}
 use Rattle.grammar.proofs.GrammarLaws.{accepted-reduced}
 use Rattle.lalr.specs.Strings.{entryStrings}
+use Rattle.lalr.specs.States.{states}
+use Rattle.lalr.specs.Discovery.{Fits}
 use Rattle.lalr.specs.BookLaws.{Within}
 use Rattle.entry_strings.specs.Memory.{Blank, Listed}
 use Rattle.entry_strings.proofs.HoldsLaws.{entries-shaped, entries-held}
-use Rattle.builder.specs.Build.{buildFrom, buildOf}
-use Rattle.builder.specs.Stages.{Entered, Answers}
+use Rattle.build_memory.specs.Stages.{Entered}
+use Rattle.build_memory.specs.Memory.{TooLarge}
 
 -- ---- what was read
 
@@ -99,23 +99,15 @@ module _ {gs m : List ℕ} {h : Heading} (R : ReadAs gs h m) (room : 16640 ≤ l
         holds-items = entries-held g (D .formed) n room e;
       }
 
--- more entries than a book may have
+-- ---- past the limits
+
+pub too-large : {gs : List ℕ} {g : Grammar} → grammarOf gs ≡ accepted g → (Within g → ⊥) → TooLarge gs (record { kind = kind.LimitExceeded; place = 0 })
+too-large {g = g} e f = record { grammar = g; book-is = e; past-limits = f; refusal-is = refl }
+
+-- too many entries
 pub listed-many : {g : Grammar} {size : ℕ} {items : List ℕ} {strings : ℕ} → Listed g size items strings → 127 < strings → Within g → ⊥
 listed-many L l w = let z = w .few-entries in let y = L .count-is in omega (arith, l, y, z)
 
--- ---- a slice of zeros
-pub zeros-again : (n : ℕ) {out : List ℕ} → out ≡ replicate n 0 → out ≡ replicate (length out) 0
-zeros-again n {out} e = e ∙ ap (λ (m : ℕ). replicate m 0) (sym (ap length e ∙ length-replicate n 0))
-
-pub in-room : {n : ℕ} {zeros : List ℕ} {g : Grammar} {r : Reply} {out : List ℕ} → zeros ≡ replicate n 0 → Answers g (length zeros) r out → Answers g n r out
-in-room {n} {zeros} {g} {r} {out} e a = subst (λ (m : ℕ). Answers g m r out) (ap length e ∙ length-replicate n 0) a
-
--- ---- the answer to the book
-
-pub build-refused : (gs : List ℕ) (room : ℕ) {x : Refusal} {out : List ℕ} → grammarOf gs ≡ rejected x → out ≡ replicate room 0 → (Refused x ≡ buildOf gs room .reply) × (out ≡ buildOf gs room .slice)
-unfolding buildOf
-build-refused gs room e o = (sym (ap (λ (b : Book). buildFrom room b .reply) e), o ∙ sym (ap (λ (b : Book). buildFrom room b .slice) e))
-
-pub build-answers : (gs : List ℕ) (room : ℕ) {g : Grammar} {r : Reply} {out : List ℕ} → grammarOf gs ≡ accepted g → Answers g room r out → (r ≡ buildOf gs room .reply) × (out ≡ buildOf gs room .slice)
-unfolding buildOf
-build-answers gs room e a = (a .reply-is ∙ sym (ap (λ (b : Book). buildFrom room b .reply) e), a .slice-is ∙ sym (ap (λ (b : Book). buildFrom room b .slice) e))
+-- too many states or kernel lines
+pub too-many-states : {g : Grammar} → (Fits (states g) → ⊥) → Within g → ⊥
+too-many-states f w = f (record { states = w .few-states; lines = w .few-lines })

@@ -25,9 +25,9 @@ use Rattle.state_kernels.specs.ItemLines.{item-line}
 use Rattle.judge.proofs.FirstLaws.{first-flags}
 use Rattle.least_lookaheads.specs.StatesHeld.{HoldsLookaheads}
 use Rattle.table_cells.specs.Cells.{itemsOf, HoldsMoves, HoldsLines, Filled}
-use Rattle.builder.specs.Stages.{Stated, Numbered, Settled}
-use Rattle.builder.proofs.StateLaws.{limits-of, entries-hold}
-use Rattle.builder.proofs.MoveLaws.{moves-hold}
+use Rattle.build_memory.specs.Stages.{Stated, Numbered, Settled}
+use Rattle.build_memory.proofs.StateLaws.{limits-of, entries-hold}
+use Rattle.build_memory.proofs.MoveLaws.{moves-hold}
 
 at-same : {g : Grammar} {F : List ℕ → ℕ → ℕ → Type 0} {q i k p j n d : ℕ} → p ≡ q → j ≡ i → n ≡ k → Lookahead g F q i k d → Lookahead g F p j n d
 at-same {g} {F} {q} {i} {k} {p} {j} {n} {d} a b c h =

@@ -1,4 +1,4 @@
--- What memory holds after each stage of the builder.
+-- What memory holds after each stage of the construction.
 use Prim.Native.Nat.{ℕ, _+_, _≤_}
 use mathlib.Core.Path.{_≡_}
 use mathlib.Core.List.{List}
@@ -9,9 +9,7 @@ use Rattle.language.specs.WellFormed.{WellFormed}
 use Rattle.leftcorner.specs.Table.{Table}
 use Rattle.items.specs.Layout.{Shaped}
 use Rattle.memory.specs.Memory.{HoldsItems, HoldsKernels}
-use Rattle.reply.specs.declared.Reply.{Reply}
 use Rattle.lalr.specs.Strings.{entryStrings, entryLines}
-use Rattle.lalr.specs.Builder.{builderReply, builderSlice}
 use Rattle.state_kernels.specs.Discovered.{HoldsStates, SafeStates}
 use Rattle.table_cells.specs.Cells.{itemsOf, Filled}
 
@@ -44,11 +42,6 @@ pub record Numbered (entries : List ℕ) (strings : ℕ) : Type 0 where
 pub record Settled (g : Grammar) (kernels lookaheads kinds values gotos : List ℕ) (r : ℕ) : Type 0 where
   pub holds-kernels : HoldsKernels kernels lookaheads (itemsOf g)
   pub filled : Filled g kinds values gotos r
-
--- the builder's reply and slice
-pub record Answers (g : Grammar) (room : ℕ) (r : Reply) (out : List ℕ) : Type 0 where
-  pub reply-is : r ≡ builderReply g room
-  pub slice-is : out ≡ builderSlice g room
 
 -- ---- memory that is safe to read: that of some grammar
 pub record SomeEntered (items : List ℕ) (terminals goal rules strings : ℕ) : Type 0 where

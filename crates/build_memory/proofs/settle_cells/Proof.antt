@@ -2,11 +2,11 @@ use native.Mathlib.Omega.{arith}
 use mathlib.Core.Path.{refl, sym, _∙_}
 use Rattle.judge.proofs.StateLaws.{within}
 use Rattle.judge.proofs.PassLaws.{few-codes-of, shaped-less}
-use Rattle.builder.proofs.StateLaws.{few-rules, few-strings, some-strings, few-terminals, few-flags, rules-hold, strings-hold, uses-hold, states-held}
-use Rattle.builder.proofs.LineLaws.{settled-of}
+use Rattle.build_memory.proofs.StateLaws.{few-rules, few-strings, some-strings, few-terminals, few-flags, rules-hold, strings-hold, uses-hold, states-held}
+use Rattle.build_memory.proofs.LineLaws.{settled-of}
 use borrow.Author.Needs.{needs}
-use Rattle.builder.proofs.settle_cells.Statement.{statement}
-use Rattle.builder.proofs.settle_cells.Tie as tie
+use Rattle.build_memory.proofs.settle_cells.Statement.{statement}
+use Rattle.build_memory.proofs.settle_cells.Tie as tie
 
 add-count : tie.Need-add-count
 add-count c = search needs

@@ -20,8 +20,8 @@ use Rattle.lalr.specs.Builder.{terminalCodes, first-in, codes-low}
 use Rattle.kernel_sets.specs.Cells.{shiftKind}
 use Rattle.state_kernels.specs.Discovered.{nextState, next-none, next-some, HoldsNext}
 use Rattle.table_cells.specs.Cells.{AskedOf, HoldsMoves}
-use Rattle.builder.specs.Stages.{Stated}
-use Rattle.builder.proofs.StateLaws.{kind-one, limits-of}
+use Rattle.build_memory.specs.Stages.{Stated}
+use Rattle.build_memory.proofs.StateLaws.{kind-one, limits-of}
 
 module _ {g : Grammar} {items kernels kinds values gotos : List ℕ} {terminals goal rules strings all lines : ℕ}
     (T : Stated g items kernels kinds values gotos terminals goal rules strings all lines) where

@@ -3,10 +3,10 @@ use native.Mathlib.Omega.{arith}
 use mathlib.Core.Path.{_≡_}
 use borrow.Author.Count.{below-none}
 use lib.ListN.{length, getD}
-use Rattle.builder.proofs.StateLaws.{number-more}
+use Rattle.build_memory.proofs.StateLaws.{number-more}
 use borrow.Author.Needs.{needs}
-use Rattle.builder.proofs.number_entries.Statement.{statement}
-use Rattle.builder.proofs.number_entries.Tie as tie
+use Rattle.build_memory.proofs.number_entries.Statement.{statement}
+use Rattle.build_memory.proofs.number_entries.Tie as tie
 
 abbrev Inv-loop : tie.InvT-loop
 Inv-loop strings entries₀ k₀ entries k = (k ≤ strings + 1) × (length entries ≡ 256) × ((j : ℕ) → j < k → getD entries j 0 ≡ j)

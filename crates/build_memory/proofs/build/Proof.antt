@@ -1,0 +1,84 @@
+use native.Mathlib.Omega.{arith}
+use mathlib.Core.Path.{_∙_}
+use mathlib.Core.Logic.{inl, inr}
+use Rattle.build_memory.proofs.ReadLaws.{read-as, read-refused, blank-of, entered-of, too-large, listed-many}
+use borrow.Author.Needs.{needs}
+use Rattle.build_memory.proofs.build.Statement.{statement}
+use Rattle.build_memory.proofs.build.Tie as tie
+
+read-grammar-requires : tie.Need-read-grammar-requires
+read-grammar-requires c κs = search needs
+
+enum-known-answer : tie.Need-enum-known-answer
+enum-known-answer c = search needs
+
+enum-known-answer-2 : tie.Need-enum-known-answer-2
+enum-known-answer-2 c = search needs
+
+same-length : tie.Need-same-length
+same-length c = search needs
+
+returns : tie.Need-returns
+returns c = let L = c .before .before .before .before .before .before .before .before .before .before .before .before .before .before .before .pre in inl (read-refused _ _ (omega (arith, L .items-room)) (c .before .before .before .before .before .read-grammar .ensures .0) (c .before .answer2 .given .1))
+
+list-entries-requires : tie.Need-list-entries-requires
+list-entries-requires c κs = let L = c .before .before .before .before .before .before .before .before .before .before .before .before .before .before .before .before .pre in let w = c .before .before .before .before .before .before .read-grammar in let R = read-as _ _ (omega (arith, L .items-room)) (w .ensures .0) (w .kept .1 .0) (w .ensures .1) (c .before .before .answer .given .1) in record { grammar = R .grammar; blank = blank-of R (omega (arith, w .kept .1 .0, L .items-room)) }
+
+refuse-size-requires : tie.Need-refuse-size-requires
+refuse-size-requires c κs = search needs
+
+same-length-2 : tie.Need-same-length-2
+same-length-2 c = search needs
+
+returns-2 : tie.Need-returns-2
+returns-2 c = let L = c .before .before .before .before .before .before .before .before .before .before .before .before .before .before .before .before .before .before .before .before .before .pre in let w = c .before .before .before .before .before .before .before .before .before .before .before .read-grammar in let R = read-as _ _ (omega (arith, L .items-room)) (w .ensures .0) (w .kept .1 .0) (w .ensures .1) (c .before .before .before .before .before .before .before .answer .given .1) in let M = c .before .before .before .before .list-entries .ensures .1 (R .grammar) (blank-of R (omega (arith, w .kept .1 .0, L .items-room))) in rw (c .refuse-size .ensures) (inr (too-large (R .book-is) (listed-many M (c .before .if1 .taken))))
+
+build-entered-requires : tie.Need-build-entered-requires
+build-entered-requires c κs = let L = c .before .before .before .before .before .before .before .before .before .before .before .before .before .before .before .before .before .before .before .before .before .before .before .before .before .before .before .pre in let w = c .before .before .before .before .before .before .before .before .before .before .before .before .before .before .before .before .before .read-grammar in let R = read-as _ _ (omega (arith, L .items-room)) (w .ensures .0) (w .kept .1 .0) (w .ensures .1) (c .before .before .before .before .before .before .before .before .before .before .before .before .before .answer .given .1) in let M = c .before .before .before .before .before .before .before .before .before .before .list-entries .ensures .1 (R .grammar) (blank-of R (omega (arith, w .kept .1 .0, L .items-room))) in (record { grammar = R .grammar; is = entered-of R (omega (arith, w .kept .1 .0, L .items-room)) M (c .before .before .before .before .before .before .before .if1 .left) }, record { items-room = c .before .before .before .before .before .before .before .before .before .before .list-entries .ensures .0 ∙ w .kept .1 .0 ∙ L .items-room; entries-room = L .entries-room; kernels-room = L .kernels-room; lookaheads-room = L .lookaheads-room; kinds-zeros = L .kinds-zeros; values-zeros = L .values-zeros; gotos-zeros = L .gotos-zeros })
+
+same-length-3 : tie.Need-same-length-3
+same-length-3 c = search needs
+
+same-length-4 : tie.Need-same-length-4
+same-length-4 c = search needs
+
+same-length-5 : tie.Need-same-length-5
+same-length-5 c = search needs
+
+same-length-6 : tie.Need-same-length-6
+same-length-6 c = search needs
+
+same-length-7 : tie.Need-same-length-7
+same-length-7 c = search needs
+
+same-length-8 : tie.Need-same-length-8
+same-length-8 c = search needs
+
+same-length-9 : tie.Need-same-length-9
+same-length-9 c = search needs
+
+returns-3 : tie.Need-returns-3
+returns-3 c = let L = c .before .before .before .before .before .before .before .before .before .before .before .before .before .before .before .before .before .before .before .before .before .before .before .before .before .before .before .before .before .before .before .before .before .before .before .before .before .before .before .before .pre in let w = c .before .before .before .before .before .before .before .before .before .before .before .before .before .before .before .before .before .before .before .before .before .before .before .before .before .before .before .before .before .before .read-grammar in let R = read-as _ _ (omega (arith, L .items-room)) (w .ensures .0) (w .kept .1 .0) (w .ensures .1) (c .before .before .before .before .before .before .before .before .before .before .before .before .before .before .before .before .before .before .before .before .before .before .before .before .before .before .answer .given .1) in let M = c .before .before .before .before .before .before .before .before .before .before .before .before .before .before .before .before .before .before .before .before .before .before .before .list-entries .ensures .1 (R .grammar) (blank-of R (omega (arith, w .kept .1 .0, L .items-room))) in c .before .before .before .before .before .before .before .before .before .before .before .before .build-entered .ensures _ (R .grammar) (R .book-is) (entered-of R (omega (arith, w .kept .1 .0, L .items-room)) M (c .before .before .before .before .before .before .before .before .before .before .before .before .before .before .before .before .before .before .before .before .if1 .left))
+
+pub build-spec : {M : Type 1} → statement M
+build-spec =
+    tie.close
+    (tie.spec
+    read-grammar-requires
+    enum-known-answer
+    enum-known-answer-2
+    same-length
+    returns
+    list-entries-requires
+    refuse-size-requires
+    same-length-2
+    returns-2
+    build-entered-requires
+    same-length-3
+    same-length-4
+    same-length-5
+    same-length-6
+    same-length-7
+    same-length-8
+    same-length-9
+    returns-3)
