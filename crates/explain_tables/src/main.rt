@@ -4,16 +4,6 @@ use grammar::GrammarReply;
 use program::print_text;
 use table::TableReply;
 
-// A refusal of a line: which book's, by whether the grammar book is read.
-fn explain_line(grammar: &[u8], book: &[u8], number: u64, place: usize) {
-    let mut items = [0u8; grammar::TABLE];
-    let answer = grammar::read_grammar(grammar, &mut items);
-    match answer {
-        GrammarReply::Refused(_) => explanation::explain_line(b"grammar book", grammar, number, place),
-        GrammarReply::Read(_) => explanation::explain_line(b"table book", book, number, place),
-    }
-}
-
 // A refusal with 7 to 10: both books are read again.
 fn explain_tables(grammar: &[u8], book: &[u8], number: u64, place: usize) {
     let mut items = [0u8; table::ITEMS];
@@ -66,20 +56,19 @@ fn explain(grammar: &[u8], book: &[u8], number: u64, place: usize) {
         print_text(b"the tables meet the construction\n");
         return;
     }
-    if grammar.len() > 65536 {
-        print_text(b"the grammar book is longer than 65536 bytes\n");
+    // Both lengths come before all else.
+    if book.len() > 65536 {
+        explanation::explain_book(b"table book", book, number, place);
         return;
     }
-    if book.len() > 65536 {
-        print_text(b"the table book is longer than 65536 bytes\n");
+    let mut items = [0u8; grammar::TABLE];
+    let answer = grammar::read_grammar(grammar, &mut items);
+    if let GrammarReply::Refused(_) = answer {
+        explanation::explain_book(b"grammar book", grammar, number, place);
         return;
     }
     if number <= 4 {
-        explain_line(grammar, book, number, place);
-        return;
-    }
-    if number <= 6 {
-        explanation::explain_nonterminal(number, place);
+        explanation::explain_book(b"table book", book, number, place);
         return;
     }
     explain_tables(grammar, book, number, place);

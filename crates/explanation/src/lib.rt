@@ -145,7 +145,7 @@ fn line_end(book: &[u8], place: usize) -> usize
 }
 
 // A refusal of the line of a book that begins at `place`.
-pub fn explain_line(name: &[u8], book: &[u8], number: u64, place: usize) {
+fn explain_line(name: &[u8], book: &[u8], number: u64, place: usize) {
     print_text(name);
     if book.len() <= place {
         print_text(b": it ends where a line is due\n");
@@ -160,8 +160,17 @@ pub fn explain_line(name: &[u8], book: &[u8], number: u64, place: usize) {
     print_meaning(number);
 }
 
-// A refusal of a nonterminal: 5 or 6.
-pub fn explain_nonterminal(number: u64, place: usize) {
+// A refusal of a book as it is read: 1 to 6.
+pub fn explain_book(name: &[u8], book: &[u8], number: u64, place: usize) {
+    if book.len() > 65536 {
+        print_text(name);
+        print_text(b": it is longer than 65536 bytes\n");
+        return;
+    }
+    if number <= 4 {
+        explain_line(name, book, number, place);
+        return;
+    }
     print_count(b"nonterminal ", place);
     if number == 5 {
         print_text(b" derives no string of terminals\n");
@@ -418,7 +427,8 @@ fn explain_conflict(
     let Conflict::On(c, first, second) = conflict else {
         return;
     };
-    print_count(b"on code ", c);
+    print_count(b"state ", q);
+    print_count(b", code ", c);
     print_text(b": ");
     print_action(first);
     print_text(b", and ");

@@ -21,6 +21,12 @@ slice-aggregate-print-count c = search needs
 print-count-requires : tie.Need-print-count-requires
 print-count-requires c κs = search needs
 
+slice-aggregate-print-count-2 : tie.Need-slice-aggregate-print-count-2
+slice-aggregate-print-count-2 c = search needs
+
+print-count-requires-2 : tie.Need-print-count-requires-2
+print-count-requires-2 c κs = search needs
+
 slice-aggregate-print-text : tie.Need-slice-aggregate-print-text
 slice-aggregate-print-text c = search needs
 
@@ -46,10 +52,10 @@ print-text-requires-3 : tie.Need-print-text-requires-3
 print-text-requires-3 c κs = search needs
 
 print-line-demands-requires : tie.Need-print-line-demands-requires
-print-line-demands-requires c κs = let p = c .before .before .before .before .before .before .before .before .before .before .before .before .before .before .before .before .before .before .before .before .before .before .before .pre in let f = c .before .before .before .before .before .before .before .before .before .before .before .before .before .find-conflict .ensures .0 in let e = c .before .before .before .before .before .before .before .before .before .before .before .conflict .given .1 in let h = rw e at f in (p .0 .lined .some-lines, (p .1 .0, (p .1 .1 .0 .0, p .1 .1 .0 .2, omega (arith, h, p .1 .0 .few-codes))))
+print-line-demands-requires c κs = let p = c .before .before .before .before .before .before .before .before .before .before .before .before .before .before .before .before .before .before .before .before .before .before .before .before .before .pre in let f = c .before .before .before .before .before .before .before .before .before .before .before .before .before .before .before .find-conflict .ensures .0 in let e = c .before .before .before .before .before .before .before .before .before .before .before .before .before .conflict .given .1 in let h = rw e at f in (p .0 .lined .some-lines, (p .1 .0, (p .1 .1 .0 .0, p .1 .1 .0 .2, omega (arith, h, p .1 .0 .few-codes))))
 
 print-rule-demands-requires : tie.Need-print-rule-demands-requires
-print-rule-demands-requires c κs = let p = c .before .before .before .before .before .before .before .before .before .before .before .before .before .before .before .before .before .before .before .before .before .before .before .before .pre in let f = c .before .before .before .before .before .before .before .before .before .before .before .before .before .before .find-conflict .ensures .0 in let e = c .before .before .before .before .before .before .before .before .before .before .before .before .conflict .given .1 in let h = rw e at f in (p .1 .0, ((p .0 .few, p .1 .1 .0 .0, omega (arith, h, p .1 .0 .few-codes)), (p .0 .room, p .1 .1 .1 .0)))
+print-rule-demands-requires c κs = let p = c .before .before .before .before .before .before .before .before .before .before .before .before .before .before .before .before .before .before .before .before .before .before .before .before .before .before .pre in let f = c .before .before .before .before .before .before .before .before .before .before .before .before .before .before .before .before .find-conflict .ensures .0 in let e = c .before .before .before .before .before .before .before .before .before .before .before .before .before .before .conflict .given .1 in let h = rw e at f in (p .1 .0, ((p .0 .few, p .1 .1 .0 .0, omega (arith, h, p .1 .0 .few-codes)), (p .0 .room, p .1 .1 .1 .0)))
 
 returns-2 : tie.Need-returns-2
 returns-2 c = search needs
@@ -64,6 +70,8 @@ explain-conflict-spec =
     returns
     slice-aggregate-print-count
     print-count-requires
+    slice-aggregate-print-count-2
+    print-count-requires-2
     slice-aggregate-print-text
     print-text-requires
     print-action-requires
