@@ -1,4 +1,4 @@
--- The builder's memory once its states are known, as each later stage asks for it.
+-- Memory once the states are known, as each later stage asks for it.
 use Prim.Native.Nat.{ℕ, zero, suc, _+_, _*_, _-_, _≤_, _<_}
 use native.Mathlib.Decide.{ℕ-discrete, decLe}
 use native.Mathlib.Omega.{arith}
