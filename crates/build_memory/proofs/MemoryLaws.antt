@@ -1,5 +1,5 @@
 -- The slices that are lent, and the table that is left in them: safe to read, with a conflict or without one.
-use Prim.Native.Nat.{ℕ, _≤_}
+use Prim.Native.Nat.{ℕ, zero, suc, _≤_}
 use native.Mathlib.Omega.{arith}
 use mathlib.Core.Path.{_≡_, ap, subst, _∙_}
 use mathlib.Core.List.{List}
@@ -9,6 +9,7 @@ use Rattle.grammar.specs.Book.{accepted, grammarOf}
 use Rattle.table.specs.declared.Counts.{Counts}
 use Rattle.moves.specs.Moves.{Cells}
 use Rattle.judge.specs.Given.{Sized}
+use Rattle.table_cells.specs.Cells.{Filled}
 use Rattle.build_memory.specs.Stages.{Stated, Numbered, Settled, Rooms}
 use Rattle.build_memory.specs.Memory.{Lent, Constructed}
 use Rattle.build_memory.proofs.StateLaws.{few-rules, few-strings, some-strings, few-terminals, few-flags}
@@ -68,3 +69,11 @@ module _ {gs : List ℕ} {n : Counts} {q : ℕ} {items entries kernels lookahead
 
   pub memory-small : (n .grammar .terminals ≤ 63) × (n .states ≤ 255)
   memory-small = (few-terminals (C .stated .entered), C .stated .safe .few-states)
+
+  -- the state with a conflict is one of the table's
+  pub conflict-low : q ≤ n .states
+  conflict-low = go q (C .settled .filled)
+    where
+      go : (p : ℕ) → Filled (C .grammar) kinds values gotos p → p ≤ n .states
+      go zero f = omega arith
+      go (suc p) f = let z = C .stated .found .state-count in omega (arith, f .0, z)

@@ -1,8 +1,104 @@
 // explain_grammar GRAMMAR..: builds the tables of each grammar book, prints the reply's number and place, and tells in words why there are none.
 use build_memory::Built;
 use grammar::GrammarReply;
+use program::print_count;
 use program::print_text;
 use reply::Reply;
+ghost use mathlib.Core.Path.{_≡_};
+ghost use Prim.Native.Nat.{_<_, _≤_};
+ghost use lib.ListN.{length};
+ghost use Rattle.moves.specs.Moves.{Cells};
+
+// The symbol on which state p goes to state q; 0 where there is none.
+fn symbol_between(kinds: &[u8], values: &[u8], gotos: &[u8], p: usize, q: usize) -> usize
+    requires { ⌜ Cells (now kinds) (now values) (now gotos) ⌝ }
+    requires { ⌜ p < 256 ⌝ }
+    ensures { λ r. ⌜ r < 128 ⌝ }
+{
+    let mut x = 1;
+    while x < 128 {
+        if moves::next_of(kinds, values, gotos, p, x) == q {
+            return x;
+        }
+        x += 1;
+    }
+    0
+}
+
+// The lowest state that goes to q, a higher one; 0 where there is none.
+fn state_before(kinds: &[u8], values: &[u8], gotos: &[u8], q: usize) -> usize
+    requires { ⌜ Cells (now kinds) (now values) (now gotos) ⌝ }
+    requires { ⌜ (1 ≤ q) × (q < 256) ⌝ }
+    ensures { λ r. ⌜ r < q ⌝ }
+{
+    let mut p = 1;
+    while p < q {
+        if symbol_between(kinds, values, gotos, p, q) != 0 {
+            return p;
+        }
+        p += 1;
+    }
+    0
+}
+
+// Stores the states from an entry's to q, the last at 255, and answers where they begin. Every state but an entry's was found from a lower one.
+fn find_way(kinds: &[u8], values: &[u8], gotos: &[u8], strings: usize, q: usize, way: &mut [u8]) -> usize
+    requires { ⌜ Cells (now kinds) (now values) (now gotos) ⌝ }
+    requires { ⌜ (1 ≤ q) × (q < 256) × (length (now way) ≡ 256) ⌝ }
+    ensures { λ r. ⌜ r < 256 ⌝ }
+{
+    let mut first = 255;
+    let mut s = q;
+    way[255] = q as u8;
+    while strings < s {
+        let p = state_before(kinds, values, gotos, s);
+        if p == 0 {
+            return first;
+        }
+        first -= 1;
+        way[first] = p as u8;
+        s = p;
+    }
+    first
+}
+
+fn wide(x: u8) -> usize
+    ensures { λ r. ⌜ (r ≡ x) × (r < 256) ⌝ }
+{
+    x as usize
+}
+
+// The symbols on the way.
+fn print_symbols(kinds: &[u8], values: &[u8], gotos: &[u8], way: &[u8], first: usize)
+    requires { ⌜ Cells (now kinds) (now values) (now gotos) ⌝ }
+    requires { ⌜ length (now way) ≡ 256 ⌝ }
+{
+    let mut i = first;
+    while i < 255 {
+        let p = wide(way[i]);
+        let s = wide(way[i + 1]);
+        print_count(b" ", symbol_between(kinds, values, gotos, p, s));
+        i += 1;
+    }
+}
+
+// How state q is reached.
+fn print_way(kinds: &[u8], values: &[u8], gotos: &[u8], strings: usize, q: usize)
+    requires { ⌜ Cells (now kinds) (now values) (now gotos) ⌝ }
+    requires { ⌜ (1 ≤ q) × (q < 256) ⌝ }
+{
+    let mut way = [0u8; 256];
+    let first = find_way(kinds, values, gotos, strings, q, &mut way);
+    print_count(b"state ", q);
+    if first == 255 {
+        print_count(b" is that of entry ", q);
+    } else {
+        print_count(b" is reached from entry ", wide(way[first]));
+        print_text(b", over");
+        print_symbols(kinds, values, gotos, &way, first);
+    }
+    print_text(b"\n");
+}
 
 // A refusal of a grammar that is read: its tables are built again, in memory.
 fn explain_tables(grammar: &[u8]) {
@@ -27,24 +123,27 @@ fn explain_tables(grammar: &[u8]) {
     match built {
         Built::Refused(_) => print_text(b"there would be more than 127 entries, 255 states or 1023 kernel lines\n"),
         Built::Table(_) => print_text(b"the table book would be longer than 65536 bytes\n"),
-        Built::Conflict(q, counts) => explanation::explain_memory(
-            &items,
-            &entries,
-            &kernels,
-            &lookaheads,
-            &kinds,
-            &values,
-            &gotos,
-            &named,
-            counts.grammar.terminals,
-            counts.grammar.goal,
-            counts.grammar.rules,
-            counts.entries,
-            counts.kernels,
-            counts.states,
-            9,
-            q,
-        ),
+        Built::Conflict(q, counts) => {
+            explanation::explain_memory(
+                &items,
+                &entries,
+                &kernels,
+                &lookaheads,
+                &kinds,
+                &values,
+                &gotos,
+                &named,
+                counts.grammar.terminals,
+                counts.grammar.goal,
+                counts.grammar.rules,
+                counts.entries,
+                counts.kernels,
+                counts.states,
+                9,
+                q,
+            );
+            print_way(&kinds, &values, &gotos, counts.entries, q);
+        }
     }
 }
 

@@ -2,7 +2,7 @@
 use Prim.Native.Nat.{ℕ}
 use native.Mathlib.Omega.{arith}
 use lib.ListN.{length-replicate}
-use Rattle.build_memory.proofs.MemoryLaws.{memory-sized, memory-small}
+use Rattle.build_memory.proofs.MemoryLaws.{memory-sized, memory-small, conflict-low}
 use borrow.Author.Needs.{needs}
 use Rattle.explain_grammar.proofs.explain_tables.Statement.{statement}
 use Rattle.explain_grammar.proofs.explain_tables.Tie as tie
@@ -79,6 +79,18 @@ slice-aggregate-explain-memory-8 c = search needs
 explain-memory-requires : tie.Need-explain-memory-requires
 explain-memory-requires c κs = let f = c .before .before .before .before .before .before .before .before .before .before .before .before .before .before .before .before .before .before .build .ensures in let e = c .before .before .before .before .before .before .before .before .before .built .given .1 in let h = rw e at f in (memory-sized (h .1) (let z = length-replicate {A = ℕ} 256 0 in omega (arith, z)), memory-small (h .1))
 
+slice-aggregate-print-way : tie.Need-slice-aggregate-print-way
+slice-aggregate-print-way c = search needs
+
+slice-aggregate-print-way-2 : tie.Need-slice-aggregate-print-way-2
+slice-aggregate-print-way-2 c = search needs
+
+slice-aggregate-print-way-3 : tie.Need-slice-aggregate-print-way-3
+slice-aggregate-print-way-3 c = search needs
+
+print-way-requires : tie.Need-print-way-requires
+print-way-requires c κs = let f = c .before .before .before .before .before .before .before .before .before .before .before .before .before .before .before .before .before .before .before .before .before .before .build .ensures in let e = c .before .before .before .before .before .before .before .before .before .before .before .before .before .built .given .1 in let h = rw e at f in (record { kinds-room = let z = h .1 .rooms .kinds-room in omega (arith, z); values-room = let z = h .1 .rooms .values-room in omega (arith, z); gotos-room = let z = h .1 .rooms .gotos-room in omega (arith, z) }, (omega (arith, h .0), (let y = memory-small (h .1) in let z = conflict-low (h .1) in omega (arith, z, y .1))))
+
 returns : tie.Need-returns
 returns c = search needs
 
@@ -116,6 +128,10 @@ explain-tables-spec =
     slice-aggregate-explain-memory-7
     slice-aggregate-explain-memory-8
     explain-memory-requires
+    slice-aggregate-print-way
+    slice-aggregate-print-way-2
+    slice-aggregate-print-way-3
+    print-way-requires
     returns
     returns-2
     returns-3)
