@@ -31,7 +31,8 @@ module _ {items : List ℕ} {codes : ℕ} {nul fst from : List ℕ} {start i k :
       long = r .long;
       only = λ c on. begun c (r .only c on);
       kept = r .kept;
-      every = λ c p. set-on c (p .code) (r .every (p .code) c (p .first)) }
+      every = λ c p. set-on c (p .code) (r .every (p .code) c (p .first));
+    }
       where
         set-on : (c d : ℕ) → On fs (0 + c) ⊎ ((b ≡ true) × (c ≡ d)) → On fs c
         set-on c d (inl on) = subst (On fs) (at-zero c) on
@@ -42,11 +43,13 @@ module _ {items : List ℕ} {codes : ℕ} {nul fst from : List ℕ} {start i k :
       long = w .long ∙ r .long;
       only = λ c on. late c (w .only c on);
       kept = λ c on. w .kept c (r .kept c on);
-      every = λ c p. set-on c p (r .every (p .code) c (p .first)) }
+      every = λ c p. set-on c p (r .every (p .code) c (p .first));
+    }
       where
         late : (c : ℕ) → On fs c ⊎ InRow from start codes 0 c → On fs₀ c ⊎ FirstsAt items codes nul fst from start i k c
         late c (inl on) = begun c (r .only c on)
         late c (inr q) = inr (record { code = q .code; low = q .low; on = q .on; first = subst (FirstBy codes nul fst (restAt items i k) (q .code)) (sym (q .is ∙ at-zero (q .code))) (r .through t (q .code)) })
+
         set-on : (c : ℕ) (p : FirstsAt items codes nul fst from start i k c) → On fs (0 + c) ⊎ ((b ≡ true) × (c ≡ p .code)) → On fs′ c
         set-on c p (inl on) = w .kept c (subst (On fs) (at-zero c) on)
         set-on c p (inr q) = w .every c (record { code = p .code; low = p .low; on = p .on; is = q .1 ∙ sym (at-zero (p .code)) })

@@ -47,6 +47,7 @@ module _ {D : ℕ → ℕ → Type 0} where
       back : (c v : ℕ) → Demand s c v ⊎ D c v → Demand s₀ c v ⊎ E c v
       back c v (inl d) = old .only c v d
       back c v (inr d) = inr (f c v d)
+
       join : Asking E s₀ s′
       join = record { long = a .asking .long ∙ old .long; kept = λ c v d. a .asking .kept c v (old .kept c v d); only = λ c v d. back c v (a .asking .only c v d) }
 
@@ -69,13 +70,15 @@ module _ (s : List ℕ) (c v : ℕ) (l : c < length s) (pos : 1 ≤ v) where
   -- nothing was asked of it
   pub ask-new : {s′ : List ℕ} → getD s c 0 ≡ 0 → s′ ≡ set s c v → Asks (Wants c v) s s′ true
   ask-new z e = subst (λ (x : List ℕ). Asks (Wants c v) s x true) (sym e) (record {
-      asking = record { long = length-set s c v; kept = λ d w h. kept-it d w h (ℕ-discrete d c); only = λ d w h. only-it d w h (ℕ-discrete d c) };
-      met = λ _ d w h. record { is = subst (λ (x : ℕ). getD (set s c v) x 0 ≡ w) (sym (h .code)) (getD-set-same s c v 0 l ∙ sym (h .value)); some = λ n. some-value (sym (h .value) ∙ n) };
-      clash = λ z. absurd (true≢false z) })
+    asking = record { long = length-set s c v; kept = λ d w h. kept-it d w h (ℕ-discrete d c); only = λ d w h. only-it d w h (ℕ-discrete d c) };
+    met = λ _ d w h. record { is = subst (λ (x : ℕ). getD (set s c v) x 0 ≡ w) (sym (h .code)) (getD-set-same s c v 0 l ∙ sym (h .value)); some = λ n. some-value (sym (h .value) ∙ n) };
+    clash = λ z. absurd (true≢false z);
+  })
     where
       kept-it : (d w : ℕ) → Demand s d w → Dec (d ≡ c) → Demand (set s c v) d w
       kept-it d w h (yes q) = absurd (h .some (sym (h .is) ∙ (ap (λ (x : ℕ). getD s x 0) q ∙ z)))
       kept-it d w h (no n) = record { is = getD-set-other s c d v 0 n ∙ h .is; some = h .some }
+
       only-it : (d w : ℕ) → Demand (set s c v) d w → Dec (d ≡ c) → Demand s d w ⊎ Wants c v d w
       only-it d w h (yes q) = inr (record { code = q; value = sym (h .is) ∙ (ap (λ (x : ℕ). getD (set s c v) x 0) q ∙ getD-set-same s c v 0 l) })
       only-it d w h (no n) = inl (record { is = sym (getD-set-other s c d v 0 n) ∙ h .is; some = h .some })
@@ -87,8 +90,10 @@ module _ (s : List ℕ) (c v : ℕ) (l : c < length s) (pos : 1 ≤ v) where
   -- something else was
   pub ask-other : (getD s c 0 ≡ 0 → ⊥) → (getD s c 0 ≡ v → ⊥) → Asks (Wants c v) s s false
   ask-other n m = record {
-      asking = asking-none s; met = λ z. absurd (false≢true z);
-      clash = λ _. record { code = c; wanted = v; other = getD s c 0; wants = record { code = refl; value = refl }; there = record { is = refl; some = n }; differ = m } }
+    asking = asking-none s;
+    met = λ z. absurd (false≢true z);
+    clash = λ _. record { code = c; wanted = v; other = getD s c 0; wants = record { code = refl; value = refl }; there = record { is = refl; some = n }; differ = m };
+  }
 
 pub asks-is : {D : ℕ → ℕ → Type 0} {s₀ s : List ℕ} {b x : Bool} → b ≡ x → Asks D s₀ s b → Asks D s₀ s x
 asks-is {D} {s₀} {s} e a = subst (Asks D s₀ s) e a
@@ -123,8 +128,10 @@ module _ {items nul fst from : List ℕ} {rules codes i k start : ℕ} where
       flagged : (c : ℕ) → On row₀ c ⊎ FirstsAt items codes nul fst from start i k c → FirstsAt items codes nul fst from start i k c
       flagged c (inl on) = all-off 64 none on
       flagged c (inr f) = f
+
       to-item : (c v : ℕ) → CodeAsks row 0 0 codes (512 + i) c v → ItemAsks items nul fst from rules codes i k start c v
       to-item c v w = announces m (flagged c (r .only c (subst (On row) (at-zero c) (w .on)))) (w .is)
+
       of-item : (c v : ℕ) → ItemAsks items nul fst from rules codes i k start c v → CodeAsks row 0 0 codes (512 + i) c v
       of-item c v (announces e f is) = record { above = omega arith; below = first-low codes nul fst (f .low) (f .first); on = subst (On row) (sym (at-zero c)) (r .every c f); is = is }
       of-item c v (pops n hi len low on is) = absurd (n m)

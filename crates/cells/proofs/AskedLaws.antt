@@ -135,6 +135,7 @@ module _ (g : Grammar) (t : Table) {items entries kernels lookaheads kinds value
       where
         low : (X : ℕ) (x y : Action) → X < codes → Asked g t (FirstBy codes nul fst) q X x → Asked g t (FirstBy codes nul fst) q X y → x ≡ y
         low X x y l h k = same-action (askable h) (askable k) (same X x y l (omega (arith, H .formed .few-terminals)) h k)
+
         go : (X : ℕ) (x y : Action) → Asked g t (FirstBy codes nul fst) q X x → Asked g t (FirstBy codes nul fst) q X y
             → (X < codes) ⊎ (IsNonterminal g X × (x ≡ S 0)) → (X < codes) ⊎ (IsNonterminal g X × (y ≡ S 0)) → x ≡ y
         go X x y h k (inl l) u = low X x y l h k
@@ -150,15 +151,19 @@ module _ (g : Grammar) (t : Table) {items entries kernels lookaheads kinds value
           → ItemAsks items nul fst from rules codes i k start c v → (x : Action) × Asked g t (FirstBy codes nul fst) q c x × (demandOf x ≡ v)
       item-asked {i} {k} {c = c} R (announces m f e) =
           let p = at-point (row-declared g t H R) (short-row R) m in
-          let h = row-carries g t H nul fst count C R (f .low) (f .on) in
-          (A i, to-announce i (p .1) (subst (λ (n : ℕ). Carries g t (FirstBy codes nul fst) q i n (f .code)) (sym (p .2)) h)
-            (subst (λ (β : List ℕ). FirstBy codes nul fst β (f .code) c) (ap (restAt items i) (sym (p .2)) ∙ rest-groups i (p .1)) (f .first)), sym e)
+          let h = row-carries g t H nul fst count C R (f .low) (f .on) in (
+            A i,
+            to-announce i (p .1) (subst (λ (n : ℕ). Carries g t (FirstBy codes nul fst) q i n (f .code)) (sym (p .2)) h)
+                (subst (λ (β : List ℕ). FirstBy codes nul fst β (f .code) c) (ap (restAt items i) (sym (p .2)) ∙ rest-groups i (p .1)) (f .first)),
+            sym e,
+          )
       item-asked {k = k} {c = c} R (pops n hi len low on e) =
           let p = finished (row-declared g t H R) hi len in
-          let h = row-carries g t H nul fst count C R low on in
-          (P (suc (length (p .2))),
+          let h = row-carries g t H nul fst count C R low on in (
+            P (suc (length (p .2))),
             to-pop (p .0) (p .4) (subst₂ (λ (j m : ℕ). Carries g t (FirstBy codes nul fst) q j m c) (p .3) (sym (p .5)) h),
-            omega (arith, pop-value (length (p .2)) (H .fits .string-short (p .0) (p .1) (p .2) (p .4)), p .5, e))
+            omega (arith, pop-value (length (p .2)) (H .fits .string-short (p .0) (p .1) (p .2) (p .4)), p .5, e),
+          )
 
       pub state-asked : {c v : ℕ} → StateAsks c v → (x : Action) × Asked g t (FirstBy codes nul fst) q c x × (demandOf x ≡ v)
       state-asked {c} (inl w) = let m = M .only c (w .above) (subst (On moves) (at-zero c) (w .on)) in (S 0, to-move (m .2), sym (w .is))
@@ -178,14 +183,18 @@ module _ (g : Grammar) (t : Table) {items entries kernels lookaheads kinds value
           go (inr k) = absurd (omega (arith, k .0))
       asked-state {c} l (to-announce i {d = d} {r = r} e h f) =
           let w = carries-row g t H nul fst count C h in
-          row-asks (w .row) (announces (H .holds-items .rule-row i e .mark-is) (record { code = d; low = w .low; on = w .on;
-            first = subst (λ (β : List ℕ). FirstBy codes nul fst β d c) (sym (rest-groups i e)) f }) refl)
+          row-asks (w .row) (announces (H .holds-items .rule-row i e .mark-is) (record {
+            code = d;
+            low = w .low;
+            on = w .on;
+            first = subst (λ (β : List ℕ). FirstBy codes nul fst β d c) (sym (rest-groups i e)) f;
+          }) refl)
       asked-state {c} l (to-pop k {s = s} {γ = γ} e h) =
           let w = carries-row g t H nul fst count C h in
           let z = H .holds-items .entry-row k s e in
           let short = H .fits .string-short k s γ e in
           row-asks (w .row) (pops (λ m. omega (arith, z .mark-is, m, short)) (omega (arith, entry-high g t k s γ e, H .rule-count)) (z .length-is) (w .low) (w .on)
-            (omega (arith, pop-value (length γ) short)))
+          (omega (arith, pop-value (length γ) short)))
 
       module _ {asked₀ asked : List ℕ} {b : Bool} (none : asked₀ ≡ replicate 64 0) (a : Asks StateAsks asked₀ asked b) where
         new-asked : {c v : ℕ} → Demand asked c v → StateAsks c v
@@ -198,7 +207,8 @@ module _ (g : Grammar) (t : Table) {items entries kernels lookaheads kinds value
         pub holds-asked : b ≡ true → HoldsAsked g t (FirstBy codes nul fst) q asked
         holds-asked e = record {
           only = λ c l on. state-asked (new-asked (record { is = refl; some = on .nonzero }));
-          every = λ c x l h. a .met e c (demandOf x) (asked-state l h) .is }
+          every = λ c x l h. a .met e c (demandOf x) (asked-state l h) .is;
+        }
 
         cells-agree : b ≡ true → CellsAgree g t (FirstBy codes nul fst) q
         cells-agree e = agree-below (λ X x y l m h k. let ha = holds-asked e in sym (ha .every X x m h) ∙ ha .every X y m k)

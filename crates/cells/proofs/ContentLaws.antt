@@ -62,10 +62,13 @@ pop-back n m l e = go (decLe 1 n) (decLe n 255)
   where
     low : n ≤ 0 → popValue n ≡ 255
     low h = ap (λ (b : Bool). cond (b && leb n 255) (n - 1) 255) (lt-leb 1 n (omega arith))
+
     high : 1 ≤ n → 255 < n → popValue n ≡ 255
     high h k = ap (λ (b : Bool). cond (b && leb n 255) (n - 1) 255) (le-leb 1 n h) ∙ ap (λ (b : Bool). cond (true && b) (n - 1) 255) (lt-leb n 255 k)
+
     inside : 1 ≤ n → n ≤ 255 → popValue n ≡ n - 1
     inside h k = ap (λ (b : Bool). cond (b && leb n 255) (n - 1) 255) (le-leb 1 n h) ∙ ap (λ (b : Bool). cond (true && b) (n - 1) 255) (le-leb n 255 k)
+
     go : Dec (1 ≤ n) → Dec (n ≤ 255) → n ≡ suc m
     go (no f) d = absurd (omega (arith, low (omega arith)))
     go (yes h) (no f) = absurd (omega (arith, high h (omega arith)))
@@ -117,17 +120,20 @@ module _ (g : Grammar) (t : Table) {items entries kernels lookaheads kinds value
       where
         low : c < 64
         low = omega (arith, few-codes)
+
         filled-by : (y : Action) → ActionAt g t q c y → getD asked c 0 ≡ demandOf y
         filled-by (S s) h = hold .every c (S 0) low (m .asked c (S s) h)
         filled-by (N s) h = absurd (omega (arith, H .fits .form .goto-kind q c s h .0))
         filled-by (A i) h = hold .every c (A i) low (m .asked c (A i) h)
         filled-by (P n) h = hold .every c (P n) low (m .asked c (P n) h)
+
         unasked : actionFor (t .actions) q c ≡ none → Dec (getD asked c 0 ≡ 0) → getD asked c 0 ≡ 0
         unasked e (yes z) = z
         unasked e (no n) =
             let x = hold .only c low (set-on n) in
             let y = m .filled c (x .0) (x .1) in
             let z : none ≡ some (y .0) = sym e ∙ action-is g t (H .fits .form) q c (y .0) (y .1) in clash cc
+
         go : (o : Option Action) → actionFor (t .actions) q c ≡ o → getD asked c 0 ≡ heldDemand o
         go none e = unasked e (ℕ-discrete (getD asked c 0) 0)
         go (some y) e = filled-by y (action-back (t .actions) q c y e)
@@ -143,11 +149,13 @@ module _ (g : Grammar) (t : Table) {items entries kernels lookaheads kinds value
           where
             there : {s : ℕ} (y : Action) → ActionAt g t q (64 + b) y → nextState y ≡ some s → On gotos (q * 64 + b)
             there y h e = let n = next-line g t H y h e in set-on (λ z. n .some-state (sym (n .is-next) ∙ (sym (goto-at b) ∙ z)))
+
             go : (y : Action) → ActionAt g t q (64 + b) y → forget y ≡ S 0 → On gotos (q * 64 + b)
             go (S s) h e = there (S s) h refl
             go (N s) h e = there (N s) h refl
             go (A i) h e = clash cc
             go (P n) h e = clash cc
+
         to-moves : On gotos (q * 64 + b) → On moves (64 + b)
         to-moves on =
             let y = line-next g t H q (64 + b) lq (omega arith) (λ z. on .nonzero (goto-at b ∙ z)) in
@@ -167,6 +175,7 @@ module _ (g : Grammar) (t : Table) {items entries kernels lookaheads kinds value
           where
             low : X < 64
             low = omega (arith, few-codes)
+
             go : (o : Option Action) → actionFor (t .actions) q X ≡ o → heldDemand (actionFor (t .actions) q X) ≡ demandOf x → (y : Action) × ActionAt g t q X y × (forget y ≡ x)
             go none e d = absurd (some-demand (askable g t H nul fst count h) (sym d ∙ ap heldDemand e))
             go (some y) e d =

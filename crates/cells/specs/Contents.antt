@@ -11,7 +11,7 @@ use Rattle.fixpoint.specs.Flags.{On}
 unfoldable pub demandAt : List ℕ → List ℕ → ℕ → ℕ → ℕ
 demandAt kinds values q c =
     cond (eqb (getD kinds (q * 64 + c) 0) 0) 0
-      (cond (eqb (getD kinds (q * 64 + c) 0) 1) 256 (getD kinds (q * 64 + c) 0 * 256 + getD values (q * 64 + c) 0))
+    (cond (eqb (getD kinds (q * 64 + c) 0) 1) 256 (getD kinds (q * 64 + c) 0 * 256 + getD values (q * 64 + c) 0))
 
 -- q has a next state for nonterminal 64 + b exactly where something moves
 pub record GotoMeets (moves gotos : List ℕ) (q b : ℕ) : Type 0 where

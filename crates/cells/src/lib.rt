@@ -35,7 +35,14 @@ fn ask(asked: &mut [usize], c: usize, demand: usize) -> bool
 }
 
 // Asks for it in the cell of each code that is flagged, from code `low` on.
-fn ask_codes(from: &[u8], start: usize, low: usize, codes: usize, demand: usize, asked: &mut [usize]) -> bool
+fn ask_codes(
+    from: &[u8],
+    start: usize,
+    low: usize,
+    codes: usize,
+    demand: usize,
+    asked: &mut [usize],
+) -> bool
     requires { ⌜ (start + 64 ≤ length (now from)) × (codes ≤ 64) × (1 ≤ demand) ⌝ }
     requires { ⌜ length (now asked) ≡ 64 ⌝ }
     ensures { λ b. ⌜ Asks (CodeAsks (now (from .entry)) start low codes demand) (now (asked .entry)) (now (asked .exit)) b ⌝ }
@@ -55,7 +62,19 @@ fn ask_codes(from: &[u8], start: usize, low: usize, codes: usize, demand: usize,
 }
 
 // Asks what item i with dot k asks, where the flags of its lookaheads stand from `start` on.
-pub fn ask_item(items: &[u8], nul: &[u8], fst: &[u8], from: &[u8], count: usize, rules: usize, codes: usize, i: usize, k: usize, start: usize, asked: &mut [usize]) -> bool
+pub fn ask_item(
+    items: &[u8],
+    nul: &[u8],
+    fst: &[u8],
+    from: &[u8],
+    count: usize,
+    rules: usize,
+    codes: usize,
+    i: usize,
+    k: usize,
+    start: usize,
+    asked: &mut [usize],
+) -> bool
     requires { ⌜ Ready (now items) (now nul) (now fst) count codes ⌝ }
     requires { ⌜ (i ≤ count) × (i < 256) × (k ≤ 15) × (start + 64 ≤ length (now from)) ⌝ }
     requires { ⌜ length (now asked) ≡ 64 ⌝ }
@@ -82,7 +101,20 @@ pub fn ask_item(items: &[u8], nul: &[u8], fst: &[u8], from: &[u8], count: usize,
 }
 
 // Asks what the kernel items of q ask.
-fn ask_lines(items: &[u8], kernels: &[u8], links: &[usize], lookaheads: &[u8], nul: &[u8], fst: &[u8], count: usize, rules: usize, lines: usize, codes: usize, q: usize, asked: &mut [usize]) -> bool
+fn ask_lines(
+    items: &[u8],
+    kernels: &[u8],
+    links: &[usize],
+    lookaheads: &[u8],
+    nul: &[u8],
+    fst: &[u8],
+    count: usize,
+    rules: usize,
+    lines: usize,
+    codes: usize,
+    q: usize,
+    asked: &mut [usize],
+) -> bool
     requires { ⌜ Lined (now items) (now kernels) (now links) count lines ⌝ }
     requires { ⌜ Ready (now items) (now nul) (now fst) count codes ⌝ }
     requires { ⌜ (count < 256) × (q < 256) × (lines * 64 ≤ length (now lookaheads)) × (length (now asked) ≡ 64) ⌝ }
@@ -93,7 +125,19 @@ fn ask_lines(items: &[u8], kernels: &[u8], links: &[usize], lookaheads: &[u8], n
         let l = p - 1;
         let i = kernel_lines::item_of(kernels, lines, count, l);
         let k = kernel_lines::dot_of(kernels, lines, count, l);
-        if !ask_item(items, nul, fst, lookaheads, count, rules, codes, i, k, l * 64, asked) {
+        if !ask_item(
+            items,
+            nul,
+            fst,
+            lookaheads,
+            count,
+            rules,
+            codes,
+            i,
+            k,
+            l * 64,
+            asked,
+        ) {
             return false;
         }
         p = kernel_lines::line_before(kernels, links, lines, l);
@@ -102,21 +146,53 @@ fn ask_lines(items: &[u8], kernels: &[u8], links: &[usize], lookaheads: &[u8], n
 }
 
 // Asks what rule i asks, which the closure adds.
-fn ask_rule(items: &[u8], follow: &[u8], nul: &[u8], fst: &[u8], count: usize, rules: usize, codes: usize, i: usize, asked: &mut [usize]) -> bool
+fn ask_rule(
+    items: &[u8],
+    follow: &[u8],
+    nul: &[u8],
+    fst: &[u8],
+    count: usize,
+    rules: usize,
+    codes: usize,
+    i: usize,
+    asked: &mut [usize],
+) -> bool
     requires { ⌜ Ready (now items) (now nul) (now fst) count codes ⌝ }
     requires { ⌜ (i ≤ count) × (i < 256) × (64 ≤ leftAt (now items) i) ⌝ }
     requires { ⌜ (length (now follow) ≡ 4096) × (length (now asked) ≡ 64) ⌝ }
     ensures { λ b. ⌜ Asks (RuleAsks (now (items .entry)) (now (nul .entry)) (now (fst .entry)) (now (follow .entry)) rules codes i) (now (asked .entry)) (now (asked .exit)) b ⌝ }
 {
     let left = items::left_of(items, count, i);
-    if !ask_item(items, nul, fst, follow, count, rules, codes, i, 0, (left - 64) * 64, asked) {
+    if !ask_item(
+        items,
+        nul,
+        fst,
+        follow,
+        count,
+        rules,
+        codes,
+        i,
+        0,
+        (left - 64) * 64,
+        asked,
+    ) {
         return false;
     }
     true
 }
 
 // Asks what the rules ask that the closure adds.
-fn ask_rules(items: &[u8], present: &[u8], follow: &[u8], nul: &[u8], fst: &[u8], count: usize, rules: usize, codes: usize, asked: &mut [usize]) -> bool
+fn ask_rules(
+    items: &[u8],
+    present: &[u8],
+    follow: &[u8],
+    nul: &[u8],
+    fst: &[u8],
+    count: usize,
+    rules: usize,
+    codes: usize,
+    asked: &mut [usize],
+) -> bool
     requires { ⌜ Ready (now items) (now nul) (now fst) count codes ⌝ }
     requires { ⌜ (rules ≤ count) × (count < 256) ⌝ }
     requires { ⌜ (length (now present) ≡ 64) × (length (now follow) ≡ 4096) × (length (now asked) ≡ 64) ⌝ }
@@ -137,7 +213,23 @@ fn ask_rules(items: &[u8], present: &[u8], follow: &[u8], nul: &[u8], fst: &[u8]
 }
 
 // Fills in what the items of q ask of each code's cell. The answer is no where they ask two different things of one.
-pub fn ask_cells(items: &[u8], kernels: &[u8], links: &[usize], lookaheads: &[u8], present: &[u8], follow: &[u8], moves: &[u8], nul: &[u8], fst: &[u8], count: usize, rules: usize, lines: usize, codes: usize, q: usize, asked: &mut [usize]) -> bool
+pub fn ask_cells(
+    items: &[u8],
+    kernels: &[u8],
+    links: &[usize],
+    lookaheads: &[u8],
+    present: &[u8],
+    follow: &[u8],
+    moves: &[u8],
+    nul: &[u8],
+    fst: &[u8],
+    count: usize,
+    rules: usize,
+    lines: usize,
+    codes: usize,
+    q: usize,
+    asked: &mut [usize],
+) -> bool
     requires { ⌜ Readable (now items) (now kernels) (now links) (now present) count rules lines ⌝ }
     requires { ⌜ Ready (now items) (now nul) (now fst) count codes ⌝ }
     requires { ⌜ (count < 256) × (q < 256) × (lines * 64 ≤ length (now lookaheads)) ⌝ }
@@ -148,7 +240,20 @@ pub fn ask_cells(items: &[u8], kernels: &[u8], links: &[usize], lookaheads: &[u8
     if !ask_codes(moves, 0, 1, codes, 256, asked) {
         return false;
     }
-    if !ask_lines(items, kernels, links, lookaheads, nul, fst, count, rules, lines, codes, q, asked) {
+    if !ask_lines(
+        items,
+        kernels,
+        links,
+        lookaheads,
+        nul,
+        fst,
+        count,
+        rules,
+        lines,
+        codes,
+        q,
+        asked,
+    ) {
         return false;
     }
     if !ask_rules(items, present, follow, nul, fst, count, rules, codes, asked) {
@@ -227,7 +332,15 @@ fn gotos_meet(moves: &[u8], gotos: &[u8], q: usize) -> bool
 }
 
 // Whether the cells and next states of q are those that its items ask for.
-pub fn cells_meet(asked: &[usize], moves: &[u8], kinds: &[u8], values: &[u8], gotos: &[u8], codes: usize, q: usize) -> bool
+pub fn cells_meet(
+    asked: &[usize],
+    moves: &[u8],
+    kinds: &[u8],
+    values: &[u8],
+    gotos: &[u8],
+    codes: usize,
+    q: usize,
+) -> bool
     requires { ⌜ Cells (now kinds) (now values) (now gotos) ⌝ }
     requires { ⌜ (length (now asked) ≡ 64) × (length (now moves) ≡ 128) × (codes ≤ 64) × (q < 256) ⌝ }
     ensures { λ b. ⌜ ((g : Grammar) (t : Table) (items entries kernels lookaheads nul fst : List ℕ) (rules strings lines : ℕ) → Held g t items entries kernels lookaheads (now (kinds .entry)) (now (values .entry)) (now (gotos .entry)) rules strings lines → codes ≡ suc (g .terminals) → HoldsMoves g t q (now (moves .entry)) → HoldsAsked g t (FirstBy codes nul fst) q (now (asked .entry)) → Decides (CellsMeet g t (FirstBy codes nul fst) q) b) ⌝ }

@@ -36,7 +36,14 @@ fn same_part(items: &[u8], count: usize, i: usize, from: usize, n: usize, e: usi
 }
 
 // The number of an entry with that string; 0 where there is none.
-pub fn entry_of(items: &[u8], rules: usize, strings: usize, i: usize, from: usize, n: usize) -> usize
+pub fn entry_of(
+    items: &[u8],
+    rules: usize,
+    strings: usize,
+    i: usize,
+    from: usize,
+    n: usize,
+) -> usize
     requires { ⌜ Shaped (now items) (rules + strings) ⌝ }
     requires { ⌜ (i ≤ rules) × (rules ≤ 127) × (strings ≤ 127) × (from + n ≤ 15) ⌝ }
     ensures { λ r. ⌜ FindsEntry (now (items .entry)) rules strings i from n r ⌝ }

@@ -42,7 +42,14 @@ fn state_before(kinds: &[u8], values: &[u8], gotos: &[u8], q: usize) -> usize
 }
 
 // Stores the states from an entry's to q, the last at 255, and answers where they begin. Every state but an entry's was found from a lower one.
-fn find_way(kinds: &[u8], values: &[u8], gotos: &[u8], strings: usize, q: usize, way: &mut [u8]) -> usize
+fn find_way(
+    kinds: &[u8],
+    values: &[u8],
+    gotos: &[u8],
+    strings: usize,
+    q: usize,
+    way: &mut [u8],
+) -> usize
     requires { ⌜ Cells (now kinds) (now values) (now gotos) ⌝ }
     requires { ⌜ (1 ≤ q) × (q < 256) × (length (now way) ≡ 256) ⌝ }
     ensures { λ r. ⌜ r < 256 ⌝ }
@@ -121,7 +128,9 @@ fn explain_tables(grammar: &[u8]) {
         &mut gotos,
     );
     match built {
-        Built::Refused(_) => print_text(b"there would be more than 127 entries, 255 states or 1023 kernel lines\n"),
+        Built::Refused(_) => print_text(
+            b"there would be more than 127 entries, 255 states or 1023 kernel lines\n",
+        ),
         Built::Table(_) => print_text(b"the table book would be longer than 65536 bytes\n"),
         Built::Conflict(q, counts) => {
             explanation::explain_memory(
@@ -152,7 +161,12 @@ fn explain(grammar: &[u8], number: u64, place: usize) {
     let mut items = [0u8; grammar::TABLE];
     let answer = grammar::read_grammar(grammar, &mut items);
     match answer {
-        GrammarReply::Refused(_) => explanation::explain_book(b"grammar book", grammar, number, place),
+        GrammarReply::Refused(_) => explanation::explain_book(
+            b"grammar book",
+            grammar,
+            number,
+            place,
+        ),
         GrammarReply::Read(_) => explain_tables(grammar),
     }
 }
@@ -173,7 +187,12 @@ fn show(grammar: &[u8]) {
 fn run(i: usize) {
     // One byte more than a book may have.
     let mut grammar = [0u8; 65537];
-    let input = program::read_argument(i, b"GRAMMAR", b"usage: explain_grammar GRAMMAR..\n", &mut grammar);
+    let input = program::read_argument(
+        i,
+        b"GRAMMAR",
+        b"usage: explain_grammar GRAMMAR..\n",
+        &mut grammar,
+    );
     if input.failed {
         return;
     }

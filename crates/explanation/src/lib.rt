@@ -230,7 +230,19 @@ fn print_demand(
     requires { ⌜ Ready (now items) (now nul) (now fst) count codes ⌝ }
     requires { ⌜ (i ≤ count) × (i < 256) × (k ≤ 15) × (start + 64 ≤ length (now from)) × (c < 64) ⌝ }
 {
-    let mut demand = conflicts::item_demand(items, nul, fst, from, count, rules, codes, i, k, start, c);
+    let mut demand = conflicts::item_demand(
+        items,
+        nul,
+        fst,
+        from,
+        count,
+        rules,
+        codes,
+        i,
+        k,
+        start,
+        c,
+    );
     if c != 0 {
         if moves::symbol_after(items, count, i, k) == c {
             demand = 256;
@@ -267,7 +279,19 @@ fn print_line_demands(
         if kernel_lines::state_of(kernels, lines, count, l) == q {
             let i = kernel_lines::item_of(kernels, lines, count, l);
             let k = kernel_lines::dot_of(kernels, lines, count, l);
-            print_demand(items, nul, fst, lookaheads, count, rules, codes, i, k, l * 64, c);
+            print_demand(
+                items,
+                nul,
+                fst,
+                lookaheads,
+                count,
+                rules,
+                codes,
+                i,
+                k,
+                l * 64,
+                c,
+            );
         }
         l += 1;
     }
@@ -293,7 +317,19 @@ fn print_rule_demands(
     while i <= rules {
         if moves::is_present(items, present, count, i) {
             let left = items::left_of(items, count, i);
-            print_demand(items, nul, fst, follow, count, rules, codes, i, 0, (left - 64) * 64, c);
+            print_demand(
+                items,
+                nul,
+                fst,
+                follow,
+                count,
+                rules,
+                codes,
+                i,
+                0,
+                (left - 64) * 64,
+                c,
+            );
         }
         i += 1;
     }
@@ -330,7 +366,22 @@ fn explain_items(
     requires { ⌜ (q < 256) × (rules ≤ 127) × (strings ≤ 127) × (strings < length (now entries)) ⌝ }
 {
     let count = rules + strings;
-    let fault = details::find_item_fault(items, entries, kernels, links, kinds, values, gotos, named, present, symbols, rules, strings, lines, q);
+    let fault = details::find_item_fault(
+        items,
+        entries,
+        kernels,
+        links,
+        kinds,
+        values,
+        gotos,
+        named,
+        present,
+        symbols,
+        rules,
+        strings,
+        lines,
+        q,
+    );
     match fault {
         ItemFault::Unnamed => {
             print_count(b"state ", q);
@@ -339,7 +390,14 @@ fn explain_items(
         ItemFault::Entry(k) => {
             print_count(b"state ", q);
             print_count(b" is that of entry ", k);
-            print_item(b", and its kernel is not the one ", items, count, rules, rules + k, 0);
+            print_item(
+                b", and its kernel is not the one ",
+                items,
+                count,
+                rules,
+                rules + k,
+                0,
+            );
             print_text(b"\n");
         }
         ItemFault::Lost(i, k) => {
@@ -351,7 +409,14 @@ fn explain_items(
         ItemFault::Extra(x, l) => {
             print_goes(x, q, moves::next_of(kinds, values, gotos, q, x));
             let i = kernel_lines::item_of(kernels, lines, count, l);
-            print_item(b"has ", items, count, rules, i, kernel_lines::dot_of(kernels, lines, count, l));
+            print_item(
+                b"has ",
+                items,
+                count,
+                rules,
+                i,
+                kernel_lines::dot_of(kernels, lines, count, l),
+            );
             print_text(b", which does not move there\n");
         }
         ItemFault::Nothing => {}
@@ -386,12 +451,40 @@ fn explain_lookaheads(
     requires { ⌜ (1 ≤ codes) × (states ≤ 255) × (q < 256) ⌝ }
 {
     let count = rules + strings;
-    let lack = missing_lookaheads::find_lack(items, entries, kernels, links, lookaheads, kinds, values, gotos, named, uses, nul, fst, starts, through, rules, strings, lines, codes, states, q);
+    let lack = missing_lookaheads::find_lack(
+        items,
+        entries,
+        kernels,
+        links,
+        lookaheads,
+        kinds,
+        values,
+        gotos,
+        named,
+        uses,
+        nul,
+        fst,
+        starts,
+        through,
+        rules,
+        strings,
+        lines,
+        codes,
+        states,
+        q,
+    );
     let Lack::Code(l, c, p) = lack else {
         return;
     };
     let i = kernel_lines::item_of(kernels, lines, count, l);
-    print_item(b"", items, count, rules, i, kernel_lines::dot_of(kernels, lines, count, l));
+    print_item(
+        b"",
+        items,
+        count,
+        rules,
+        i,
+        kernel_lines::dot_of(kernels, lines, count, l),
+    );
     print_count(b": its context lacks code ", c);
     if p == 0 {
         print_text(b", which the goal's entry must have\n");
@@ -423,7 +516,22 @@ fn explain_conflict(
     requires { ⌜ (count < 256) × (q < 256) × (lines * 64 ≤ length (now lookaheads)) ⌝ }
     requires { ⌜ (length (now follow) ≡ 4096) × (length (now symbols) ≡ 128) ⌝ }
 {
-    let conflict = conflicts::find_conflict(items, kernels, links, lookaheads, present, follow, symbols, nul, fst, count, rules, lines, codes, q);
+    let conflict = conflicts::find_conflict(
+        items,
+        kernels,
+        links,
+        lookaheads,
+        present,
+        follow,
+        symbols,
+        nul,
+        fst,
+        count,
+        rules,
+        lines,
+        codes,
+        q,
+    );
     let Conflict::On(c, first, second) = conflict else {
         return;
     };
@@ -434,7 +542,19 @@ fn explain_conflict(
     print_text(b", and ");
     print_action(second);
     print_text(b"\n");
-    print_line_demands(items, kernels, lookaheads, nul, fst, count, rules, lines, codes, q, c);
+    print_line_demands(
+        items,
+        kernels,
+        lookaheads,
+        nul,
+        fst,
+        count,
+        rules,
+        lines,
+        codes,
+        q,
+        c,
+    );
     print_rule_demands(items, present, follow, nul, fst, count, rules, codes, c);
 }
 
@@ -498,14 +618,42 @@ fn explain_cells(
     requires { ⌜ (length (now follow) ≡ 4096) × (length (now symbols) ≡ 128) ⌝ }
 {
     let mut asked = [0usize; 64];
-    cells::ask_cells(items, kernels, links, lookaheads, present, follow, symbols, nul, fst, count, rules, lines, codes, q, &mut asked);
+    cells::ask_cells(
+        items,
+        kernels,
+        links,
+        lookaheads,
+        present,
+        follow,
+        symbols,
+        nul,
+        fst,
+        count,
+        rules,
+        lines,
+        codes,
+        q,
+        &mut asked,
+    );
     let cell = details::find_cell(&asked, kinds, values, codes, q);
     let Found::At(c) = cell else {
         explain_goto(symbols, gotos, q);
         return;
     };
     print_cell(c, asked[c], cells::demand_of(kinds, values, q, c));
-    print_line_demands(items, kernels, lookaheads, nul, fst, count, rules, lines, codes, q, c);
+    print_line_demands(
+        items,
+        kernels,
+        lookaheads,
+        nul,
+        fst,
+        count,
+        rules,
+        lines,
+        codes,
+        q,
+        c,
+    );
     print_rule_demands(items, present, follow, nul, fst, count, rules, codes, c);
 }
 
@@ -538,24 +686,118 @@ fn explain_state(
     requires { ⌜ (1 ≤ codes) × (states ≤ 255) × (q < 256) ⌝ }
 {
     if number == 8 {
-        explain_lookaheads(items, entries, kernels, links, lookaheads, kinds, values, gotos, named, uses, nul, fst, starts, through, rules, strings, lines, codes, states, q);
+        explain_lookaheads(
+            items,
+            entries,
+            kernels,
+            links,
+            lookaheads,
+            kinds,
+            values,
+            gotos,
+            named,
+            uses,
+            nul,
+            fst,
+            starts,
+            through,
+            rules,
+            strings,
+            lines,
+            codes,
+            states,
+            q,
+        );
         return;
     }
     let count = rules + strings;
     let mut present = [0u8; 64];
     let mut follow = [0u8; 4096];
     let mut symbols = [0u8; 128];
-    closure::close_state(items, count, rules, kernels, lookaheads, lines, q, codes, nul, fst, starts, through, &mut present, &mut follow);
-    moves::flag_moves(items, kernels, links, &present, count, rules, lines, q, &mut symbols);
+    closure::close_state(
+        items,
+        count,
+        rules,
+        kernels,
+        lookaheads,
+        lines,
+        q,
+        codes,
+        nul,
+        fst,
+        starts,
+        through,
+        &mut present,
+        &mut follow,
+    );
+    moves::flag_moves(
+        items,
+        kernels,
+        links,
+        &present,
+        count,
+        rules,
+        lines,
+        q,
+        &mut symbols,
+    );
     if number == 7 {
-        explain_items(items, entries, kernels, links, kinds, values, gotos, named, &present, &symbols, rules, strings, lines, q);
+        explain_items(
+            items,
+            entries,
+            kernels,
+            links,
+            kinds,
+            values,
+            gotos,
+            named,
+            &present,
+            &symbols,
+            rules,
+            strings,
+            lines,
+            q,
+        );
         return;
     }
     if number == 9 {
-        explain_conflict(items, kernels, links, lookaheads, &present, &follow, &symbols, nul, fst, count, rules, lines, codes, q);
+        explain_conflict(
+            items,
+            kernels,
+            links,
+            lookaheads,
+            &present,
+            &follow,
+            &symbols,
+            nul,
+            fst,
+            count,
+            rules,
+            lines,
+            codes,
+            q,
+        );
         return;
     }
-    explain_cells(items, kernels, links, lookaheads, kinds, values, gotos, &present, &follow, &symbols, nul, fst, count, rules, lines, codes, q);
+    explain_cells(
+        items,
+        kernels,
+        links,
+        lookaheads,
+        kinds,
+        values,
+        gotos,
+        &present,
+        &follow,
+        &symbols,
+        nul,
+        fst,
+        count,
+        rules,
+        lines,
+        codes,
+        q,
+    );
 }
 
 // A refusal of tables in memory: 7 to 10.
@@ -597,8 +839,38 @@ pub fn explain_memory(
     let mut links = [0usize; 1280];
     entry_list::entries_meet(items, rules, strings, goal, &mut uses);
     analysis::find_sets(items, terminals, rules, &mut nul, &mut fst);
-    closure::prepare_rules(items, count, rules, codes, &nul, &fst, &mut starts, &mut through);
+    closure::prepare_rules(
+        items,
+        count,
+        rules,
+        codes,
+        &nul,
+        &fst,
+        &mut starts,
+        &mut through,
+    );
     kernel_lines::link_lines(kernels, lines, count, &mut links);
-    explain_state(items, entries, kernels, &links, lookaheads, kinds, values, gotos, named, &uses, &nul, &fst, &starts, &through, rules, strings, lines, codes, states, number, place);
+    explain_state(
+        items,
+        entries,
+        kernels,
+        &links,
+        lookaheads,
+        kinds,
+        values,
+        gotos,
+        named,
+        &uses,
+        &nul,
+        &fst,
+        &starts,
+        &through,
+        rules,
+        strings,
+        lines,
+        codes,
+        states,
+        number,
+        place,
+    );
 }
-

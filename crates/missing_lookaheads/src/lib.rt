@@ -108,9 +108,54 @@ fn find_from(
     let mut present = [0u8; 64];
     let mut follow = [0u8; 4096];
     let mut asked = [0u8; 65536];
-    closure::close_state(items, count, rules, kernels, lookaheads, lines, p, codes, nul, fst, starts, through, &mut present, &mut follow);
-    inclusions::add_inclusions(items, kernels, links, lookaheads, kinds, values, gotos, entries, uses, nul, fst, &present, &follow, count, rules, lines, codes, p, &mut asked);
-    find_asked(kernels, links, lookaheads, &asked, lines, count, codes, q, p)
+    closure::close_state(
+        items,
+        count,
+        rules,
+        kernels,
+        lookaheads,
+        lines,
+        p,
+        codes,
+        nul,
+        fst,
+        starts,
+        through,
+        &mut present,
+        &mut follow,
+    );
+    inclusions::add_inclusions(
+        items,
+        kernels,
+        links,
+        lookaheads,
+        kinds,
+        values,
+        gotos,
+        entries,
+        uses,
+        nul,
+        fst,
+        &present,
+        &follow,
+        count,
+        rules,
+        lines,
+        codes,
+        p,
+        &mut asked,
+    );
+    find_asked(
+        kernels,
+        links,
+        lookaheads,
+        &asked,
+        lines,
+        count,
+        codes,
+        q,
+        p,
+    )
 }
 
 // Code 0, which the line of the goal's entry lacks where q is its state.
@@ -173,13 +218,44 @@ pub fn find_lack(
     ensures { λ r. ⌜ LackAt (now (kernels .entry)) (now (lookaheads .entry)) lines codes q r ⌝ }
     ensures { λ r. ⌜ ((g : Grammar) (t : Table) → Given g t (now (items .entry)) (now (entries .entry)) (now (kernels .entry)) (now (lookaheads .entry)) (now (kinds .entry)) (now (values .entry)) (now (gotos .entry)) (now (named .entry)) rules strings lines states codes → HoldsUses (now (uses .entry)) g t → LackIs g t (FirstBy codes (now (nul .entry)) (now (fst .entry))) (now (kernels .entry)) q r) ⌝ }
 {
-    let goal = find_goal(entries, kernels, links, lookaheads, rules, lines, rules + strings, codes, q);
+    let goal = find_goal(
+        entries,
+        kernels,
+        links,
+        lookaheads,
+        rules,
+        lines,
+        rules + strings,
+        codes,
+        q,
+    );
     let Lack::Nothing = goal else {
         return goal;
     };
     let mut p = 1;
     while p <= states {
-        let lack = find_from(items, entries, kernels, links, lookaheads, kinds, values, gotos, named, uses, nul, fst, starts, through, rules, strings, lines, codes, p, q);
+        let lack = find_from(
+            items,
+            entries,
+            kernels,
+            links,
+            lookaheads,
+            kinds,
+            values,
+            gotos,
+            named,
+            uses,
+            nul,
+            fst,
+            starts,
+            through,
+            rules,
+            strings,
+            lines,
+            codes,
+            p,
+            q,
+        );
         let Lack::Nothing = lack else {
             return lack;
         };

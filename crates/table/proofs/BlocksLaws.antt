@@ -28,10 +28,11 @@ pub record Low (h : Heading) : Type 0 where
 
 module _ {h : Heading} {b : Slices} (k : Begun h b) where
   pub begun-low : Low h
-  begun-low = record
-      { few-terminals = omega (arith, ap (λ (x : Heading). x .terminals) (k .heading), k .blank .formed .few-terminals)
-      ; few-nonterminals = omega (arith, ap (λ (x : Heading). x .nonterminals) (k .heading), k .blank .formed .few-nonterminals)
-      ; few-rules = omega (arith, ap (λ (x : Heading). x .rules) (k .heading), k .blank .formed .few-rules) }
+  begun-low = record {
+    few-terminals = omega (arith, ap (λ (x : Heading). x .terminals) (k .heading), k .blank .formed .few-terminals);
+    few-nonterminals = omega (arith, ap (λ (x : Heading). x .nonterminals) (k .heading), k .blank .formed .few-nonterminals);
+    few-rules = omega (arith, ap (λ (x : Heading). x .rules) (k .heading), k .blank .formed .few-rules);
+  }
 
   pub begun-entries : EntryMemory (b .items) (h .rules) (length (b .states)) (length (b .named)) [] (b .items) (b .states) (b .named)
   begun-entries =
@@ -46,8 +47,8 @@ module _ {g : Grammar} {b : Slices} {h : Heading} (k : Blank g b) (q : h ≡ hea
   kernels-at s states at {count} {a} {c} {l} {i} {es} {n} m e =
       kernels-same s (h .terminals) states (h .rules + count) (lengthAt i) (lengthsOf g l)
       (λ j x y. lengths-agree g (k .formed) (length (b .items)) (omega (arith, k .formed .few-rules, k .room .items-room))
-        (subst (λ (z : List ℕ). EntryMemory z (length (g .rules)) a c l i es n) (k .items-are) (entries-at m)) j x
-        (omega (arith, y, e, ap (λ (z : Heading). z .rules) q))) at
+      (subst (λ (z : List ℕ). EntryMemory z (length (g .rules)) a c l i es n) (k .items-are) (entries-at m)) j x
+      (omega (arith, y, e, ap (λ (z : Heading). z .rules) q))) at
 
   pub counts-same : (states : ℕ) {count lines : ℕ} (es : List EntryLine) (ks : List KernelLine) (xs : List ActionLine) → length es ≡ count → length ks ≡ lines
       → reply.Read (record { grammar = h; states = states; entries = count; kernels = lines }) ≡ reply.Read (countsOf g (tableWith states es ks xs))

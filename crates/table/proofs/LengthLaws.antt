@@ -50,7 +50,7 @@ module _ (s : List ℕ) (t states items : ℕ) (f h : ℕ → ℕ) (same : (i : 
   unfolding judgeKernel
   judge-same l ns =
       ap (λ (b : Bool). judge (leb 4 (length ns) && (rising (drop 3 ns) && not (hasTriple l (getD ns 0 0) (getD ns 1 0) (getD ns 2 0))))
-        (allAtMost 65535 ns && ltb (length l) 1023) (within 1 (getD ns 0 0) states && b))
+      (allAtMost 65535 ns && ltb (length l) 1023) (within 1 (getD ns 0 0) states && b))
       (dot-same (getD ns 1 0) (getD ns 2 0) (allAtMost t (drop 3 ns)))
 
   next-same : (at : ℕ) (l : List KernelLine) → kernelNext s t states items f at l ≡ kernelNext s t states items h at l
@@ -61,6 +61,7 @@ module _ (s : List ℕ) (t states items : ℕ) (f h : ℕ → ℕ) (same : (i : 
       lines k x =
           onLine x (λ letter ns next. cond (eqb letter 75) (judged (judgeKernel t states items k l ns) at (K (getD ns 0 0) (getD ns 1 0) (getD ns 2 0) (drop 3 ns)) next) (noKernel at l))
           (noKernel at l)
+
       go : (x : TextLine) → lines f x ≡ lines h x
       go (whole letter ns next) =
           ap (λ (j : Judgement). cond (eqb letter 75) (judged j at (K (getD ns 0 0) (getD ns 1 0) (getD ns 2 0) (drop 3 ns)) next) (noKernel at l)) (judge-same l ns)
@@ -76,7 +77,7 @@ module _ (g : Grammar) (w : WellFormed g) (size : ℕ) (room : suc (length (g .r
   unfolding withEntries
   rule-length i h e =
       ap (λ (x : List ℕ). lengthAt x i) (m .items-are)
-        ∙ (length-kept (layout g size) (concat (entryRows (stringsOf l))) i (suc (length (g .rules)) * 64) (omega arith) ∙ layout-holds g w size room .rule-in i e .length-is)
+      ∙ (length-kept (layout g size) (concat (entryRows (stringsOf l))) i (suc (length (g .rules)) * 64) (omega arith) ∙ layout-holds g w size room .rule-in i e .length-is)
 
   entry-length : (k : ℕ) {s : ℕ} {γ : List ℕ} → at l k ≡ some (E s γ) → lengthAt items (suc (length (g .rules) + k)) ≡ length γ
   entry-length k e = m .rows .row-in k e .length-is
@@ -87,19 +88,21 @@ module _ (g : Grammar) (w : WellFormed g) (size : ℕ) (room : suc (length (g .r
     where
       t : Table
       t = record { states = 0; entries = l; kernels = []; actions = [] }
+
       go : Dec (suc i ≤ length (g .rules)) → lengthAt items (suc i) ≡ lengthsOf g l (suc i)
       go (yes h) =
           let r = at-below (g .rules) i h in
           rule-length (suc i) h (r .1)
-            ∙ sym (ap (λ (c : Bool). length (cond c (rightOf (ruleAt g (suc i))) (stringOf (entryAt t (suc i - length (g .rules)))))) (le-leb (suc i) (length (g .rules)) h)
-              ∙ ap (λ (o : Option Rule). length (rightOf o)) (r .1))
+          ∙ sym (ap (λ (c : Bool). length (cond c (rightOf (ruleAt g (suc i))) (stringOf (entryAt t (suc i - length (g .rules)))))) (le-leb (suc i) (length (g .rules)) h)
+          ∙ ap (λ (o : Option Rule). length (rightOf o)) (r .1))
       go (no h) = line (at-below l (i - length (g .rules)) (omega arith))
         where
           back : suc i - length (g .rules) ≡ suc (i - length (g .rules))
           back = omega arith
+
           line : (x : EntryLine) × (at l (i - length (g .rules)) ≡ some x) → lengthAt items (suc i) ≡ lengthsOf g l (suc i)
           line (E s γ, e) =
               ap (λ (n : ℕ). lengthAt items (suc n)) (let z : i ≡ length (g .rules) + (i - length (g .rules)) = omega arith in z)
-                ∙ (entry-length (i - length (g .rules)) e
-                ∙ sym (ap (λ (c : Bool). length (cond c (rightOf (ruleAt g (suc i))) (stringOf (entryAt t (suc i - length (g .rules)))))) (lt-leb (suc i) (length (g .rules)) (omega arith))
-                  ∙ (ap (λ (n : ℕ). length (stringOf (entryAt t n))) back ∙ ap (λ (o : Option EntryLine). length (stringOf o)) e)))
+              ∙ (entry-length (i - length (g .rules)) e
+              ∙ sym (ap (λ (c : Bool). length (cond c (rightOf (ruleAt g (suc i))) (stringOf (entryAt t (suc i - length (g .rules)))))) (lt-leb (suc i) (length (g .rules)) (omega arith))
+              ∙ (ap (λ (n : ℕ). length (stringOf (entryAt t n))) back ∙ ap (λ (o : Option EntryLine). length (stringOf o)) e)))

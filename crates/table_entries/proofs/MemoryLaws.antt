@@ -36,7 +36,7 @@ pub with-more : (m : List ℕ) (rules : ℕ) (l : List EntryLine) (s : ℕ) (γ 
 unfolding withEntries
 with-more m rules l s γ base e =
     ap (λ (n : ℕ). sets (sets m (suc rules * 64) (concat (entryRows (stringsOf l)))) n (entryRow γ)) at-end
-      ∙ (sym (sets-join m (concat (entryRows (stringsOf l))) (entryRow γ) (suc rules * 64)) ∙ ap (sets m (suc rules * 64)) (sym (entries-snoc l s γ)))
+    ∙ (sym (sets-join m (concat (entryRows (stringsOf l))) (entryRow γ) (suc rules * 64)) ∙ ap (sets m (suc rules * 64)) (sym (entries-snoc l s γ)))
   where
     at-end : base ≡ suc rules * 64 + length (concat (entryRows (stringsOf l)))
     at-end = omega (arith, e, entries-length l)
@@ -56,13 +56,14 @@ module _ (m ρ : List ℕ) (i base : ℕ) (behind : i * 64 + 64 ≤ base) where
   symbol-kept k l = read-below m ρ base (i * 64 + 16 + k) (omega arith)
 
   pub row-kept : {left mark unit : ℕ} {α φ : List ℕ} → RowIs m i left mark unit α φ → RowIs (sets m base ρ) i left mark unit α φ
-  row-kept r = record
-      { left-is = left-kept ∙ r .left-is
-      ; length-is = length-kept ∙ r .length-is
-      ; mark-is = kept 2 (omega arith) ∙ r .mark-is
-      ; unit-is = kept 3 (omega arith) ∙ r .unit-is
-      ; symbol-is = λ k l. symbol-kept k l ∙ r .symbol-is k l
-      ; start-is = λ k l. read-below m ρ base (i * 64 + 32 + k) (omega arith) ∙ r .start-is k l }
+  row-kept r = record {
+    left-is = left-kept ∙ r .left-is;
+    length-is = length-kept ∙ r .length-is;
+    mark-is = kept 2 (omega arith) ∙ r .mark-is;
+    unit-is = kept 3 (omega arith) ∙ r .unit-is;
+    symbol-is = λ k l. symbol-kept k l ∙ r .symbol-is k l;
+    start-is = λ k l. read-below m ρ base (i * 64 + 32 + k) (omega arith) ∙ r .start-is k l;
+  }
 
 -- the row that was stored
 pub row-new : (m : List ℕ) (i base : ℕ) (γ : List ℕ) → base ≡ i * 64 → base + 64 ≤ length m → length γ ≤ 15 → EntryIn (sets m base (entryRow γ)) i γ
@@ -71,26 +72,31 @@ row-new m i base γ e room short = row-is 0 255 0 γ [] (sets m base (entryRow �
     same : (j : ℕ) → j < 64 → getD (sets m base (entryRow γ)) (i * 64 + j) 0 ≡ getD (entryRow γ) j 0
     same j l =
         ap (λ (n : ℕ). getD (sets m base (entryRow γ)) (n + j) 0) (sym e)
-          ∙ read-inside m (entryRow γ) base j (omega (arith, row-length 0 255 0 γ [])) (omega arith)
+        ∙ read-inside m (entryRow γ) base j (omega (arith, row-length 0 255 0 γ [])) (omega arith)
 
 module _ (m : List ℕ) (n base : ℕ) (γ : List ℕ) (e : base ≡ (n + 1) * 64) (room : n * 64 + 128 ≤ length m) (fits : Fits γ) where
   pub shaped-more : Shaped m n → Shaped (sets m base (entryRow γ)) (n + 1)
-  shaped-more h = record
-      { room = omega (arith, room, length-sets m base (entryRow γ))
-      ; lengths = λ i l. go i l (decLe i n)
-      ; lefts = λ i l. left i l (decLe i n)
-      ; symbols = λ i k l b. symbol i k l b (decLe i n) }
+  shaped-more h = record {
+    room = omega (arith, room, length-sets m base (entryRow γ));
+    lengths = λ i l. go i l (decLe i n);
+    lefts = λ i l. left i l (decLe i n);
+    symbols = λ i k l b. symbol i k l b (decLe i n);
+  }
     where
       new : EntryIn (sets m base (entryRow γ)) (n + 1) γ
       new = row-new m (n + 1) base γ e (omega arith) (fits .0)
+
       last : (i : ℕ) → i ≤ n + 1 → (i ≤ n → ⊥) → i ≡ n + 1
       last i l f = omega arith
+
       go : (i : ℕ) → i ≤ n + 1 → Dec (i ≤ n) → lengthAt (sets m base (entryRow γ)) i ≤ 15
       go i l (yes b) = omega (arith, length-kept m (entryRow γ) i base (omega arith), h .lengths i b)
       go i l (no f) = rw (last i l f) (omega (arith, new .length-is, fits .0))
+
       left : (i : ℕ) → i ≤ n + 1 → Dec (i ≤ n) → leftAt (sets m base (entryRow γ)) i < 128
       left i l (yes b) = omega (arith, left-kept m (entryRow γ) i base (omega arith), h .lefts i b)
       left i l (no f) = rw (last i l f) (omega (arith, new .left-is))
+
       symbol : (i k : ℕ) → i ≤ n + 1 → k < 15 → Dec (i ≤ n) → symbolAt (sets m base (entryRow γ)) i k < 128
       symbol i k l b (yes c) = omega (arith, symbol-kept m (entryRow γ) i base (omega arith) k b, h .symbols i k c b)
       symbol i k l b (no f) = rw (last i l f) (omega (arith, new .symbol-is k b, fits .1 k))
@@ -140,16 +146,17 @@ module _ {m : List ℕ} {rules a b : ℕ} {l : List EntryLine} {items states nam
   module _ {items′ states′ named′ : List ℕ} (i : items′ ≡ sets items ((rules + length l + 1) * 64) (entryRow γ))
       (st : states′ ≡ set states (length l + 1) s) (nm : named′ ≡ set named s 1) where
     pub memory-more : EntryMemory m rules a b (l ++ E s γ ∷ []) items′ states′ named′
-    memory-more = record
-        { items-are = i ∙ (ap (λ (x : List ℕ). sets x ((rules + length l + 1) * 64) (entryRow γ)) (h .items-are) ∙ with-more m rules l s γ ((rules + length l + 1) * 64) refl)
-        ; states-are = st ∙ (ap (λ (x : List ℕ). set x (length l + 1) s) (h .states-are)
-            ∙ image-set a (stateAt l) (stateAt (l ++ E s γ ∷ [])) (length l + 1) s (state-here l s γ (length l + 1) refl) (state-other l s γ))
-        ; named-are = nm ∙ (ap (λ (x : List ℕ). set x s 1) (h .named-are)
-            ∙ image-set b (λ q. flag (isEntryState l q)) (λ q. flag (isEntryState (l ++ E s γ ∷ []) q)) s 1 (named-here l s γ) (named-other l s γ))
-        ; shaped = rw (next-count, i) (shaped-more items (rules + length l) ((rules + length l + 1) * 64) γ refl room fits (h .shaped))
-        ; rows = record { row-in = λ k e. rw i (rows-at k e (decLt k (length l))) }
-        ; empty = λ j q. ap (λ (x : List ℕ). getD x j 0) i
-            ∙ (read-above items (entryRow γ) ((rules + length l + 1) * 64) j (omega (arith, q, next-count, row-length 0 255 0 γ [])) ∙ h .empty j (omega (arith, q, next-count))) }
+    memory-more = record {
+      items-are = i ∙ (ap (λ (x : List ℕ). sets x ((rules + length l + 1) * 64) (entryRow γ)) (h .items-are) ∙ with-more m rules l s γ ((rules + length l + 1) * 64) refl);
+      states-are = st ∙ (ap (λ (x : List ℕ). set x (length l + 1) s) (h .states-are)
+          ∙ image-set a (stateAt l) (stateAt (l ++ E s γ ∷ [])) (length l + 1) s (state-here l s γ (length l + 1) refl) (state-other l s γ));
+      named-are = nm ∙ (ap (λ (x : List ℕ). set x s 1) (h .named-are)
+          ∙ image-set b (λ q. flag (isEntryState l q)) (λ q. flag (isEntryState (l ++ E s γ ∷ []) q)) s 1 (named-here l s γ) (named-other l s γ));
+      shaped = rw (next-count, i) (shaped-more items (rules + length l) ((rules + length l + 1) * 64) γ refl room fits (h .shaped));
+      rows = record { row-in = λ k e. rw i (rows-at k e (decLt k (length l))) };
+      empty = λ j q. ap (λ (x : List ℕ). getD x j 0) i
+          ∙ (read-above items (entryRow γ) ((rules + length l + 1) * 64) j (omega (arith, q, next-count, row-length 0 255 0 γ [])) ∙ h .empty j (omega (arith, q, next-count)));
+    }
       where
         rows-at : (k : ℕ) {p : ℕ} {δ : List ℕ} → at (l ++ E s γ ∷ []) k ≡ some (E p δ) → Dec (k < length l)
             → EntryIn (sets items ((rules + length l + 1) * 64) (entryRow γ)) (suc (rules + k)) δ

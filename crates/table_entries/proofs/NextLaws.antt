@@ -51,17 +51,18 @@ pub entry-fine : (t n states : ℕ) (l : List EntryLine) (letter : ℕ) (ns : Li
 unfolding judgeEntry
 entry-fine t n states l letter ns e =
     let j = judge-fine (eqb letter 69 && (leb 2 (length ns) && eqb (entryFrom 1 l (drop 1 ns)) 0)) (allAtMost 65535 ns && leb (length ns) 16)
-        (within 1 (getD ns 0 0) states && allDeclared t n (drop 1 ns)) e in
+    (within 1 (getD ns 0 0) states && allDeclared t n (drop 1 ns)) e in
     let f = both-true (leb 2 (length ns)) (eqb (entryFrom 1 l (drop 1 ns)) 0) (both-true (eqb letter 69) (leb 2 (length ns) && eqb (entryFrom 1 l (drop 1 ns)) 0) (j .0) .1) in
     let d = both-true (within 1 (getD ns 0 0) states) (allDeclared t n (drop 1 ns)) (j .2) in
     let w = within-true 1 (getD ns 0 0) states (d .0) in
-    record
-    { long = leb-true 2 (length ns) (f .0)
-    ; new = eqb-true (entryFrom 1 l (drop 1 ns)) 0 (f .1)
-    ; short = leb-true (length ns) 16 (both-true (allAtMost 65535 ns) (leb (length ns) 16) (j .1) .1)
-    ; some-state = w .0
-    ; few-states = w .1
-    ; declared = d .1 }
+    record {
+      long = leb-true 2 (length ns) (f .0);
+      new = eqb-true (entryFrom 1 l (drop 1 ns)) 0 (f .1);
+      short = leb-true (length ns) 16 (both-true (allAtMost 65535 ns) (leb (length ns) 16) (j .1) .1);
+      some-state = w .0;
+      few-states = w .1;
+      declared = d .1;
+    }
 
 -- declared symbols are below 128
 module _ (t n : ℕ) (few : t ≤ 63) (small : n ≤ 64) where

@@ -25,24 +25,25 @@ module _ (m : List ℕ) (base : ℕ) (numbers : List ℕ) where
     pub stored-more : k < 16 → {items : List ℕ} → Stored k items → set items (base + 16 + k) (getD numbers (k + 1) 0) ≡ building m base (take (k + 1) (drop 1 numbers)) []
     stored-more short {items} e =
         ap (λ (l : List ℕ). set l (base + 16 + k) (getD numbers (k + 1) 0)) e
-          ∙ (ap (λ (n : ℕ). set (building m base (take k (drop 1 numbers)) []) (base + 16 + n) (getD numbers (k + 1) 0)) (sym stored-length)
-          ∙ (build-symbol m base (take k (drop 1 numbers)) [] (getD numbers (k + 1) 0) (omega (arith, stored-length))
-          ∙ ap (λ (α : List ℕ). building m base α []) grown))
+        ∙ (ap (λ (n : ℕ). set (building m base (take k (drop 1 numbers)) []) (base + 16 + n) (getD numbers (k + 1) 0)) (sym stored-length)
+        ∙ (build-symbol m base (take k (drop 1 numbers)) [] (getD numbers (k + 1) 0) (omega (arith, stored-length))
+        ∙ ap (λ (α : List ℕ). building m base α []) grown))
       where
         grown : take k (drop 1 numbers) ++ getD numbers (k + 1) 0 ∷ [] ≡ take (k + 1) (drop 1 numbers)
         grown =
             ap (λ (X : ℕ). take k (drop 1 numbers) ++ X ∷ []) (sym (symbol-at numbers k))
-              ∙ (sym (take-suc (drop 1 numbers) k 0 (omega (arith, length-drop 1 numbers))) ∙ ap (λ (n : ℕ). take n (drop 1 numbers)) (sym (add-one k)))
+            ∙ (sym (take-suc (drop 1 numbers) k 0 (omega (arith, length-drop 1 numbers))) ∙ ap (λ (n : ℕ). take n (drop 1 numbers)) (sym (add-one k)))
 
   pub stored-end : (k count : ℕ) → k + 1 ≡ count → k < length numbers → {items : List ℕ} → Stored k items
       → set (set (set (set items base 0) (base + 1) k) (base + 2) 255) (base + 3) 0 ≡ sets m base (entryRow (drop 1 (take count numbers)))
   stored-end k count q room {items} e =
       ap (λ (l : List ℕ). set (set (set (set l base 0) (base + 1) k) (base + 2) 255) (base + 3) 0) e
-        ∙ (ap (λ (n : ℕ). set (set (set (set (building m base (take k (drop 1 numbers)) []) base 0) (base + 1) n) (base + 2) 255) (base + 3) 0) (sym len)
-        ∙ (build-end m base (take k (drop 1 numbers)) [] 0 255 0 ∙ ap (λ (α : List ℕ). sets m base (row 0 255 0 α [])) (shifted numbers k count q)))
+      ∙ (ap (λ (n : ℕ). set (set (set (set (building m base (take k (drop 1 numbers)) []) base 0) (base + 1) n) (base + 2) 255) (base + 3) 0) (sym len)
+      ∙ (build-end m base (take k (drop 1 numbers)) [] 0 255 0 ∙ ap (λ (α : List ℕ). sets m base (row 0 255 0 α [])) (shifted numbers k count q)))
     where
       len : length (take k (drop 1 numbers)) ≡ k
       len = length-take k (drop 1 numbers) ∙ omega (arith, length-drop 1 numbers)
+
       shifted : (l : List ℕ) (k count : ℕ) → k + 1 ≡ count → take k (drop 1 l) ≡ drop 1 (take count l)
       shifted l k zero q = absurd (omega arith)
       shifted [] zero (suc c) q = refl

@@ -82,9 +82,10 @@ module _ {m : List ℕ} {i : ℕ} {γ : List ℕ} (row : EntryIn m i γ) {ns : L
 
   module _ (e : lengthAt m i + 1 ≡ count) (room : count ≤ length numbers) (short : lengthAt m i ≤ 15) where
     agree : (k : ℕ) → k < lengthAt m i → (getD γ k 0 ≡ symbolAt m i k) × (getD (drop 1 ns) k 0 ≡ getD numbers (k + 1) 0)
-    agree k l =
-        ( sym (row .symbol-is k (omega arith))
-        , symbol-at ns k ∙ sym (h .number-is (k + 1) (omega (arith, h .count-is)) (omega (arith, h .count-is))))
+    agree k l = (
+      sym (row .symbol-is k (omega arith)),
+      symbol-at ns k ∙ sym (h .number-is (k + 1) (omega (arith, h .count-is)) (omega (arith, h .count-is))),
+    )
 
     pub row-other : (k : ℕ) → k < lengthAt m i → symbolAt m i k ≢ getD numbers (k + 1) 0 → false ≡ sameString γ (drop 1 ns)
     row-other k l f =

@@ -8,7 +8,6 @@ use table_lines::Judgement;
 use table_lines::Line;
 use table_lines::Step;
 use table_lines::Tally;
-
 ghost use mathlib.Core.Path.{_≡_};
 ghost use mathlib.Core.List.{List, []};
 ghost use Prim.Native.Nat.{ℕ, _+_, _*_, _≤_, _<_};
@@ -74,7 +73,17 @@ fn all_declared(t: usize, n: usize, numbers: &[usize], count: usize) -> bool
     true
 }
 
-fn judge_entry(t: usize, n: usize, states: usize, rules: usize, entries: usize, letter: u8, p: Tally, numbers: &[usize], m: &[u8]) -> Judgement
+fn judge_entry(
+    t: usize,
+    n: usize,
+    states: usize,
+    rules: usize,
+    entries: usize,
+    letter: u8,
+    p: Tally,
+    numbers: &[usize],
+    m: &[u8],
+) -> Judgement
     requires { ⌜ (n ≤ 64) × (rules + entries < 256) × (length (now numbers) ≡ 67) ⌝ }
     requires { ⌜ Shaped (now m) (rules + entries) ⌝ }
     ensures { λ r. ⌜ ((l : List EntryLine) (ns : List ℕ) → length l ≡ entries → Rows (now (m .entry)) rules l → Held ns p (now (numbers .entry)) → r ≡ judgeEntry t n states l letter ns) ⌝ }
@@ -122,7 +131,18 @@ pub fn store_row(items: &mut [u8], base: usize, numbers: &[usize], count: usize)
 }
 
 // The entry line at `at`, after so many others.
-fn read_entry(s: &[u8], at: usize, t: usize, n: usize, states: usize, rules: usize, entries: usize, items: &mut [u8], entry_states: &mut [u8], named: &mut [u8]) -> Step
+fn read_entry(
+    s: &[u8],
+    at: usize,
+    t: usize,
+    n: usize,
+    states: usize,
+    rules: usize,
+    entries: usize,
+    items: &mut [u8],
+    entry_states: &mut [u8],
+    named: &mut [u8],
+) -> Step
     requires { ⌜ (length (now s) < 65537) × (t ≤ 63) × (n ≤ 64) × (states ≤ 255) × (rules + entries < 254) ⌝ }
     requires { ⌜ (rules + entries) * 64 + 128 ≤ length (now items) ⌝ }
     requires { ⌜ Shaped (now items) (rules + entries) ⌝ }
@@ -150,7 +170,18 @@ fn read_entry(s: &[u8], at: usize, t: usize, n: usize, states: usize, rules: usi
 }
 
 // `count` entry lines from `first` on.
-pub fn read_entries(s: &[u8], first: usize, t: usize, n: usize, states: usize, rules: usize, count: usize, items: &mut [u8], entry_states: &mut [u8], named: &mut [u8]) -> Block
+pub fn read_entries(
+    s: &[u8],
+    first: usize,
+    t: usize,
+    n: usize,
+    states: usize,
+    rules: usize,
+    count: usize,
+    items: &mut [u8],
+    entry_states: &mut [u8],
+    named: &mut [u8],
+) -> Block
     requires { ⌜ (length (now s) < 65537) × (t ≤ 63) × (n ≤ 64) × (states ≤ 255) × (rules + count < 255) ⌝ }
     requires { ⌜ (rules + count) * 64 + 64 ≤ length (now items) ⌝ }
     requires { ⌜ EntryMemory (now items) rules (length (now «entry_states»)) (length (now named)) [] (now items) (now «entry_states») (now named) ⌝ }

@@ -54,6 +54,7 @@ module _ (l : List KernelLine) where
     where
       at-it : figureAt (l ++ z ∷ []) (length l * 4 + j) ≡ v
       at-it = figure-last z (length l * 4 + j) (omega arith) ∙ (ap (figureOf (some z)) (let q : (length l * 4 + j) % 4 ≡ j = omega arith in q) ∙ e)
+
       other : (y : ℕ) → (y ≡ length l * 4 + j → ⊥) → figureAt (l ++ z ∷ []) y ≡ figureAt (l ++ x ∷ []) y
       other y f = go (ℕ-discrete (y / 4) (length l))
         where
@@ -65,20 +66,23 @@ module _ (l : List KernelLine) where
       ≡ image a (figureAt (l ++ K q i k σ ∷ []))
   figures-more a q i k σ =
       ap (λ (m : List ℕ). set (set (set m (length l * 4) q) (length l * 4 + 1) i) (length l * 4 + 2) k) (figures-start a)
-        ∙ (ap (λ (n : ℕ). set (set (set (image a (figureAt (l ++ K 0 0 0 [] ∷ []))) n q) (length l * 4 + 1) i) (length l * 4 + 2) k) (plus-none (length l * 4))
-        ∙ (ap (λ (m : List ℕ). set (set m (length l * 4 + 1) i) (length l * 4 + 2) k) (figures-step a (K 0 0 0 []) (K q 0 0 []) 0 q (omega arith) refl first)
-        ∙ (ap (λ (m : List ℕ). set m (length l * 4 + 2) k) (figures-step a (K q 0 0 []) (K q i 0 []) 1 i (omega arith) refl second)
-        ∙ figures-step a (K q i 0 []) (K q i k σ) 2 k (omega arith) refl third)))
+      ∙ (ap (λ (n : ℕ). set (set (set (image a (figureAt (l ++ K 0 0 0 [] ∷ []))) n q) (length l * 4 + 1) i) (length l * 4 + 2) k) (plus-none (length l * 4))
+      ∙ (ap (λ (m : List ℕ). set (set m (length l * 4 + 1) i) (length l * 4 + 2) k) (figures-step a (K 0 0 0 []) (K q 0 0 []) 0 q (omega arith) refl first)
+      ∙ (ap (λ (m : List ℕ). set m (length l * 4 + 2) k) (figures-step a (K q 0 0 []) (K q i 0 []) 1 i (omega arith) refl second)
+      ∙ figures-step a (K q i 0 []) (K q i k σ) 2 k (omega arith) refl third)))
     where
       plus-none : (n : ℕ) → n ≡ n + 0
       plus-none n = omega arith
+
       first : (j : ℕ) → (j ≡ 0 → ⊥) → getD (q ∷ 0 ∷ 0 ∷ []) j 0 ≡ getD (0 ∷ 0 ∷ 0 ∷ []) j 0
       first zero f = absurd (f refl)
       first (suc j) f = refl
+
       second : (j : ℕ) → (j ≡ 1 → ⊥) → getD (q ∷ i ∷ 0 ∷ []) j 0 ≡ getD (q ∷ 0 ∷ 0 ∷ []) j 0
       second zero f = refl
       second (suc zero) f = absurd (f refl)
       second (suc (suc j)) f = refl
+
       third : (j : ℕ) → (j ≡ 2 → ⊥) → getD (q ∷ i ∷ k ∷ []) j 0 ≡ getD (q ∷ i ∷ 0 ∷ []) j 0
       third zero f = refl
       third (suc zero) f = refl
@@ -124,29 +128,32 @@ module _ (l : List KernelLine) where
         or-true : (b : Bool) → b || true ≡ true
         or-true true = refl
         or-true false = refl
+
         or-false : (b : Bool) → b || false ≡ b
         or-false true = refl
         or-false false = refl
+
         at-it : lookaheadAt (l ++ K q i k (τ ++ d ∷ []) ∷ []) (length l * 64 + d) ≡ 1
         at-it =
             code-last (K q i k (τ ++ d ∷ [])) (length l * 64 + d) (omega arith)
-              ∙ (ap (λ (n : ℕ). flag (isIn n (τ ++ d ∷ []))) (let z : (length l * 64 + d) % 64 ≡ d = omega arith in z)
-              ∙ ap flag (in-snoc τ d d ∙ (ap (λ (x : Bool). isIn d τ || x) (eq-eqb d d refl) ∙ or-true (isIn d τ))))
+            ∙ (ap (λ (n : ℕ). flag (isIn n (τ ++ d ∷ []))) (let z : (length l * 64 + d) % 64 ≡ d = omega arith in z)
+            ∙ ap flag (in-snoc τ d d ∙ (ap (λ (x : Bool). isIn d τ || x) (eq-eqb d d refl) ∙ or-true (isIn d τ))))
+
         other : (y : ℕ) → (y ≡ length l * 64 + d → ⊥) → lookaheadAt (l ++ K q i k (τ ++ d ∷ []) ∷ []) y ≡ lookaheadAt (l ++ K q i k τ ∷ []) y
         other y f = go (ℕ-discrete (y / 64) (length l))
           where
             go : Dec (y / 64 ≡ length l) → lookaheadAt (l ++ K q i k (τ ++ d ∷ []) ∷ []) y ≡ lookaheadAt (l ++ K q i k τ ∷ []) y
             go (yes e) =
                 code-last (K q i k (τ ++ d ∷ [])) y e
-                  ∙ (ap flag (in-snoc τ d (y % 64) ∙ (ap (λ (x : Bool). isIn (y % 64) τ || x) (ne-eqb d (y % 64) (λ w. f (omega (arith, e, w)))) ∙ or-false (isIn (y % 64) τ)))
-                  ∙ sym (code-last (K q i k τ) y e))
+                ∙ (ap flag (in-snoc τ d (y % 64) ∙ (ap (λ (x : Bool). isIn (y % 64) τ || x) (ne-eqb d (y % 64) (λ w. f (omega (arith, e, w)))) ∙ or-false (isIn (y % 64) τ)))
+                ∙ sym (code-last (K q i k τ) y e))
             go (no e) = code-front (K q i k (τ ++ d ∷ [])) y e ∙ sym (code-front (K q i k τ) y e)
 
     codes-rest : (τ σ : List ℕ) → ((j : ℕ) → getD σ j 0 < 64) → flagged (image b (lookaheadAt (l ++ K q i k τ ∷ []))) (length l * 64) σ ≡ image b (lookaheadAt (l ++ K q i k (τ ++ σ) ∷ []))
     codes-rest τ [] h = ap (λ (x : List ℕ). image b (lookaheadAt (l ++ K q i k x ∷ []))) (sym (append-nil τ))
     codes-rest τ (d ∷ σ) h =
         ap (λ (m : List ℕ). flagged m (length l * 64) σ) (codes-step τ d (h 0))
-          ∙ (codes-rest (τ ++ d ∷ []) σ (λ j. h (suc j)) ∙ ap (λ (x : List ℕ). image b (lookaheadAt (l ++ K q i k x ∷ []))) (append-assoc τ (d ∷ []) σ))
+        ∙ (codes-rest (τ ++ d ∷ []) σ (λ j. h (suc j)) ∙ ap (λ (x : List ℕ). image b (lookaheadAt (l ++ K q i k x ∷ []))) (append-assoc τ (d ∷ []) σ))
 
     codes-more : (σ : List ℕ) → ((j : ℕ) → getD σ j 0 < 64) → flagged (image b (lookaheadAt l)) (length l * 64) σ ≡ image b (lookaheadAt (l ++ K q i k σ ∷ []))
     codes-more σ h = ap (λ (m : List ℕ). flagged m (length l * 64) σ) codes-start ∙ codes-rest [] σ h
@@ -157,11 +164,13 @@ pub kernel-more : {a b : ℕ} {l : List KernelLine} {kernels lookaheads marks : 
     → kernels′ ≡ set (set (set kernels (length l * 4) q) (length l * 4 + 1) i) (length l * 4 + 2) k
     → lookaheads′ ≡ flagged lookaheads (length l * 64) σ → marks′ ≡ set marks (q * 4096 + i * 16 + k) 1
     → KernelMemory a b (l ++ K q i k σ ∷ []) kernels′ lookaheads′ marks′
-kernel-more {a} {b} {l} h q i k σ x y z low ks ls ms = record
-    { held = record
-        { kernels-are = ks ∙ (ap (λ (m : List ℕ). set (set (set m (length l * 4) q) (length l * 4 + 1) i) (length l * 4 + 2) k) (h .held .kernels-are) ∙ figures-more l a q i k σ)
-        ; lookaheads-are = ls ∙ (ap (λ (m : List ℕ). flagged m (length l * 64) σ) (h .held .lookaheads-are) ∙ codes-more l b q i k σ low) }
-    ; marked = mark-more q i k x y z (h .marked) σ ms }
+kernel-more {a} {b} {l} h q i k σ x y z low ks ls ms = record {
+  held = record {
+    kernels-are = ks ∙ (ap (λ (m : List ℕ). set (set (set m (length l * 4) q) (length l * 4 + 1) i) (length l * 4 + 2) k) (h .held .kernels-are) ∙ figures-more l a q i k σ);
+    lookaheads-are = ls ∙ (ap (λ (m : List ℕ). flagged m (length l * 64) σ) (h .held .lookaheads-are) ∙ codes-more l b q i k σ low);
+  };
+  marked = mark-more q i k x y z (h .marked) σ ms;
+}
 
 -- ---- the codes stored one after the other
 module _ (m : List ℕ) (base : ℕ) (numbers : List ℕ) (count : ℕ) (room : count ≤ length numbers) (k : ℕ) where

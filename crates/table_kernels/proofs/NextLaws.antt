@@ -73,23 +73,24 @@ pub kernel-fine : (t states items : ℕ) (lens : ℕ → ℕ) (l : List KernelLi
 unfolding judgeKernel
 kernel-fine t states items lens l ns e =
     let j = judge-fine (leb 4 (length ns) && (rising (drop 3 ns) && not (hasTriple l (getD ns 0 0) (getD ns 1 0) (getD ns 2 0))))
-        (allAtMost 65535 ns && ltb (length l) 1023)
-        (within 1 (getD ns 0 0) states && (within 1 (getD ns 1 0) items && (leb (getD ns 2 0) (lens (getD ns 1 0)) && allAtMost t (drop 3 ns)))) e in
+    (allAtMost 65535 ns && ltb (length l) 1023)
+    (within 1 (getD ns 0 0) states && (within 1 (getD ns 1 0) items && (leb (getD ns 2 0) (lens (getD ns 1 0)) && allAtMost t (drop 3 ns)))) e in
     let f = both-true (leb 4 (length ns)) (rising (drop 3 ns) && not (hasTriple l (getD ns 0 0) (getD ns 1 0) (getD ns 2 0))) (j .0) in
     let g = both-true (rising (drop 3 ns)) (not (hasTriple l (getD ns 0 0) (getD ns 1 0) (getD ns 2 0))) (f .1) in
     let w = both-true (allAtMost 65535 ns) (ltb (length l) 1023) (j .1) in
     let a = both-true (within 1 (getD ns 0 0) states) (within 1 (getD ns 1 0) items && (leb (getD ns 2 0) (lens (getD ns 1 0)) && allAtMost t (drop 3 ns))) (j .2) in
     let b = both-true (within 1 (getD ns 1 0) items) (leb (getD ns 2 0) (lens (getD ns 1 0)) && allAtMost t (drop 3 ns)) (a .1) in
     let c = both-true (leb (getD ns 2 0) (lens (getD ns 1 0))) (allAtMost t (drop 3 ns)) (b .1) in
-    record
-    { long = leb-true 4 (length ns) (f .0)
-    ; rises = g .0
-    ; new = not-true (hasTriple l (getD ns 0 0) (getD ns 1 0) (getD ns 2 0)) (g .1)
-    ; few = ltb-true (length l) 1023 (w .1)
-    ; state-in = within-true 1 (getD ns 0 0) states (a .0)
-    ; item-in = within-true 1 (getD ns 1 0) items (b .0)
-    ; dot-in = leb-true (getD ns 2 0) (lens (getD ns 1 0)) (c .0)
-    ; codes-in = c .1 }
+    record {
+      long = leb-true 4 (length ns) (f .0);
+      rises = g .0;
+      new = not-true (hasTriple l (getD ns 0 0) (getD ns 1 0) (getD ns 2 0)) (g .1);
+      few = ltb-true (length l) 1023 (w .1);
+      state-in = within-true 1 (getD ns 0 0) states (a .0);
+      item-in = within-true 1 (getD ns 1 0) items (b .0);
+      dot-in = leb-true (getD ns 2 0) (lens (getD ns 1 0)) (c .0);
+      codes-in = c .1;
+    }
 
 pub at-most : (m : ℕ) (l : List ℕ) → allAtMost m l ≡ true → (k : ℕ) → getD l k 0 ≤ m
 at-most m [] e k = omega arith

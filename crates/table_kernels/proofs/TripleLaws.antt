@@ -94,18 +94,21 @@ module _ (q i k : ℕ) (few : q ≤ 255) (small : i ≤ 255) (low : k ≤ 15) wh
     -- and set
     pub mark-more : (σ : List ℕ) {marks′ : List ℕ} → marks′ ≡ set marks (q * 4096 + i * 16 + k) 1 → Marked marks′ (l ++ K q i k σ ∷ [])
     unfolding tripleAt
-    mark-more σ e = record
-        { marks-are = e ∙ (ap (λ (m : List ℕ). set m (q * 4096 + i * 16 + k) 1) (h .marks-are)
-            ∙ image-set 1048576 (tripleAt l) (tripleAt (l ++ K q i k σ ∷ [])) (q * 4096 + i * 16 + k) 1 here other)
-        ; low = low-snoc l (h .low) }
+    mark-more σ e = record {
+      marks-are = e ∙ (ap (λ (m : List ℕ). set m (q * 4096 + i * 16 + k) 1) (h .marks-are)
+          ∙ image-set 1048576 (tripleAt l) (tripleAt (l ++ K q i k σ ∷ [])) (q * 4096 + i * 16 + k) 1 here other);
+      low = low-snoc l (h .low);
+    }
       where
         here : tripleAt (l ++ K q i k σ ∷ []) (q * 4096 + i * 16 + k) ≡ 1
         here = triple-here (l ++ K q i k σ ∷ []) ∙ ap flag (triple-snoc l q i k σ q i k ∙ (ap (λ (b : Bool). hasTriple l q i k || b) (same-yes q i k) ∙ or-true (hasTriple l q i k)))
+
         other : (x : ℕ) → (x ≡ q * 4096 + i * 16 + k → ⊥) → tripleAt (l ++ K q i k σ ∷ []) x ≡ tripleAt l x
         other x f =
             ap flag (triple-snoc l q i k σ (x / 4096) (x / 16 % 256) (x % 16)
-              ∙ (ap (λ (b : Bool). hasTriple l (x / 4096) (x / 16 % 256) (x % 16) || b) (same-no q i k (x / 4096) (x / 16 % 256) (x % 16) (λ e. f (omega (arith, e .0, e .1, e .2))))
-              ∙ or-false (hasTriple l (x / 4096) (x / 16 % 256) (x % 16))))
+            ∙ (ap (λ (b : Bool). hasTriple l (x / 4096) (x / 16 % 256) (x % 16) || b) (same-no q i k (x / 4096) (x / 16 % 256) (x % 16) (λ e. f (omega (arith, e .0, e .1, e .2))))
+            ∙ or-false (hasTriple l (x / 4096) (x / 16 % 256) (x % 16))))
+
         low-snoc : (l : List KernelLine) → Low l → Low (l ++ K q i k σ ∷ [])
         low-snoc [] z = ((few, small, low), tt)
         low-snoc (K a b c τ ∷ l) z = (z .0, low-snoc l (z .1))

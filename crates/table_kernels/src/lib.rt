@@ -7,7 +7,6 @@ use table_lines::Judgement;
 use table_lines::Line;
 use table_lines::Step;
 use table_lines::Tally;
-
 ghost use mathlib.Core.Path.{_≡_};
 ghost use mathlib.Core.List.{List, []};
 ghost use Prim.Native.Nat.{ℕ, _+_, _*_, _≤_, _<_};
@@ -38,7 +37,16 @@ fn is_second(marks: &[u8], state: usize, item: usize, dot: usize) -> bool
     true
 }
 
-fn judge_kernel(t: usize, states: usize, items: usize, lines: usize, p: Tally, numbers: &[usize], m: &[u8], marks: &[u8]) -> Judgement
+fn judge_kernel(
+    t: usize,
+    states: usize,
+    items: usize,
+    lines: usize,
+    p: Tally,
+    numbers: &[usize],
+    m: &[u8],
+    marks: &[u8],
+) -> Judgement
     requires { ⌜ (length (now numbers) ≡ 67) × (length (now marks) ≡ 1048576) ⌝ }
     requires { ⌜ Shaped (now m) items ⌝ }
     ensures { λ r. ⌜ ((l : List KernelLine) (ns : List ℕ) → length l ≡ lines → Marked (now (marks .entry)) l → Held ns p (now (numbers .entry)) → r ≡ judgeKernel t states items (lengthAt (now (m .entry))) l ns) ⌝ }
@@ -114,7 +122,18 @@ fn no_kernel(at: usize, lines: usize) -> Step
 }
 
 // The kernel line at `at`, after so many others.
-fn read_kernel(s: &[u8], at: usize, t: usize, states: usize, items: usize, lines: usize, m: &[u8], kernels: &mut [u8], lookaheads: &mut [u8], marks: &mut [u8]) -> Step
+fn read_kernel(
+    s: &[u8],
+    at: usize,
+    t: usize,
+    states: usize,
+    items: usize,
+    lines: usize,
+    m: &[u8],
+    kernels: &mut [u8],
+    lookaheads: &mut [u8],
+    marks: &mut [u8],
+) -> Step
     requires { ⌜ (length (now s) < 65537) × (t ≤ 63) × (states ≤ 255) × (items ≤ 255) × (length (now marks) ≡ 1048576) ⌝ }
     requires { ⌜ Shaped (now m) items ⌝ }
     requires { ⌜ HoldsKernels (now marks) lines ⌝ }
@@ -142,7 +161,17 @@ fn read_kernel(s: &[u8], at: usize, t: usize, states: usize, items: usize, lines
 }
 
 // The kernel lines from `first` on, with marks for the triples that have a line.
-fn read_marked(s: &[u8], first: usize, t: usize, states: usize, items: usize, m: &[u8], kernels: &mut [u8], lookaheads: &mut [u8], marks: &mut [u8]) -> Block
+fn read_marked(
+    s: &[u8],
+    first: usize,
+    t: usize,
+    states: usize,
+    items: usize,
+    m: &[u8],
+    kernels: &mut [u8],
+    lookaheads: &mut [u8],
+    marks: &mut [u8],
+) -> Block
     requires { ⌜ (length (now s) < 65537) × (t ≤ 63) × (states ≤ 255) × (items ≤ 255) × (length (now marks) ≡ 1048576) ⌝ }
     requires { ⌜ Shaped (now m) items ⌝ }
     requires { ⌜ KernelMemory (length (now kernels)) (length (now lookaheads)) [] (now kernels) (now lookaheads) (now marks) ⌝ }
@@ -169,12 +198,31 @@ fn read_marked(s: &[u8], first: usize, t: usize, states: usize, items: usize, m:
 
 // The kernel lines from `first` on. The marks, a byte for each state, item and dot, cost one clearing of 1 MiB; a line
 // then costs one look, however many lines there are.
-pub fn read_kernels(s: &[u8], first: usize, t: usize, states: usize, items: usize, m: &[u8], kernels: &mut [u8], lookaheads: &mut [u8]) -> Block
+pub fn read_kernels(
+    s: &[u8],
+    first: usize,
+    t: usize,
+    states: usize,
+    items: usize,
+    m: &[u8],
+    kernels: &mut [u8],
+    lookaheads: &mut [u8],
+) -> Block
     requires { ⌜ (length (now s) < 65537) × (t ≤ 63) × (states ≤ 255) × (items ≤ 255) ⌝ }
     requires { ⌜ Shaped (now m) items ⌝ }
     requires { ⌜ KernelImage (length (now kernels)) (length (now lookaheads)) [] (now kernels) (now lookaheads) ⌝ }
     ensures { λ r. ⌜ Reads (λ l. KernelImage (length (now (kernels .entry))) (length (now (lookaheads .entry))) l (now (kernels .exit)) (now (lookaheads .exit))) (kernelsFrom (now (s .entry)) t states items (lengthAt (now (m .entry))) first) r ⌝ }
 {
     let mut marks = [0u8; 1048576];
-    read_marked(s, first, t, states, items, m, kernels, lookaheads, &mut marks)
+    read_marked(
+        s,
+        first,
+        t,
+        states,
+        items,
+        m,
+        kernels,
+        lookaheads,
+        &mut marks,
+    )
 }

@@ -119,11 +119,12 @@ module _ {A : Type 0} {all : Lines A} {next : ℕ → List A → Outcome A} {lef
     pub loop-take : {p n : ℕ} → r ≡ step.Taken p → n ≡ left - 1 → Loop all next n p (k + 1) N
     loop-take {p} {n} e q =
         let t = comes-taken (step-is (g .lines) (g .count-is) (g .memory)) e in
-        record
-        { lines = g .lines ++ t .0 ∷ []
-        ; count-is = length-append (g .lines) (t .0 ∷ []) ∙ omega (arith, g .count-is)
-        ; reading = rw q (lines-take (g .reading) h (t .1))
-        ; memory = t .2 }
+        record {
+          lines = g .lines ++ t .0 ∷ [];
+          count-is = length-append (g .lines) (t .0 ∷ []) ∙ omega (arith, g .count-is);
+          reading = rw q (lines-take (g .reading) h (t .1));
+          memory = t .2;
+        }
 
     pub loop-stop : r ≡ step.Stopped → Reads N all (block.Read k at)
     loop-stop e =

@@ -21,11 +21,13 @@ pub record Whole (x : TextLine) (letter : ℕ) (p : Tally) (next : ℕ) (m : Lis
   pub held : Held numbers p m
 
 numbers-held : (ns m₀ m : List ℕ) (p : Tally) → m ≡ sets m₀ 0 ns → p ≡ tally ns → length m ≡ length m₀ → Held ns p m
-numbers-held ns m₀ m p e q l = record
-    { tally-is = q
-    ; numbers = record
-        { count-is = ap (λ (t : Tally). t .count) q ∙ count-is ns
-        ; number-is = λ k h b. ap (λ (s : List ℕ). getD s k 0) e ∙ read k h (omega (arith, b, l)) } }
+numbers-held ns m₀ m p e q l = record {
+  tally-is = q;
+  numbers = record {
+    count-is = ap (λ (t : Tally). t .count) q ∙ count-is ns;
+    number-is = λ k h b. ap (λ (s : List ℕ). getD s k 0) e ∙ read k h (omega (arith, b, l));
+  };
+}
   where
     read : (k : ℕ) → k < length ns → k < length m₀ → getD (sets m₀ 0 ns) k 0 ≡ getD ns k 0
     read k h b = ap (λ (n : ℕ). getD (sets m₀ 0 ns) n 0) (zero-plus k) ∙ read-inside m₀ ns 0 k h (omega arith)

@@ -53,12 +53,19 @@ returns : tie.Need-returns
 returns c =
     let a = c .before .before .before .before .before .before .before .before .before .before .before .before .before .before .before .before .before .before .before .before .before .before .before .before .before .before .before .before .before .before .before .before .args in
     let e = c .before .before .before .before .before .before .before .before .before .before .before .before .before .before .before .before .before .before .before .before .before .run-session .ensures in
-    let r = c .before .before .before .before .before .before .before .before .before .before .before .before .before .before .before .before .as-reply .ensures ∙ ap walker.asReply (e .0) in
-    (number-told (c .number .ensures) r,
-    (place-told (now (a .place)) (c .before .before .before .before .before .before .before .before .before .before .before .before .before .put-first .ensures) (c .before .before .before .before .before .before .before .before .before .before .before .before .before .before .place .ensures) r,
-    (figure-told (now (a .rules)) (c .before .before .before .before .before .before .before .before .put-first2 .ensures) (c .before .before .before .before .before .before .before .before .before .rule-count .ensures ∙ ap walker.ruleCount (e .0)),
-    (figure-told (now (a .units)) (c .before .before .before .put-first3 .ensures) (c .before .before .before .before .unit-count .ensures ∙ ap walker.unitCount (e .0)),
-    e .1))))
+    let r = c .before .before .before .before .before .before .before .before .before .before .before .before .before .before .before .before .as-reply .ensures ∙ ap walker.asReply (e .0) in (
+      number-told (c .number .ensures) r,
+      (
+        place-told (now (a .place)) (c .before .before .before .before .before .before .before .before .before .before .before .before .before .put-first .ensures) (c .before .before .before .before .before .before .before .before .before .before .before .before .before .before .place .ensures) r,
+        (
+          figure-told (now (a .rules)) (c .before .before .before .before .before .before .before .before .put-first2 .ensures) (c .before .before .before .before .before .before .before .before .before .rule-count .ensures ∙ ap walker.ruleCount (e .0)),
+          (
+            figure-told (now (a .units)) (c .before .before .before .put-first3 .ensures) (c .before .before .before .before .unit-count .ensures ∙ ap walker.unitCount (e .0)),
+            e .1,
+          ),
+        ),
+      ),
+    )
 
 pub buraigue-run-session-spec : {M : Type 1} → statement M
 buraigue-run-session-spec =

@@ -49,9 +49,10 @@ loop-less : tie.Need-loop-less Inv-loop μ-loop
 loop-less c = search needs
 
 loop-again : tie.Need-loop-again Inv-loop μ-loop
-loop-again c = let o = c .before .before .before .before .before .before .before .before .before .loop .inv in let a = line-asks (c .before .before .before .before .before .before .before .before .before .before .before .before .before .before .before .before .before .before .args .kernels .now) (c .before .before .before .before .before .before .before .before .before .loop .p - 1) (c .before .before .before .before .before .before .before .item-of .ensures .0) (c .before .before .before .before .before .before .dot-of .ensures .0) (c .before .before .before .before .ask-item .ensures) in
-    (passed-more (passed-map (λ m h d v w. a .asking .kept d v (h d v w)) (o .0)) (λ e. omega (arith, e)) (a .met (not-false _ (c .before .if1 .left))) (c .line-before .ensures .0),
-      asking-then (o .1) (of-line _ _ (omega (arith, o .0 .low)) (o .0 .here (λ e. omega (arith, e)))) (a .asking))
+loop-again c = let o = c .before .before .before .before .before .before .before .before .before .loop .inv in let a = line-asks (c .before .before .before .before .before .before .before .before .before .before .before .before .before .before .before .before .before .before .args .kernels .now) (c .before .before .before .before .before .before .before .before .before .loop .p - 1) (c .before .before .before .before .before .before .before .item-of .ensures .0) (c .before .before .before .before .before .before .dot-of .ensures .0) (c .before .before .before .before .ask-item .ensures) in (
+  passed-more (passed-map (λ m h d v w. a .asking .kept d v (h d v w)) (o .0)) (λ e. omega (arith, e)) (a .met (not-false _ (c .before .if1 .left))) (c .line-before .ensures .0),
+  asking-then (o .1) (of-line _ _ (omega (arith, o .0 .low)) (o .0 .here (λ e. omega (arith, e)))) (a .asking),
+)
 
 same-length-2 : tie.Need-same-length-2 Inv-loop μ-loop
 same-length-2 c = c .before .loop .inv .1 .long

@@ -47,9 +47,11 @@ loop-less-2 : tie.Need-loop-less-2 Inv-loop μ-loop
 loop-less-2 c = search needs
 
 loop-again-2 : tie.Need-loop-again-2 Inv-loop μ-loop
-loop-again-2 c = let a = c .before .before .before .ask-rule .ensures in
-    (omega arith, asking-then (c .before .before .before .before .before .before .before .before .loop .inv .1) (λ d v w. record { rule = c .before .before .before .before .before .before .before .before .loop .i; above = c .before .before .before .before .before .before .before .before .loop .inv .0; below = omega arith; present-rule = c .before .before .before .before .before .before .is-present .ensures .yes (not-false _ (c .before .before .before .before .before .if1 .left)); asks = w }) (a .asking),
-      from-more _ 1 (c .before .before .before .before .before .before .before .before .loop .i) (λ j u l p d v w. a .asking .kept d v (c .before .before .before .before .before .before .before .before .loop .inv .2 j u l p d v w)) (λ p. a .met (not-false _ (c .if2 .left))))
+loop-again-2 c = let a = c .before .before .before .ask-rule .ensures in (
+  omega arith,
+  asking-then (c .before .before .before .before .before .before .before .before .loop .inv .1) (λ d v w. record { rule = c .before .before .before .before .before .before .before .before .loop .i; above = c .before .before .before .before .before .before .before .before .loop .inv .0; below = omega arith; present-rule = c .before .before .before .before .before .before .is-present .ensures .yes (not-false _ (c .before .before .before .before .before .if1 .left)); asks = w }) (a .asking),
+  from-more _ 1 (c .before .before .before .before .before .before .before .before .loop .i) (λ j u l p d v w. a .asking .kept d v (c .before .before .before .before .before .before .before .before .loop .inv .2 j u l p d v w)) (λ p. a .met (not-false _ (c .if2 .left))),
+)
 
 same-length-2 : tie.Need-same-length-2 Inv-loop μ-loop
 same-length-2 c = c .before .loop .inv .1 .long

@@ -25,11 +25,14 @@ cell-demand-requires-2 : tie.Need-cell-demand-requires-2 Inv-loop μ-loop
 cell-demand-requires-2 c κs = (c .before .before .before .before .before .before .before .before .before .before .before .before .pre .0, (c .before .before .before .before .before .before .before .before .before .before .before .before .pre .1 .0, ((c .before .before .before .before .before .before .before .before .before .before .before .before .pre .1 .1 .0 .0, c .before .before .before .before .before .before .before .before .before .before .before .before .pre .1 .1 .0 .1, c .before .before .before .before .before .before .before .before .before .before .before .before .pre .1 .1 .0 .2, c .before .loop-test .taken), c .before .before .before .before .before .before .before .before .before .before .before .before .pre .1 .1 .1)))
 
 returns : tie.Need-returns Inv-loop μ-loop
-returns c = (c .before .before .before .loop-test .taken, λ g t entries kinds values gotos strings H e C M. (
-  asked-as g t H e C M (first-asked (c .before .before .cell-demand .ensures) (c .before .cell-demand2 .ensures) (c .if1 .taken)),
-  asked-as g t H e C M (c .before .cell-demand2 .ensures .asked (c .if1 .taken)),
-  c .before .cell-demand2 .ensures .differs (c .if1 .taken),
-))
+returns c = (
+  c .before .before .before .loop-test .taken,
+  λ g t entries kinds values gotos strings H e C M. (
+    asked-as g t H e C M (first-asked (c .before .before .cell-demand .ensures) (c .before .cell-demand2 .ensures) (c .if1 .taken)),
+    asked-as g t H e C M (c .before .cell-demand2 .ensures .asked (c .if1 .taken)),
+    c .before .cell-demand2 .ensures .differs (c .if1 .taken),
+  ),
+)
 
 add-c : tie.Need-add-c Inv-loop μ-loop
 add-c c = search needs

@@ -76,9 +76,13 @@ slice-aggregate-explain-state-6 : tie.Need-slice-aggregate-explain-state-6
 slice-aggregate-explain-state-6 c = search needs
 
 explain-state-requires : tie.Need-explain-state-requires
-explain-state-requires c κs = let S = c .before .before .before .before .before .before .before .before .before .before .before .before .before .before .before .before .before .before .before .before .before .before .before .before .before .before .before .before .before .before .before .before .before .before .pre .0 in let k = c .before .before .before .before .before .before .before .before .before .before .before .before .before .before .before .before .before .before .find-sets .kept in let m = c .before .before .before .before .before .before .before .before .before .before .before .prepare-rules in
-    (S, (record { linked = c .before .before .before .before .before .before .before .link-lines .ensures; uses-room = c .before .before .before .before .before .before .before .before .before .before .before .before .before .before .before .before .before .before .before .before .before .before .entries-meet .ensures .0; nul-room = k .1 .1 .1 .0; fst-room = k .1 .1 .1 .1 .0; starts-room = m .kept .1 .1 .1 .1 .1 .1 .0; through-room = m .kept .1 .1 .1 .1 .1 .1 .1 .0; prepared = m .ensures; few-codes = few-codes-of (c .before .before .before .before .before .before .before .before .before .before .before .before .before .before .before .before .before .before .before .before .before .before .before .before .before .before .before .before .before .before .before .before .before .before .pre .1 .0) },
-      (omega arith, c .before .before .before .before .before .before .before .before .before .before .before .before .before .before .before .before .before .before .before .before .before .before .before .before .before .before .before .before .before .before .before .before .before .before .pre .1 .1, omega (arith, c .before .before .before .before .before .before .before .before .before .before .before .before .before .before .before .before .before .before .before .before .before .before .before .before .if2 .left))))
+explain-state-requires c κs = let S = c .before .before .before .before .before .before .before .before .before .before .before .before .before .before .before .before .before .before .before .before .before .before .before .before .before .before .before .before .before .before .before .before .before .before .pre .0 in let k = c .before .before .before .before .before .before .before .before .before .before .before .before .before .before .before .before .before .before .find-sets .kept in let m = c .before .before .before .before .before .before .before .before .before .before .before .prepare-rules in (
+  S,
+  (
+    record { linked = c .before .before .before .before .before .before .before .link-lines .ensures; uses-room = c .before .before .before .before .before .before .before .before .before .before .before .before .before .before .before .before .before .before .before .before .before .before .entries-meet .ensures .0; nul-room = k .1 .1 .1 .0; fst-room = k .1 .1 .1 .1 .0; starts-room = m .kept .1 .1 .1 .1 .1 .1 .0; through-room = m .kept .1 .1 .1 .1 .1 .1 .1 .0; prepared = m .ensures; few-codes = few-codes-of (c .before .before .before .before .before .before .before .before .before .before .before .before .before .before .before .before .before .before .before .before .before .before .before .before .before .before .before .before .before .before .before .before .before .before .pre .1 .0) },
+    (omega arith, c .before .before .before .before .before .before .before .before .before .before .before .before .before .before .before .before .before .before .before .before .before .before .before .before .before .before .before .before .before .before .before .before .before .before .pre .1 .1, omega (arith, c .before .before .before .before .before .before .before .before .before .before .before .before .before .before .before .before .before .before .before .before .before .before .before .before .if2 .left)),
+  ),
+)
 
 returns-3 : tie.Need-returns-3
 returns-3 c = search needs

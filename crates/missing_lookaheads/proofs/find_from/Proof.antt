@@ -40,8 +40,11 @@ find-asked-requires : tie.Need-find-asked-requires
 find-asked-requires c κs = let S = c .before .before .before .before .before .before .before .before .before .before .before .before .before .before .before .before .before .before .before .before .before .before .before .before .before .pre .0 in let C = c .before .before .before .before .before .before .before .before .before .before .before .before .before .before .before .before .before .before .before .before .before .before .before .before .before .pre .1 .0 in (S .some-lines, (C .linked, (c .before .before .before .before .before .before .before .before .before .before .before .before .before .before .before .before .before .before .before .before .before .before .before .before .before .pre .1 .1 .2, C .few-codes, omega (arith, S .some-lines .few, c .before .before .add-inclusions .ensures .0 .long, length-replicate {A = ℕ} 65536 0), S .codes-room)))
 
 returns : tie.Need-returns
-returns c = (lack-at _ (c .find-asked .ensures), λ g t states G U. lack-is g t 65536 refl (c .before .before .before .before .before .before .before .before .before .before .before .before .before .before .before .before .before .before .before .before .before .before .before .before .before .before .pre .1 .0 .few-codes) (c .before .before .before .before .before .before .before .before .before .before .before .before .before .before .before .before .before .before .before .before .before .before .before .before .before .before .pre .1 .1 .0)
-    (c .before .before .before .add-inclusions .ensures .1 g t _ (G .held) (G .code-count) (c .before .before .before .before .before .before .before .before .before .close-state .ensures g t (memory-of G)) U) _ (c .find-asked .ensures))
+returns c = (
+  lack-at _ (c .find-asked .ensures),
+  λ g t states G U. lack-is g t 65536 refl (c .before .before .before .before .before .before .before .before .before .before .before .before .before .before .before .before .before .before .before .before .before .before .before .before .before .before .pre .1 .0 .few-codes) (c .before .before .before .before .before .before .before .before .before .before .before .before .before .before .before .before .before .before .before .before .before .before .before .before .before .before .pre .1 .1 .0)
+      (c .before .before .before .add-inclusions .ensures .1 g t _ (G .held) (G .code-count) (c .before .before .before .before .before .before .before .before .before .close-state .ensures g t (memory-of G)) U) _ (c .find-asked .ensures),
+)
 
 pub find-from-spec : {M : Type 1} → statement M
 find-from-spec =

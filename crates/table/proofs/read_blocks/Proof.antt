@@ -23,9 +23,10 @@ flags-at d = let e = reads-read (d .before .before .before .before .before .befo
 
 read-entries-requires : tie.Need-read-entries-requires
 read-entries-requires c κs = let p = c .before .before .before .before .before .before .before .before .before .before .before .before .pre in
-    let w = begun-low (p .1) in
-    ( (p .0 .0, w .few-terminals, w .few-nonterminals, p .0 .1, omega (arith, w .few-rules, p .0 .2))
-    , (omega (arith, w .few-rules, p .0 .2, p .1 .blank .room .items-room), begun-entries (p .1)) )
+    let w = begun-low (p .1) in (
+      (p .0 .0, w .few-terminals, w .few-nonterminals, p .0 .1, omega (arith, w .few-rules, p .0 .2)),
+      (omega (arith, w .few-rules, p .0 .2, p .1 .blank .room .items-room), begun-entries (p .1)),
+    )
 
 enum-known-why : tie.Need-enum-known-why
 enum-known-why c = search needs
@@ -42,9 +43,10 @@ read-kernels-requires : tie.Need-read-kernels-requires
 read-kernels-requires c κs = let d = c .before .before .before in
     let p = d .before .before .before .before .before .before .before .before .before .before .before .before .before .before .before .before .before .before .before .before .before .before .pre in
     let e = reads-read (d .before .before .before .before .before .before .before .before .before .read-entries .ensures) (d .before .count .given .1) in
-    let w = begun-low (p .1) in
-    ( (p .0 .0, w .few-terminals, p .0 .1, omega (arith, w .few-rules, lines-few _ _ _ [] (e .1), e .2, p .0 .2))
-    , (rw (e .2) at (e .3 .shaped), kernel-start (p .1 .blank)) )
+    let w = begun-low (p .1) in (
+      (p .0 .0, w .few-terminals, p .0 .1, omega (arith, w .few-rules, lines-few _ _ _ [] (e .1), e .2, p .0 .2)),
+      (rw (e .2) at (e .3 .shaped), kernel-start (p .1 .blank)),
+    )
 
 enum-known-why-2 : tie.Need-enum-known-why-2
 enum-known-why-2 c = search needs
@@ -57,9 +59,10 @@ read-actions-requires c κs = let f = c .before .before .before .before in
     let d = f .before .before .before .before .before .before .before .before .before .before .before in
     let p = d .before .before .before .before .before .before .before .before .before .before .before .before .before .before .before .before .before .before .before .before .before .before .pre in
     let e = reads-read (d .before .before .before .before .before .before .before .before .before .read-entries .ensures) (d .before .count .given .1) in
-    let w = begun-low (p .1) in
-    ( (p .0 .0, w .few-terminals, w .few-nonterminals, w .few-rules, p .0 .1, p .1 .blank .room .kinds-room, p .1 .blank .room .gotos-room)
-    , (cells-start (p .1 .blank), record { test = isEntryState (e .0); flags-are = flags-at d }) )
+    let w = begun-low (p .1) in (
+      (p .0 .0, w .few-terminals, w .few-nonterminals, w .few-rules, p .0 .1, p .1 .blank .room .kinds-room, p .1 .blank .room .gotos-room),
+      (cells-start (p .1 .blank), record { test = isEntryState (e .0); flags-are = flags-at d }),
+    )
 
 enum-known-why-3 : tie.Need-enum-known-why-3
 enum-known-why-3 c = search needs
@@ -130,8 +133,11 @@ returns-3 c = λ g k q.
     let d = f .before .before .before .before .before .before .before .before .before .before .before in
     let e = reads-read (d .before .before .before .before .before .before .before .before .before .read-entries .ensures) (d .before .count .given .1) in
     let i = reads-read (f .before .before .before .before .before .before .before .read-kernels .ensures) (f .before .lines .given .1) in
-    rw (entries-read g _ _ q _ _ (e .1), kernels-read g _ _ q (e .0) _ (ap (λ (n : ℕ). d .before .before .before .before .before .before .before .before .before .before .before .before .before .before .before .before .before .before .before .before .before .before .args .h .rules + n) (sym (e .2))) (sym (kernels-at k q _ _ _ (e .3) (e .2)) ∙ i .1)
-    , actions-refused g _ _ q (e .0) (i .0) _ (reads-refused (c .before .before .before .before .before .before .before .before .before .before .before .read-actions .ensures (isEntryState (e .0)) (flags-at d)) (c .before .why3 .given .1))) denied
+    rw (
+      entries-read g _ _ q _ _ (e .1),
+      kernels-read g _ _ q (e .0) _ (ap (λ (n : ℕ). d .before .before .before .before .before .before .before .before .before .before .before .before .before .before .before .before .before .before .before .before .before .before .args .h .rules + n) (sym (e .2))) (sym (kernels-at k q _ _ _ (e .3) (e .2)) ∙ i .1),
+      actions-refused g _ _ q (e .0) (i .0) _ (reads-refused (c .before .before .before .before .before .before .before .before .before .before .before .read-actions .ensures (isEntryState (e .0)) (flags-at d)) (c .before .why3 .given .1)),
+    ) denied
 
 same-length-17 : tie.Need-same-length-17
 same-length-17 c = c .before .before .before .before .before .before .before .before .before .before .before .before .before .before .before .before .before .before .before .before .before .before .before .before .before .before .before .before .before .before .before .before .before .before .before .read-entries .kept .1 .1 .1 .1 .1 .1 .1 .0
@@ -164,8 +170,12 @@ returns-4 c = λ g k q.
     let e = reads-read (d .before .before .before .before .before .before .before .before .before .read-entries .ensures) (d .before .count .given .1) in
     let i = reads-read (f .before .before .before .before .before .before .before .read-kernels .ensures) (f .before .lines .given .1) in
     let x = reads-read (c .before .before .before .before .before .before .before .before .before .before .read-actions .ensures (isEntryState (e .0)) (flags-at d)) (c .enum-told .given .1) in
-    rw (entries-read g _ _ q _ _ (e .1), kernels-read g _ _ q (e .0) _ (ap (λ (n : ℕ). d .before .before .before .before .before .before .before .before .before .before .before .before .before .before .before .before .before .before .before .before .before .before .args .h .rules + n) (sym (e .2))) (sym (kernels-at k q _ _ _ (e .3) (e .2)) ∙ i .1)
-    , actions-read g _ _ q (e .0) (i .0) _ (x .1), counts-same k q _ (e .0) (i .0) (x .0) (e .2) (i .2))
+    rw (
+      entries-read g _ _ q _ _ (e .1),
+      kernels-read g _ _ q (e .0) _ (ap (λ (n : ℕ). d .before .before .before .before .before .before .before .before .before .before .before .before .before .before .before .before .before .before .before .before .before .before .args .h .rules + n) (sym (e .2))) (sym (kernels-at k q _ _ _ (e .3) (e .2)) ∙ i .1),
+      actions-read g _ _ q (e .0) (i .0) _ (x .1),
+      counts-same k q _ (e .0) (i .0) (x .0) (e .2) (i .2),
+    )
     (filled-with (blocks-hold k (entries-at k q (e .3)) (i .3) (memory-sized (d .before .before .before .before .before .before .before .before .before .read-entries .kept .1 .1 .1 .1 .1 .1 .1 .1 .1 .0) (x .3))))
 
 pub read-blocks-spec : {M : Type 1} → statement M

@@ -24,11 +24,14 @@ read-book-requires : tie.Need-read-book-requires
 read-book-requires c κs = let d = c .before .before .before .before .before .before .before .before in
     let r = d .before .before .before .before .before in
     let p = r .before .before .before .before .before .before .before .before .before .before .before .before .before .pre in
-    let g = grammar-read _ _ (p .room .items-room) (r .read-grammar .ensures .0) (d .before .h .given .1) in
-    (omega (arith, r .before .before .if1 .left), record
-    { grammar = g .0
-    ; blank = blank-now _ (g .1) p (rules-laid _ _ (p .room .items-room) (r .read-grammar .ensures .0) (g .1) (r .read-grammar .ensures .1) (r .read-grammar .kept .1 .0)) (r .read-grammar .kept .1 .0)
-    ; heading = g .2 })
+    let g = grammar-read _ _ (p .room .items-room) (r .read-grammar .ensures .0) (d .before .h .given .1) in (
+      omega (arith, r .before .before .if1 .left),
+      record {
+        grammar = g .0;
+        blank = blank-now _ (g .1) p (rules-laid _ _ (p .room .items-room) (r .read-grammar .ensures .0) (g .1) (r .read-grammar .ensures .1) (r .read-grammar .kept .1 .0)) (r .read-grammar .kept .1 .0);
+        heading = g .2;
+      },
+    )
 
 same-length : tie.Need-same-length
 same-length c = search needs

@@ -69,8 +69,13 @@ unfolding headOf
 returns-4 c = let w = line-read (c .before .before .before .before .before .before) in
     let e = sym (held-count (w .held)) ∙ c .before .before .before .if2 .left in
     c .refuse-head4 .ensures
-      ∙ simp (w .line-is, eq-eqb _ 84 (c .before .before .before .before .before .if1 .left), eq-eqb (length (w .numbers)) 2 e, held-at (w .held) 0 (omega (arith, e)) (search needs)
-      , sym (c .before .before .in-range .ensures) ∙ not-true _ (c .before .if3 .taken))
+    ∙ simp (
+      w .line-is,
+      eq-eqb _ 84 (c .before .before .before .before .before .if1 .left),
+      eq-eqb (length (w .numbers)) 2 e,
+      held-at (w .held) 0 (omega (arith, e)) (search needs),
+      sym (c .before .before .in-range .ensures) ∙ not-true _ (c .before .if3 .taken),
+    )
 
 in-range-requires-2 : tie.Need-in-range-requires-2
 in-range-requires-2 c κs = search needs
@@ -83,15 +88,29 @@ unfolding headOf
 returns-5 c = let w = line-read (c .before .before .before .before .before .before .before .before) in
     let e = sym (held-count (w .held)) ∙ c .before .before .before .before .before .if2 .left in
     c .refuse-head5 .ensures
-      ∙ simp (w .line-is, eq-eqb _ 84 (c .before .before .before .before .before .before .before .if1 .left), eq-eqb (length (w .numbers)) 2 e, held-at (w .held) 0 (omega (arith, e)) (search needs), held-at (w .held) 1 (omega (arith, e)) (search needs)
-      , sym (c .before .before .before .before .in-range .ensures) ∙ not-false _ (c .before .before .before .if3 .left), sym (c .before .before .in-range2 .ensures) ∙ not-true _ (c .before .if4 .taken))
+    ∙ simp (
+      w .line-is,
+      eq-eqb _ 84 (c .before .before .before .before .before .before .before .if1 .left),
+      eq-eqb (length (w .numbers)) 2 e,
+      held-at (w .held) 0 (omega (arith, e)) (search needs),
+      held-at (w .held) 1 (omega (arith, e)) (search needs),
+      sym (c .before .before .before .before .in-range .ensures) ∙ not-false _ (c .before .before .before .if3 .left),
+      sym (c .before .before .in-range2 .ensures) ∙ not-true _ (c .before .if4 .taken),
+    )
 
 returns-6 : tie.Need-returns-6
 unfolding headOf
 returns-6 c = let w = line-read (c .before .before .before .before .before .before .before) in
     let e = sym (held-count (w .held)) ∙ c .before .before .before .before .if2 .left in
-    simp (w .line-is, eq-eqb _ 84 (c .before .before .before .before .before .before .if1 .left), eq-eqb (length (w .numbers)) 2 e, held-at (w .held) 0 (omega (arith, e)) (search needs), held-at (w .held) 1 (omega (arith, e)) (search needs)
-    , sym (c .before .before .before .in-range .ensures) ∙ not-false _ (c .before .before .if3 .left), sym (c .before .in-range2 .ensures) ∙ not-false _ (c .if4 .left))
+    simp (
+      w .line-is,
+      eq-eqb _ 84 (c .before .before .before .before .before .before .if1 .left),
+      eq-eqb (length (w .numbers)) 2 e,
+      held-at (w .held) 0 (omega (arith, e)) (search needs),
+      held-at (w .held) 1 (omega (arith, e)) (search needs),
+      sym (c .before .before .before .in-range .ensures) ∙ not-false _ (c .before .before .if3 .left),
+      sym (c .before .in-range2 .ensures) ∙ not-false _ (c .if4 .left),
+    )
 
 pub read-head-spec : {M : Type 1} → statement M
 read-head-spec =

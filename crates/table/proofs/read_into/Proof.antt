@@ -16,13 +16,15 @@ clear-all-requires c κs = search needs
 read-cleared-requires : tie.Need-read-cleared-requires
 read-cleared-requires c κs = let p = c .before .before .before .before .before .before .before .before .before .before .before .before .before .before .before .before .before .before .before .before .before .before .before .before .before .before .before .before .before .before .before .before .before .before .before .before .before .before .before .before .before .before .before .pre in
     let a = c .before .before .before .before .before .before .before .before .before .before .before .before .before .before .before .before .before .before .before .before .before .before .before .before .before .before .before .before .before .before .before .before .before .before .before .before .before .before .before .before .before .before .before .args in
-    record
-    { items-none = zeros-again (length (a .items .now)) (c .before .before .before .before .before .before .before .before .before .before .before .before .before .before .before .before .before .before .before .before .before .before .before .before .clear-all .ensures .0)
-    ; cleared = record { states-none = zeros-again (length (a .entry-states .now)) (c .before .before .before .before .before .before .before .before .before .before .before .before .before .before .before .before .before .before .before .before .before .before .before .before .clear-all .ensures .1 .0); kernels-none = zeros-again (length (a .kernels .now)) (c .before .before .before .before .before .before .before .before .before .before .before .before .before .before .before .before .before .before .before .before .before .before .before .before .clear-all .ensures .1 .1 .0); lookaheads-none = zeros-again (length (a .lookaheads .now)) (c .before .before .before .before .before .before .before .before .before .before .before .before .before .before .before .before .before .before .before .before .before .before .before .before .clear-all .ensures .1 .1 .1 .0); kinds-none = zeros-again (length (a .kinds .now)) (c .before .before .before .before .before .before .before .before .before .before .before .before .before .before .before .before .before .before .before .before .before .before .before .before .clear-all .ensures .1 .1 .1 .1 .0); values-none = zeros-again (length (a .values .now)) (c .before .before .before .before .before .before .before .before .before .before .before .before .before .before .before .before .before .before .before .before .before .before .before .before .clear-all .ensures .1 .1 .1 .1 .1 .0); gotos-none = zeros-again (length (a .gotos .now)) (c .before .before .before .before .before .before .before .before .before .before .before .before .before .before .before .before .before .before .before .before .before .before .before .before .clear-all .ensures .1 .1 .1 .1 .1 .1 .0); named-none = zeros-again (length (a .named .now)) (c .before .before .before .before .before .before .before .before .before .before .before .before .before .before .before .before .before .before .before .before .before .before .before .before .clear-all .ensures .1 .1 .1 .1 .1 .1 .1) }
-    ; room = record
-        { items-room = omega (arith, p .items-room, c .before .before .before .before .before .before .before .before .before .before .before .before .before .before .before .before .before .before .before .before .before .before .before .before .clear-all .kept .0)
-        ; kinds-room = omega (arith, p .kinds-room, c .before .before .before .before .before .before .before .before .before .before .before .before .before .before .before .before .before .before .before .before .before .before .before .before .clear-all .kept .1 .1 .1 .1 .0)
-        ; gotos-room = omega (arith, p .gotos-room, c .before .before .before .before .before .before .before .before .before .before .before .before .before .before .before .before .before .before .before .before .before .before .before .before .clear-all .kept .1 .1 .1 .1 .1 .1 .0) } }
+    record {
+      items-none = zeros-again (length (a .items .now)) (c .before .before .before .before .before .before .before .before .before .before .before .before .before .before .before .before .before .before .before .before .before .before .before .before .clear-all .ensures .0);
+      cleared = record { states-none = zeros-again (length (a .entry-states .now)) (c .before .before .before .before .before .before .before .before .before .before .before .before .before .before .before .before .before .before .before .before .before .before .before .before .clear-all .ensures .1 .0); kernels-none = zeros-again (length (a .kernels .now)) (c .before .before .before .before .before .before .before .before .before .before .before .before .before .before .before .before .before .before .before .before .before .before .before .before .clear-all .ensures .1 .1 .0); lookaheads-none = zeros-again (length (a .lookaheads .now)) (c .before .before .before .before .before .before .before .before .before .before .before .before .before .before .before .before .before .before .before .before .before .before .before .before .clear-all .ensures .1 .1 .1 .0); kinds-none = zeros-again (length (a .kinds .now)) (c .before .before .before .before .before .before .before .before .before .before .before .before .before .before .before .before .before .before .before .before .before .before .before .before .clear-all .ensures .1 .1 .1 .1 .0); values-none = zeros-again (length (a .values .now)) (c .before .before .before .before .before .before .before .before .before .before .before .before .before .before .before .before .before .before .before .before .before .before .before .before .clear-all .ensures .1 .1 .1 .1 .1 .0); gotos-none = zeros-again (length (a .gotos .now)) (c .before .before .before .before .before .before .before .before .before .before .before .before .before .before .before .before .before .before .before .before .before .before .before .before .clear-all .ensures .1 .1 .1 .1 .1 .1 .0); named-none = zeros-again (length (a .named .now)) (c .before .before .before .before .before .before .before .before .before .before .before .before .before .before .before .before .before .before .before .before .before .before .before .before .clear-all .ensures .1 .1 .1 .1 .1 .1 .1) };
+      room = record {
+        items-room = omega (arith, p .items-room, c .before .before .before .before .before .before .before .before .before .before .before .before .before .before .before .before .before .before .before .before .before .before .before .before .clear-all .kept .0);
+        kinds-room = omega (arith, p .kinds-room, c .before .before .before .before .before .before .before .before .before .before .before .before .before .before .before .before .before .before .before .before .before .before .before .before .clear-all .kept .1 .1 .1 .1 .0);
+        gotos-room = omega (arith, p .gotos-room, c .before .before .before .before .before .before .before .before .before .before .before .before .before .before .before .before .before .before .before .before .before .before .before .before .clear-all .kept .1 .1 .1 .1 .1 .1 .0);
+      };
+    }
 
 enum-known-answer : tie.Need-enum-known-answer
 enum-known-answer c = search needs

@@ -15,7 +15,7 @@ use Rattle.table_actions.proofs.read_actions.Statement.{statement}
 use Rattle.table_actions.proofs.read_actions.Tie as tie
 
 abbrev Inv-loop : tie.InvT-loop
-Inv-loop s first t n rules states kinds₀ values₀ gotos₀ named₀ at₀ k₀ left₀ kinds values gotos named at k left = 
+Inv-loop s first t n rules states kinds₀ values₀ gotos₀ named₀ at₀ k₀ left₀ kinds values gotos named at k left =
     (k + left ≤ length s) × (length kinds ≡ length kinds₀) × (length values ≡ length values₀) × (length gotos ≡ length gotos₀) × (length named ≡ length named₀)
     × ((e : ℕ → Bool) → named₀ ≡ image (length named₀) (λ q. flag (e q))
     → Loop (actionsFrom s t n rules states at₀) (actionNext s t n rules states) left at k
@@ -33,9 +33,10 @@ sub-left c = search needs
 read-action-requires : tie.Need-read-action-requires Inv-loop μ-loop
 read-action-requires c κs = let p = c .before .before .before .before .before .before .before .before .before .before .before .pre in
     let l = c .before .before .before .before .before .loop in
-    let g = l .inv .5 (p .1 .1 .test) (p .1 .1 .flags-are) in
-    ( (p .0 .0, p .0 .1, p .0 .2, p .0 .3, p .0 .4, omega (arith, p .0 .5, l .inv .1), omega (arith, p .0 .6, l .inv .3))
-    , record { sizes = _; lines = g .lines; cells = g .memory .cells } )
+    let g = l .inv .5 (p .1 .1 .test) (p .1 .1 .flags-are) in (
+      (p .0 .0, p .0 .1, p .0 .2, p .0 .3, p .0 .4, omega (arith, p .0 .5, l .inv .1), omega (arith, p .0 .6, l .inv .3)),
+      record { sizes = _; lines = g .lines; cells = g .memory .cells },
+    )
 
 enum-known-next : tie.Need-enum-known-next Inv-loop μ-loop
 enum-known-next c = search needs

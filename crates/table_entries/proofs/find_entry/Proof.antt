@@ -13,7 +13,7 @@ use Rattle.table_entries.proofs.find_entry.Statement.{statement}
 use Rattle.table_entries.proofs.find_entry.Tie as tie
 
 abbrev Inv-loop : tie.InvT-loop
-Inv-loop m rules entries numbers count k₀ k = 
+Inv-loop m rules entries numbers count k₀ k =
     (k ≤ entries)
     × ((l : List EntryLine) (ns : List ℕ) → length l ≡ entries → Rows m rules l → Numbers ns count numbers
     → entryFrom 1 l (drop 1 ns) ≡ entryFrom (suc k) (drop k l) (drop 1 ns))

@@ -12,7 +12,7 @@ use Rattle.table_entries.proofs.read_entries.Statement.{statement}
 use Rattle.table_entries.proofs.read_entries.Tie as tie
 
 abbrev Inv-loop : tie.InvT-loop
-Inv-loop s first t n states rules count items₀ entry-states₀ named₀ at₀ k₀ items entry-states named at k = 
+Inv-loop s first t n states rules count items₀ entry-states₀ named₀ at₀ k₀ items entry-states named at k =
     (k ≤ count) × (length items ≡ length items₀) × (length entry-states ≡ length entry-states₀) × (length named ≡ length named₀)
     × Loop (entriesFrom count s t n states at₀) (entryNext s t n states) (count - k) at k
     (λ l. EntryMemory items₀ rules (length entry-states₀) (length named₀) l items entry-states named)
@@ -28,12 +28,19 @@ loop-holds c = (search needs, search needs, search needs, search needs, record {
 
 read-entry-requires : tie.Need-read-entry-requires Inv-loop μ-loop
 read-entry-requires c κs = let g = c .before .before .before .before .loop .inv .4 in
-    let p = c .before .before .before .before .before .before .before .before .before .pre in
-    ( (p .0 .0, p .0 .1, p .0 .2, p .0 .3, omega (arith, p .0 .4, c .before .before .before .loop-test .taken))
-    , (omega (arith, p .1 .0, c .before .before .before .loop-test .taken, c .before .before .before .before .loop .inv .1)
-    , (rw (g .count-is) at (g .memory .shaped)
-    , (λ j l. g .memory .empty j (omega (arith, l, g .count-is))
-    , record { lines = g .lines; count-is = g .count-is; rows = g .memory .rows }))))
+    let p = c .before .before .before .before .before .before .before .before .before .pre in (
+      (p .0 .0, p .0 .1, p .0 .2, p .0 .3, omega (arith, p .0 .4, c .before .before .before .loop-test .taken)),
+      (
+        omega (arith, p .1 .0, c .before .before .before .loop-test .taken, c .before .before .before .before .loop .inv .1),
+        (
+          rw (g .count-is) at (g .memory .shaped),
+          (
+            λ j l. g .memory .empty j (omega (arith, l, g .count-is)),
+            record { lines = g .lines; count-is = g .count-is; rows = g .memory .rows },
+          ),
+        ),
+      ),
+    )
 
 enum-known-next : tie.Need-enum-known-next Inv-loop μ-loop
 enum-known-next c = search needs

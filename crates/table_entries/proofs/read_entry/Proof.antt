@@ -81,10 +81,13 @@ slice-aggregate-store-row c = search needs
 store-row-requires : tie.Need-store-row-requires
 store-row-requires c κs = let f = fine-at (c .before .before) in
     let w = line-read (c .before .before .before .before .before .before .before) in
-    let p = c .before .before .before .before .before .before .before .before .before .before .before .before .before .before .before .before .before .pre in
-    ( (omega (arith, held-count (w .held), f .long), omega (arith, held-count (w .held), f .short), search needs, omega (arith, p .0))
-    , ( (λ k l. omega (arith, held-at (w .held) k (omega (arith, held-count (w .held), l)) (omega (arith, held-count (w .held), l, f .short)), fine-low _ _ (p .0 .1) (p .0 .2) (p .0 .3) f k))
-      , (λ j l d. p .1 .1 .1 .0 j l) ) )
+    let p = c .before .before .before .before .before .before .before .before .before .before .before .before .before .before .before .before .before .pre in (
+      (omega (arith, held-count (w .held), f .long), omega (arith, held-count (w .held), f .short), search needs, omega (arith, p .0)),
+      (
+        (λ k l. omega (arith, held-at (w .held) k (omega (arith, held-count (w .held), l)) (omega (arith, held-count (w .held), l, f .short)), fine-low _ _ (p .0 .1) (p .0 .2) (p .0 .3) f k)),
+        (λ j l d. p .1 .1 .1 .0 j l),
+      ),
+    )
 
 add-put : tie.Need-add-put
 add-put c = record { fits = omega (arith, c .before .before .before .before .before .before .before .before .before .before .before .before .before .before .before .before .before .before .before .before .before .pre .0) }
@@ -117,13 +120,13 @@ returns-3 c = λ m a b l q h.
     let first = sym (held-at (w .held) 0 (omega (arith, f .long)) (search needs)) in
     rw (entry-taken _ _ _ _ _ l (w .line-is) fine)
     (taken (memory-more h _ _ (fine-fits _ _ (p .0 .1) (p .0 .2) f) (omega (arith, p .1 .0, q))
-      (c .before .before .before .before .before .before .before .before .before .before .store-row .ensures
-        ∙ (ap (λ (z : List ℕ). sets (now (g .items)) ((g .rules + g .entries + 1) * 64) (entryRow (drop 1 z))) (numbers-take (w .held .numbers) (omega (arith, held-count (w .held), f .short)))
-        ∙ ap (λ (k : ℕ). sets (now (g .items)) ((g .rules + k + 1) * 64) (entryRow (drop 1 (w .numbers)))) (sym q)))
-      (c .before .before .before .before .before .before .put .ensures
-        ∙ (ap (λ (k : ℕ). set (now (g .entry-states)) (k + 1) (getD (c .before .before .before .before .before .before .before .before .before .before .before .before .before .before .before .before .before .before .before .before .before .before .read-line .last .1 .1 .0) 0 0)) (sym q)
-        ∙ ap (λ (x : ℕ). set (now (g .entry-states)) (length l + 1) x) first))
-      (c .before .before .put2 .ensures ∙ ap (λ (x : ℕ). set (now (g .named)) x 1) first)))
+    (c .before .before .before .before .before .before .before .before .before .before .store-row .ensures
+    ∙ (ap (λ (z : List ℕ). sets (now (g .items)) ((g .rules + g .entries + 1) * 64) (entryRow (drop 1 z))) (numbers-take (w .held .numbers) (omega (arith, held-count (w .held), f .short)))
+    ∙ ap (λ (k : ℕ). sets (now (g .items)) ((g .rules + k + 1) * 64) (entryRow (drop 1 (w .numbers)))) (sym q)))
+    (c .before .before .before .before .before .before .put .ensures
+    ∙ (ap (λ (k : ℕ). set (now (g .entry-states)) (k + 1) (getD (c .before .before .before .before .before .before .before .before .before .before .before .before .before .before .before .before .before .before .before .before .before .before .read-line .last .1 .1 .0) 0 0)) (sym q)
+    ∙ ap (λ (x : ℕ). set (now (g .entry-states)) (length l + 1) x) first))
+    (c .before .before .put2 .ensures ∙ ap (λ (x : ℕ). set (now (g .named)) x 1) first)))
 
 pub read-entry-spec : {M : Type 1} → statement M
 read-entry-spec =

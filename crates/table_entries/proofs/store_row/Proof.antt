@@ -83,10 +83,10 @@ returns c = let p5 = c .before .before in
     let l = p2 .before .before .before .loop in
     let a = p2 .before .before .before .before .before .before .args in
     p5 .put5 .ensures
-      ∙ (ap (λ (m : List ℕ). set m (a .base + 3) 0) (p4 .put4 .ensures)
-      ∙ (ap (λ (m : List ℕ). set (set m (a .base + 2) 255) (a .base + 3) 0) (p3 .put3 .ensures)
-      ∙ (ap (λ (m : List ℕ). set (set (set m (a .base + 1) (l .k)) (a .base + 2) 255) (a .base + 3) 0) (p2 .put2 .ensures)
-      ∙ stored-end (a .items .now) (a .base) (a .numbers .now) (l .k) (a .count) (omega arith) (omega (arith, l .inv .0, p2 .before .before .before .before .before .before .pre .0)) (l .inv .2))))
+    ∙ (ap (λ (m : List ℕ). set m (a .base + 3) 0) (p4 .put4 .ensures)
+    ∙ (ap (λ (m : List ℕ). set (set m (a .base + 2) 255) (a .base + 3) 0) (p3 .put3 .ensures)
+    ∙ (ap (λ (m : List ℕ). set (set (set m (a .base + 1) (l .k)) (a .base + 2) 255) (a .base + 3) 0) (p2 .put2 .ensures)
+    ∙ stored-end (a .items .now) (a .base) (a .numbers .now) (l .k) (a .count) (omega arith) (omega (arith, l .inv .0, p2 .before .before .before .before .before .before .pre .0)) (l .inv .2))))
 
 pub store-row-spec : {M : Type 1} → statement M
 store-row-spec =

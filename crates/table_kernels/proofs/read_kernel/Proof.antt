@@ -32,11 +32,12 @@ low-at : (c : tie.After-enum-told2) → let m = c .before .before .before .befor
     (c .before .before .before .before .before .before .before .before .before .before .before .before .before .before .before .before .before .args .lines < 1023) × (getD m 0 0 ≤ 255) × (getD m 1 0 ≤ 255) × (getD m 2 0 ≤ 15)
 low-at c = let p = c .before .before .before .before .before .before .before .before .before .before .before .before .before .before .before .before .before .pre in
     let w = line-read (c .before .before .before .before .before .before) in
-    let f = fine-at c in
-    ( omega (arith, f .few, p .1 .1 .count-is)
-    , omega (arith, held-at (w .held) 0 (omega (arith, f .long)) (search needs), f .state-in .1, p .0 .2)
-    , omega (arith, held-at (w .held) 1 (omega (arith, f .long)) (search needs), f .item-in .1, p .0 .3)
-    , omega (arith, held-at (w .held) 2 (omega (arith, f .long)) (search needs), f .dot-in, p .1 .0 .lengths _ (f .item-in .1)) )
+    let f = fine-at c in (
+      omega (arith, f .few, p .1 .1 .count-is),
+      omega (arith, held-at (w .held) 0 (omega (arith, f .long)) (search needs), f .state-in .1, p .0 .2),
+      omega (arith, held-at (w .held) 1 (omega (arith, f .long)) (search needs), f .item-in .1, p .0 .3),
+      omega (arith, held-at (w .held) 2 (omega (arith, f .long)) (search needs), f .dot-in, p .1 .0 .lengths _ (f .item-in .1)),
+    )
 
 slice-aggregate-read-line : tie.Need-slice-aggregate-read-line
 slice-aggregate-read-line c = search needs
@@ -103,9 +104,10 @@ slice-aggregate-store-codes c = search needs
 store-codes-requires : tie.Need-store-codes-requires
 store-codes-requires c κs = let f = fine-at (c .before .before .before .before .before .before) in
     let w = line-read (c .before .before .before .before .before .before .before .before .before .before .before .before) in
-    let p = c .before .before .before .before .before .before .before .before .before .before .before .before .before .before .before .before .before .before .before .before .before .before .before .pre in
-    ( (omega (arith, f .long, held-count (w .held)), omega (arith, fine-short (p .0 .1) f, held-count (w .held)), omega (arith, low-at (c .before .before .before .before .before .before) .0))
-    , (λ k l d. omega (arith, held-at (w .held) k (omega (arith, d, held-count (w .held))) (omega (arith, d, fine-short (p .0 .1) f, held-count (w .held))), code-low (p .0 .1) f k l)) )
+    let p = c .before .before .before .before .before .before .before .before .before .before .before .before .before .before .before .before .before .before .before .before .before .before .before .pre in (
+      (omega (arith, f .long, held-count (w .held)), omega (arith, fine-short (p .0 .1) f, held-count (w .held)), omega (arith, low-at (c .before .before .before .before .before .before) .0)),
+      (λ k l d. omega (arith, held-at (w .held) k (omega (arith, d, held-count (w .held))) (omega (arith, d, fine-short (p .0 .1) f, held-count (w .held))), code-low (p .0 .1) f k l)),
+    )
 
 mul-put : tie.Need-mul-put
 mul-put c = record { fits = omega (arith, low-at (c .before .before .before .before .before .before .before .before .before .before) .1) }
@@ -143,10 +145,10 @@ returns-4 c = λ a b l q h.
     let n2 = sym (held-at (w .held) 2 (omega (arith, f .long)) (search needs)) in
     rw (kernel-taken _ _ _ _ _ _ l (w .line-is) (c .before .before .before .before .before .before .before .before .before .before .before .before .before .before .before .before .before .before .if1 .left) j)
     (taken (kernel-more h _ _ _ (drop 3 (w .numbers)) (omega (arith, f .state-in .1, p .0 .2)) (omega (arith, f .item-in .1, p .0 .3)) (omega (arith, f .dot-in, p .1 .0 .lengths _ (f .item-in .1)))
-      (λ k. omega (arith, at-most _ (drop 3 (w .numbers)) (f .codes-in) k, p .0 .1))
-      (c .before .before .before .before .before .before .before .before .before .before .before .store-figures .ensures ∙ figures-by (now (g .kernels)) (sym q) n0 n1 n2)
-      (c .before .before .before .before .before .before .store-codes .ensures ∙ flags-by (now (g .lookaheads)) (sym q) (ap (drop 3) (numbers-take (w .held .numbers) (omega (arith, fine-short (p .0 .1) f, held-count (w .held))))))
-      (c .before .before .put .ensures ∙ mark-by (now (g .marks)) n0 n1 n2)))
+    (λ k. omega (arith, at-most _ (drop 3 (w .numbers)) (f .codes-in) k, p .0 .1))
+    (c .before .before .before .before .before .before .before .before .before .before .before .store-figures .ensures ∙ figures-by (now (g .kernels)) (sym q) n0 n1 n2)
+    (c .before .before .before .before .before .before .store-codes .ensures ∙ flags-by (now (g .lookaheads)) (sym q) (ap (drop 3) (numbers-take (w .held .numbers) (omega (arith, fine-short (p .0 .1) f, held-count (w .held))))))
+    (c .before .before .put .ensures ∙ mark-by (now (g .marks)) n0 n1 n2)))
 
 pub read-kernel-spec : {M : Type 1} → statement M
 read-kernel-spec =

@@ -11,9 +11,10 @@ slice-aggregate-read-marked : tie.Need-slice-aggregate-read-marked
 slice-aggregate-read-marked c = sym (length-replicate {A = ℕ} 1048576 0)
 
 read-marked-requires : tie.Need-read-marked-requires
-read-marked-requires c κs = let p = c .before .before .before .before .before .before .before .pre in
-    ( (p .0 .0, p .0 .1, p .0 .2, p .0 .3, length-replicate {A = ℕ} 1048576 0)
-    , (p .1 .0, record { held = p .1 .1; marked = marks-none refl }) )
+read-marked-requires c κs = let p = c .before .before .before .before .before .before .before .pre in (
+  (p .0 .0, p .0 .1, p .0 .2, p .0 .3, length-replicate {A = ℕ} 1048576 0),
+  (p .1 .0, record { held = p .1 .1; marked = marks-none refl }),
+)
 
 same-length : tie.Need-same-length
 same-length c = c .before .before .before .before .before .read-marked .kept .1 .1 .1 .1 .1 .1 .0

@@ -13,7 +13,7 @@ use Rattle.table_kernels.proofs.read_marked.Statement.{statement}
 use Rattle.table_kernels.proofs.read_marked.Tie as tie
 
 abbrev Inv-loop : tie.InvT-loop
-Inv-loop s first t states items m kernels₀ lookaheads₀ marks₀ at₀ k₀ kernels lookaheads marks at k = 
+Inv-loop s first t states items m kernels₀ lookaheads₀ marks₀ at₀ k₀ kernels lookaheads marks at k =
     (k ≤ 1024) × (length kernels ≡ length kernels₀) × (length lookaheads ≡ length lookaheads₀) × (length marks ≡ length marks₀)
     × Loop (kernelsFrom s t states items (lengthAt m) at₀) (kernelNext s t states items (lengthAt m)) (1024 - k) at k
     (λ l. KernelMemory (length kernels₀) (length lookaheads₀) l kernels lookaheads marks)
@@ -26,9 +26,10 @@ loop-holds c = (search needs, search needs, search needs, search needs, record {
 
 read-kernel-requires : tie.Need-read-kernel-requires Inv-loop μ-loop
 read-kernel-requires c κs = let g = c .before .before .before .before .loop .inv .4 in
-    let p = c .before .before .before .before .before .before .before .before .before .before .pre in
-    ( (p .0 .0, p .0 .1, p .0 .2, p .0 .3, omega (arith, p .0 .4, c .before .before .before .before .loop .inv .3))
-    , (p .1 .0, record { lines = g .lines; count-is = g .count-is; marked = g .memory .marked }) )
+    let p = c .before .before .before .before .before .before .before .before .before .before .pre in (
+      (p .0 .0, p .0 .1, p .0 .2, p .0 .3, omega (arith, p .0 .4, c .before .before .before .before .loop .inv .3)),
+      (p .1 .0, record { lines = g .lines; count-is = g .count-is; marked = g .memory .marked }),
+    )
 
 enum-known-next : tie.Need-enum-known-next Inv-loop μ-loop
 enum-known-next c = search needs

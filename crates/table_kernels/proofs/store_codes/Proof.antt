@@ -11,7 +11,7 @@ use Rattle.table_kernels.proofs.store_codes.Statement.{statement}
 use Rattle.table_kernels.proofs.store_codes.Tie as tie
 
 abbrev Inv-loop : tie.InvT-loop
-Inv-loop lookaheads₀ base numbers count k₀ lookaheads k = 
+Inv-loop lookaheads₀ base numbers count k₀ lookaheads k =
     (3 ≤ k) × (k ≤ count) × (length lookaheads ≡ length lookaheads₀)
     × (flagged lookaheads₀ base (drop 3 (take count numbers)) ≡ flagged lookaheads base (drop k (take count numbers)))
 

@@ -40,8 +40,8 @@ returns c = let p3 = c .before .before in
     let p1 = p2 .before .before .before .before in
     let a = p1 .before .before .before .args in
     p3 .put3 .ensures
-      ∙ (ap (λ (m : List ℕ). set m (a .line * 4 + 2) (a .dot)) (p2 .put2 .ensures)
-      ∙ ap (λ (m : List ℕ). set (set m (a .line * 4 + 1) (a .item)) (a .line * 4 + 2) (a .dot)) (p1 .put .ensures))
+    ∙ (ap (λ (m : List ℕ). set m (a .line * 4 + 2) (a .dot)) (p2 .put2 .ensures)
+    ∙ ap (λ (m : List ℕ). set (set m (a .line * 4 + 1) (a .item)) (a .line * 4 + 2) (a .dot)) (p1 .put .ensures))
 
 pub store-figures-spec : {M : Type 1} → statement M
 store-figures-spec =
