@@ -6,6 +6,7 @@ ghost use Rattle.reply.specs.Reply.{numberOf, placeOf};
 ghost use Rattle.grammar.specs.Memory.{asReply, replyOf, readOf, memoryOf};
 ghost use Rattle.scans.specs.File.{scansOf};
 ghost use Rattle.checker.specs.Checked.{verdictOf};
+ghost use Rattle.builder.specs.Build.{buildOf};
 ghost use Rattle.walker.specs.Walked as walker;
 ghost use Rattle.session.specs.Session.{session};
 
@@ -50,6 +51,18 @@ pub extern "C" fn buraigue_check_tables(grammar: &[u8], book: &[u8], place: &mut
     ensures placed { λ r. ⌜ now (place .exit) ≡ set (now (place .entry)) 0 (placeOf (verdictOf (now (grammar .entry)) (now (book .entry)))) ⌝ }
 {
     let reply = checker::check_tables(grammar, book);
+    put_first(place, reply::place(reply));
+    reply::number(reply)
+}
+
+// Builds the table book of a grammar book, as builder::build_tables.
+#[no_mangle]
+pub extern "C" fn buraigue_build_tables(grammar: &[u8], book: &mut [u8], place: &mut [u64]) -> u64
+    ensures number { λ r. ⌜ r ≡ numberOf (buildOf (now (grammar .entry)) (length (now (book .entry))) .reply) ⌝ }
+    ensures placed { λ r. ⌜ now (place .exit) ≡ set (now (place .entry)) 0 (placeOf (buildOf (now (grammar .entry)) (length (now (book .entry))) .reply)) ⌝ }
+    ensures written { λ r. ⌜ now (book .exit) ≡ buildOf (now (grammar .entry)) (length (now (book .entry))) .slice ⌝ }
+{
+    let reply = builder::build_tables(grammar, book);
     put_first(place, reply::place(reply));
     reply::number(reply)
 }
