@@ -1,0 +1,180 @@
+-- What the builder promises of every grammar book. `buildOf` (Build.antt) is what `build_tables` answers, reply and slice, for all
+-- bytes; here is what it says of any book that is read as a grammar, for every length of the slice that is lent. Other books it
+-- refuses as `grammarOf` does.
+use Prim.Native.Nat.{ℕ, zero, suc, _-_, _≤_, _<_}
+use native.Mathlib.Omega.{arith}
+use mathlib.Core.Path.{_≡_, sym, ap, subst, _∙_}
+use mathlib.Core.Logic.{_⊎_, inl, inr}
+use mathlib.Core.List.{List, _++_}
+use mathlib.Core.Option.{some}
+use lib.ListN.{length, replicate}
+use Rattle.language.specs.Grammar.{Grammar}
+use Rattle.language.specs.Sentence.{In}
+use Rattle.language.specs.First.{First}
+use Rattle.leftcorner.specs.Table.{Action, Table, nextState}
+use Rattle.leftcorner.specs.Construction.{entryItem, EntryAt, KernelAt, ActionAt, MovedBy, Asked, LookaheadsMeet}
+use Rattle.leftcorner.specs.Claim.{_↔_}
+use Rattle.reply.specs.declared.Kind.the-variants.{LimitExceeded, Conflict, BufferTooSmall}
+use Rattle.reply.specs.declared.Reply.{Reply}
+use Rattle.reply.specs.declared.Reply.the-variants.{Accepted}
+use Rattle.verdict.specs.Verdict.{refused}
+use Rattle.analysis.specs.ByRules.{FirstByRules}
+use Rattle.analysis.specs.Decided.{first?}
+use Rattle.grammar.specs.Book.{Book, accepted, grammarOf}
+use Rattle.grammar.proofs.GrammarLaws.{Reduced, accepted-reduced}
+use Rattle.lalr.specs.States.{states}
+use Rattle.lalr.specs.Lookaheads.{Lookahead}
+use Rattle.lalr.specs.Text.{tableText}
+use Rattle.lalr.specs.BuiltForm.{states-both}
+use Rattle.lalr.specs.Conflicts as conflicts
+use Rattle.lalr.specs.BookLaws.{Within, limits}
+use Rattle.lalr.specs.Builder.{terminalCodes, first-in, builderTable, builderReply}
+use Rattle.checker.specs.Checked.{verdictOf}
+use Rattle.builder.specs.Build.{buildFrom, buildOf}
+use Rattle.builder.specs.Accepted.{writes-accepted}
+use Rattle.builder_promise.specs.PromiseLaws as laws
+use Rattle.builder_promise.specs.ReplyLaws as reply
+
+-- of the builder's table of a grammar
+module _ (g : Grammar) where
+  abbrev pub table : Table
+  table = builderTable g
+
+  abbrev pub text : List ℕ
+  text = tableText (builderTable g)
+
+  abbrev pub IsState : ℕ → Type 0
+  IsState q = (1 ≤ q) × (q ≤ builderTable g .states)
+
+  -- item i with dot k stands in the kernel set of state q
+  abbrev pub InKernel : ℕ → ℕ → ℕ → Type 0
+  InKernel q i k = (σ : List ℕ) × KernelAt g table q i k σ
+
+  -- the kernel set of state q is an entry's one item, or what moves past X from a state that is reached
+  pub data Reached : ℕ → Type 0 where
+    from-entry : {q : ℕ} (e : ℕ) {γ : List ℕ} → EntryAt g table e q γ → ((i k : ℕ) → InKernel q i k ↔ ((i ≡ entryItem g table e) × (k ≡ zero))) → Reached q
+    from-move : {p q X i k : ℕ} → Reached p → MovedBy g table p X i k → ((j n : ℕ) → InKernel q j n ↔ MovedBy g table p X j n) → Reached q
+
+  -- a table with these entries, kernel sets and moves, of whatever contexts
+  pub record HasStates (v : Table) : Type 0 where
+    pub entries : v .entries ≡ table .entries
+    pub kernels : (q i k : ℕ) → InKernel q i k → (τ : List ℕ) × KernelAt g v q i k τ
+    pub moves : (q X s : ℕ) (x : Action) → ActionAt g table q X x → nextState x ≡ some s → (y : Action) × ActionAt g v q X y × (nextState y ≡ some s)
+
+  -- "one cell would hold two different actions": the items of state q ask both of the cell for one symbol
+  pub record TwoActions (q : ℕ) : Type 0 where
+    pub symbol : ℕ
+    pub one : Action
+    pub other : Action
+    pub asked-one : Asked g table (First g) q symbol one
+    pub asked-other : Asked g table (First g) q symbol other
+    pub differ : one ≡ other → ⊥
+
+  abbrev pub LowestConflict : ℕ → Type 0
+  LowestConflict q = TwoActions q × ((p : ℕ) → p < q → TwoActions p → ⊥)
+
+  abbrev pub NoConflict : Type 0
+  NoConflict = (q : ℕ) → TwoActions q → ⊥
+
+  -- within the limits
+  pub record Construction : Type 0 where
+    -- "the contexts are the least that satisfy the inclusions of document 01": a code stands in a kernel line exactly where the inclusions
+    -- put it; so they are satisfied; and contexts of the same states that satisfy them hold these
+    pub contexts : (q i k d : ℕ) (σ : List ℕ) → KernelAt g table q i k σ → In d σ ↔ Lookahead g (First g) q i k d
+    pub inclusions : (q : ℕ) → LookaheadsMeet g table (First g) q
+    pub least : (v : Table) → HasStates v → ((q : ℕ) → LookaheadsMeet g v (First g) q) → (q i k d : ℕ) (σ τ : List ℕ)
+        → KernelAt g table q i k σ → KernelAt g v q i k τ → In d σ → In d τ
+    -- "every state's kernel set is reached"
+    pub reached : (q : ℕ) → IsState q → Reached q
+    -- "no two states have the same kernel set"
+    pub distinct : (p q : ℕ) → IsState p → IsState q → ((i k : ℕ) → InKernel p i k ↔ InKernel q i k) → p ≡ q
+
+pub record Promise (gs : List ℕ) (g : Grammar) : Type 0 where
+  -- where there are no more entries, states and kernel lines than a book may have
+  pub construction : Within g → Construction g
+  -- "it refuses 9 exactly where some cell of that construction would hold two different actions, at the lowest such state"
+  pub refuses-conflict : (room q : ℕ) → (buildOf gs room .reply ≡ refused Conflict q) ↔ (Within g × LowestConflict g q)
+  -- "a book that it writes is accepted": it is the table's, followed by zeros, and the checker replies 0 to it
+  pub book-written : (room : ℕ) → buildOf gs room .reply ≡ Accepted 0 → buildOf gs room .slice ≡ text g ++ replicate (room - length (text g)) 0
+  pub book-accepted : (room : ℕ) → buildOf gs room .reply ≡ Accepted 0 → verdictOf gs (text g) ≡ Accepted 0
+  -- "within the limits it refuses nothing else"
+  pub writes : (room : ℕ) → (buildOf gs room .reply ≡ Accepted 0) ↔ (Within g × NoConflict g × (length (text g) ≤ 65536) × (length (text g) ≤ room))
+  -- 2: more entries, states or kernel lines than a book may have, or, with no conflict, more bytes
+  pub refuses-many : (room : ℕ) → (buildOf gs room .reply ≡ refused LimitExceeded 0) ↔ ((Within g → ⊥) ⊎ (Within g × NoConflict g × (65536 < length (text g))))
+  -- 11: all is well but the room that is lent
+  pub refuses-short : (room : ℕ)
+      → (buildOf gs room .reply ≡ refused BufferTooSmall 0) ↔ (Within g × NoConflict g × (length (text g) ≤ 65536) × (room < length (text g)))
+
+-- ---- the proof
+
+module _ (g : Grammar) (R : Reduced g) where
+  -- two actions asked with first by rules are two actions asked with `First`
+  two-actions : (q : ℕ) → conflicts.TwoActions g (FirstByRules g) (first? g) (terminalCodes g) (first-in g) q ↔ TwoActions g q
+  unfolding builderTable
+  two-actions q = record {
+    to = λ w. record {
+      symbol = w .symbol;
+      one = w .one;
+      other = w .other;
+      asked-one = laws.asked-same g R .to (w .asked-one);
+      asked-other = laws.asked-same g R .to (w .asked-other);
+      differ = w .differ;
+    };
+    from = λ w. record {
+      symbol = w .symbol;
+      one = w .one;
+      other = w .other;
+      asked-one = laws.asked-same g R .from (w .asked-one);
+      asked-other = laws.asked-same g R .from (w .asked-other);
+      differ = w .differ;
+    };
+  }
+
+  as-many : builderTable g .states ≡ length (states g)
+  unfolding builderTable
+  as-many = states-both g (FirstByRules g) (first? g) (terminalCodes g) (first-in g)
+
+  all-reached : Within g → (n q : ℕ) → q ≤ n → IsState g q → Reached g q
+  unfolding builderTable
+  all-reached w zero q l s = absurd (omega (arith, l, s .0))
+  all-reached w (suc n) q l s = go (laws.origin g R (limits g (R .formed) w) q (s .0) (omega (arith, s .1, as-many))) (all-reached w n)
+    where
+      go : ((γ : List ℕ) × EntryAt g (builderTable g) q q γ) ⊎ laws.MovedFrom g R (limits g (R .formed) w) q → ((p : ℕ) → p ≤ n → IsState g p → Reached g p) → Reached g q
+      go (inl e) rec = from-entry q (e .1) (laws.entry-items g R (limits g (R .formed) w) q (e .0) (e .1))
+      go (inr m) rec = from-move (rec (m .from) (omega (arith, m .earlier, l)) (m .low, omega (arith, m .earlier, s .1))) (m .moves) (m .kernel)
+
+  constructed : Within g → Construction g
+  unfolding builderTable
+  constructed w =
+      let L = limits g (R .formed) w in
+      record {
+        contexts = laws.contexts g R L;
+        inclusions = laws.inclusions g R L;
+        least = λ v h. laws.least g R L v (h .entries) (λ q i k σ m. h .kernels q i k (σ, m)) (h .moves);
+        reached = λ q s. all-reached w q q (omega arith) s;
+        distinct = λ p q l m. laws.one-state g R p q (l .0) (omega (arith, l .1, as-many)) (m .0) (omega (arith, m .1, as-many));
+      }
+
+pub builder-promise : (gs : List ℕ) (g : Grammar) → grammarOf gs ≡ accepted g → Promise gs g
+unfolding buildOf
+builder-promise gs g e = record {
+  construction = constructed g R;
+  refuses-conflict = λ room q. told room (reply.refuses-conflict g (R .formed) (TwoActions g) (two-actions g R) room q);
+  book-written = λ room h. let w = writes-accepted gs room h in
+      subst (λ (k : Grammar). buildOf gs room .slice ≡ text k ++ replicate (room - length (text k)) 0) (one (w .grammar) (w .book-is)) (w .slice-is);
+  book-accepted = λ room h. let w = writes-accepted gs room h in subst (λ (k : Grammar). verdictOf gs (text k) ≡ Accepted 0) (one (w .grammar) (w .book-is)) (w .accepted-book);
+  writes = λ room. told room (reply.writes g (R .formed) (TwoActions g) (two-actions g R) room);
+  refuses-many = λ room. told room (reply.refuses-many g (R .formed) (TwoActions g) (two-actions g R) room);
+  refuses-short = λ room. told room (reply.refuses-short g (R .formed) (TwoActions g) (two-actions g R) room);
+}
+  where
+    R : Reduced g
+    R = accepted-reduced gs g e
+
+    one : (k : Grammar) → grammarOf gs ≡ accepted k → k ≡ g
+    one k f = cc
+
+    told : (room : ℕ) {r : Reply} {A : Type 0} → (builderReply g room ≡ r) ↔ A → (buildOf gs room .reply ≡ r) ↔ A
+    told room h =
+        let z = ap (λ (b : Book). buildFrom room b .reply) e in
+        record { to = λ x. h .to (sym z ∙ x); from = λ a. z ∙ h .from a }
