@@ -1,4 +1,4 @@
--- What the builder promises of every grammar book. `buildOf` (Build.antt) is what `build_tables` answers, reply and slice, for all
+-- What the builder promises of every grammar book. `buildOf` (builder/specs/Build.antt) is what `build_tables` answers, reply and slice, for all
 -- bytes; here is what it says of any book that is read as a grammar, for every length of the slice that is lent. Other books it
 -- refuses as `grammarOf` does.
 use Prim.Native.Nat.{ℕ, zero, suc, _-_, _≤_, _<_}
@@ -35,16 +35,17 @@ use Rattle.builder.specs.Accepted.{writes-accepted}
 use Rattle.builder_promise.specs.PromiseLaws as laws
 use Rattle.builder_promise.specs.ReplyLaws as reply
 
--- of the builder's table of a grammar
 module _ (g : Grammar) where
+  -- the builder's table: what its cells are asked shows in entries and kernel lines already, where there is a conflict too
   abbrev pub table : Table
   table = builderTable g
 
+  -- and its book
   abbrev pub text : List ℕ
-  text = tableText (builderTable g)
+  text = tableText table
 
   abbrev pub IsState : ℕ → Type 0
-  IsState q = (1 ≤ q) × (q ≤ builderTable g .states)
+  IsState q = (1 ≤ q) × (q ≤ table .states)
 
   -- item i with dot k stands in the kernel set of state q
   abbrev pub InKernel : ℕ → ℕ → ℕ → Type 0
@@ -76,12 +77,14 @@ module _ (g : Grammar) where
   abbrev pub NoConflict : Type 0
   NoConflict = (q : ℕ) → TwoActions q → ⊥
 
-  -- within the limits
+  -- what is promised of the table
   pub record Construction : Type 0 where
-    -- "the contexts are the least that satisfy the inclusions of document 01": a code stands in a kernel line exactly where the inclusions
-    -- put it; so they are satisfied; and contexts of the same states that satisfy them hold these
+    -- "the contexts are the least that satisfy the inclusions of document 01": a code stands in a kernel line exactly where the
+    -- inclusions put it (`Lookahead`, an inductive family),
     pub contexts : (q i k d : ℕ) (σ : List ℕ) → KernelAt g table q i k σ → In d σ ↔ Lookahead g (First g) q i k d
+    -- they satisfy the inclusions,
     pub inclusions : (q : ℕ) → LookaheadsMeet g table (First g) q
+    -- and whatever contexts of the same states do hold these
     pub least : (v : Table) → HasStates v → ((q : ℕ) → LookaheadsMeet g v (First g) q) → (q i k d : ℕ) (σ τ : List ℕ)
         → KernelAt g table q i k σ → KernelAt g v q i k τ → In d σ → In d τ
     -- "every state's kernel set is reached"
@@ -90,14 +93,15 @@ module _ (g : Grammar) where
     pub distinct : (p q : ℕ) → IsState p → IsState q → ((i k : ℕ) → InKernel p i k ↔ InKernel q i k) → p ≡ q
 
 pub record Promise (gs : List ℕ) (g : Grammar) : Type 0 where
-  -- where there are no more entries, states and kernel lines than a book may have
+  -- where there are no more entries, states and kernel lines than a book may have (`Within`)
   pub construction : Within g → Construction g
   -- "it refuses 9 exactly where some cell of that construction would hold two different actions, at the lowest such state"
   pub refuses-conflict : (room q : ℕ) → (buildOf gs room .reply ≡ refused Conflict q) ↔ (Within g × LowestConflict g q)
-  -- "a book that it writes is accepted": it is the table's, followed by zeros, and the checker replies 0 to it
+  -- "a book that it writes": the table's, followed by zeros
   pub book-written : (room : ℕ) → buildOf gs room .reply ≡ Accepted 0 → buildOf gs room .slice ≡ text g ++ replicate (room - length (text g)) 0
+  -- "is accepted": the checker replies 0 to it
   pub book-accepted : (room : ℕ) → buildOf gs room .reply ≡ Accepted 0 → verdictOf gs (text g) ≡ Accepted 0
-  -- "within the limits it refuses nothing else"
+  -- "within the limits it refuses nothing else", where the book fits what is lent
   pub writes : (room : ℕ) → (buildOf gs room .reply ≡ Accepted 0) ↔ (Within g × NoConflict g × (length (text g) ≤ 65536) × (length (text g) ≤ room))
   -- 2: more entries, states or kernel lines than a book may have, or, with no conflict, more bytes
   pub refuses-many : (room : ℕ) → (buildOf gs room .reply ≡ refused LimitExceeded 0) ↔ ((Within g → ⊥) ⊎ (Within g × NoConflict g × (65536 < length (text g))))
