@@ -1,3 +1,4 @@
 pub mod RowLaws
 pub mod TransferLaws
-pub mod RestLaws
+pub mod AddLaws
+pub mod FirstLaws

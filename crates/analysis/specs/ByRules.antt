@@ -114,6 +114,14 @@ module _ (g : Grammar) where
           let F = starts-forest g (right r) c (rich i r e) (place-starts (Nullable g) (λ x. Begins g x c) (right r) k (ok .0) (ok .1) b) in
           record { tree = node i (F .0); derives = (r, e, refl, F .2); remainder = F .1; begins = F .3 }
 
+  pub begins-terminal : {X c : ℕ} → BeginsByRules X c → IsTerminal g c
+  begins-terminal {c = c} h = least-every (starting g (Nullable g)) (λ x. IsTerminal g c) (λ y s. s .1) (λ o ok ns. ns _ refl) h
+
+  pub starts-terminal : (β : List ℕ) (c : ℕ) → Starts (Nullable g) (λ X. BeginsByRules X c) β → IsTerminal g c
+  starts-terminal [] c h = absurd h
+  starts-terminal (X ∷ β) c (inl h) = begins-terminal h
+  starts-terminal (X ∷ β) c (inr h) = starts-terminal β c (h .1)
+
   -- first(β, {d}) by rules, and by forests
   abbrev pub FirstByRules : List ℕ → ℕ → ℕ → Type 0
   FirstByRules β d c = Starts (Nullable g) (λ X. BeginsByRules X c) β ⊎ (AllIn (Nullable g) β × (c ≡ d))

@@ -48,22 +48,3 @@ Diagonal t x c = (x ≡ c) × (1 ≤ c) × (c ≤ t)
 pub record SetsOf (g : Grammar) (nullable first : List ℕ) : Type 0 where
   pub nullable-marks : Marks (Nullable g) nullable
   pub first-marks : Marks (Row (BeginsByRules g)) first
-
--- item i's symbols from k on are all in N
-abbrev pub RestNullable : List ℕ → (ℕ → Type 0) → ℕ → ℕ → Type 0
-RestNullable m N i k = (j : ℕ) → k ≤ j → j < lengthAt m i → N (symbolAt m i j)
-
--- one of item i's symbols from k on is in F, and those between are in N
-pub record RestBegins (m : List ℕ) (N F : ℕ → Type 0) (i k : ℕ) : Type 0 where
-  pub place : ℕ
-  pub from : k ≤ place
-  pub within : place < lengthAt m i
-  pub run : (j : ℕ) → k ≤ j → j < place → N (symbolAt m i j)
-  pub begins : F (symbolAt m i place)
-
--- of each item: whether its rest from a dot on is nullable, and what begins it
-abbrev pub EmptyRest : List ℕ → (ℕ → Type 0) → ℕ → ℕ → ℕ → Type 0
-EmptyRest m N items k i = IsRule items i × RestNullable m N i k
-
-abbrev pub RestFirst : List ℕ → (ℕ → Type 0) → (ℕ → ℕ → Type 0) → ℕ → ℕ → ℕ → ℕ → Type 0
-RestFirst m N F items k i c = IsRule items i × RestBegins m N (λ (x : ℕ). F x c) i k

@@ -1,3 +1,6 @@
 pub mod ByRules
 pub mod Decided
 pub mod InMemory
+pub mod FirstBy
+pub mod Rests
+pub mod Adds

@@ -1,13 +1,15 @@
-// Nullable symbols and first sets of a grammar in memory.
+// Nullable symbols and first sets of a grammar in memory, and first of the rest of an item.
 ghost use mathlib.Core.Path.{_≡_};
-ghost use Prim.Native.Nat.{ℕ, _<_, _≤_};
+ghost use Prim.Native.Nat.{_+_, _<_, _≤_};
 ghost use lib.ListN.{length, replicate};
 ghost use Rattle.language.specs.Grammar.{Grammar};
 ghost use Rattle.items.specs.Layout.{Shaped, Holds};
 ghost use Rattle.fixpoint.specs.Flags.{On, Marks, Decides};
 ghost use Rattle.fixpoint.specs.Pass.{Pass};
 ghost use Rattle.fixpoint.specs.Rows.{Row};
-ghost use Rattle.analysis.specs.InMemory.{Has, FirstFrom, Copied, Includes, RuleMet, Diagonal, SetsOf, RestNullable, RestBegins, EmptyRest, RestFirst};
+ghost use Rattle.analysis.specs.Rests.{restAt};
+ghost use Rattle.analysis.specs.Adds.{Adds, InRow, AnyIn, RestFirst};
+ghost use Rattle.analysis.specs.InMemory.{Has, FirstFrom, Copied, Includes, RuleMet, Diagonal, SetsOf};
 
 // Sets in row `to` what is set in row `from`; answers how many flags that were.
 fn merge_row(flags: &mut [u8], from: usize, to: usize) -> usize
@@ -95,95 +97,63 @@ pub fn find_sets(m: &[u8], terminals: usize, rules: usize, nullable: &mut [u8], 
     close_first(m, rules, nullable, first);
 }
 
-// Whether the symbols of item i from k on are all nullable.
-pub fn rest_nullable(m: &[u8], items: usize, i: usize, k: usize, nullable: &[u8]) -> bool
+// Whether a row of flags has one that is set.
+pub fn any_code(from: &[u8], start: usize, codes: usize) -> bool
+    requires { ⌜ start + codes ≤ length (now from) ⌝ }
+    ensures { λ b. ⌜ Decides (AnyIn (now (from .entry)) start codes) b ⌝ }
+{
+    let mut c = 0;
+    while c < codes {
+        if from[start + c] != 0 {
+            return true;
+        }
+        c += 1;
+    }
+    false
+}
+
+// Sets in one row of flags those that are set in another.
+pub fn add_codes(from: &[u8], start: usize, codes: usize, flags: &mut [u8], at: usize)
+    requires { ⌜ start + codes ≤ length (now from) ⌝ }
+    requires { ⌜ at + codes ≤ length (now flags) ⌝ }
+    ensures { λ _. ⌜ Adds (InRow (now (from .entry)) start codes at) (now (flags .entry)) (now (flags .exit)) ⌝ }
+{
+    let mut c = 0;
+    while c < codes {
+        if from[start + c] != 0 {
+            flags[at + c] = 1;
+        }
+        c += 1;
+    }
+}
+
+// Sets the flags of the codes that can begin the rest of item i from dot k on, and tells whether that can be empty.
+pub fn rest_first(
+    m: &[u8],
+    items: usize,
+    i: usize,
+    k: usize,
+    codes: usize,
+    nul: &[u8],
+    fst: &[u8],
+    flags: &mut [u8],
+    at: usize,
+) -> bool
     requires { ⌜ Shaped (now m) items ⌝ }
-    requires { ⌜ i ≤ items ⌝ }
-    requires { ⌜ length (now nullable) ≡ 128 ⌝ }
-    ensures { λ b. ⌜ Decides (RestNullable (now (m .entry)) (On (now (nullable .entry))) i k) b ⌝ }
+    requires { ⌜ (i ≤ items) × (codes ≤ 64) ⌝ }
+    requires { ⌜ (length (now nul) ≡ 128) × (length (now fst) ≡ 8192) ⌝ }
+    requires { ⌜ at + codes ≤ length (now flags) ⌝ }
+    ensures { λ b. ⌜ RestFirst codes (now (nul .entry)) (now (fst .entry)) (restAt (now (m .entry)) i k) at (now (flags .entry)) (now (flags .exit)) b ⌝ }
 {
     let n = items::length_of(m, items, i);
     let mut j = k;
     while j < n {
         let x = items::symbol_of(m, items, i, j);
-        if nullable[x] == 0 {
+        add_codes(fst, x * 64, codes, flags, at);
+        if nul[x] == 0 {
             return false;
         }
         j += 1;
     }
     true
-}
-
-// Whether c begins what the symbols of item i from k on derive.
-pub fn rest_begins(
-    m: &[u8],
-    items: usize,
-    i: usize,
-    k: usize,
-    c: usize,
-    nullable: &[u8],
-    first: &[u8],
-) -> bool
-    requires { ⌜ Shaped (now m) items ⌝ }
-    requires { ⌜ i ≤ items ⌝ }
-    requires { ⌜ c < 64 ⌝ }
-    requires { ⌜ (length (now nullable) ≡ 128) × (length (now first) ≡ 8192) ⌝ }
-    ensures { λ b. ⌜ Decides (RestBegins (now (m .entry)) (On (now (nullable .entry))) (λ (x : ℕ). Has (now (first .entry)) x c) i k) b ⌝ }
-{
-    let n = items::length_of(m, items, i);
-    let mut j = k;
-    while j < n {
-        let x = items::symbol_of(m, items, i, j);
-        if first[x * 64 + c] != 0 {
-            return true;
-        }
-        if nullable[x] == 0 {
-            return false;
-        }
-        j += 1;
-    }
-    false
-}
-
-// Flags each item whose symbols from k on are all nullable.
-pub fn find_empty_rests(m: &[u8], items: usize, k: usize, nullable: &[u8], rests: &mut [u8])
-    requires { ⌜ Shaped (now m) items ⌝ }
-    requires { ⌜ items < 256 ⌝ }
-    requires { ⌜ (length (now nullable) ≡ 128) × (now rests ≡ replicate 256 0) ⌝ }
-    ensures { λ _. ⌜ Marks (EmptyRest (now (m .entry)) (On (now (nullable .entry))) items k) (now (rests .exit)) ⌝ }
-{
-    let mut i = 1;
-    while i <= items {
-        if rest_nullable(m, items, i, k, nullable) {
-            rests[i] = 1;
-        }
-        i += 1;
-    }
-}
-
-// Sets in each item's row the codes that begin what its symbols from k on derive.
-pub fn find_rest_firsts(
-    m: &[u8],
-    items: usize,
-    k: usize,
-    nullable: &[u8],
-    first: &[u8],
-    rests: &mut [u8],
-)
-    requires { ⌜ Shaped (now m) items ⌝ }
-    requires { ⌜ items < 256 ⌝ }
-    requires { ⌜ (length (now nullable) ≡ 128) × (length (now first) ≡ 8192) × (now rests ≡ replicate 16384 0) ⌝ }
-    ensures { λ _. ⌜ Marks (Row (RestFirst (now (m .entry)) (On (now (nullable .entry))) (Has (now (first .entry))) items k)) (now (rests .exit)) ⌝ }
-{
-    let mut i = 1;
-    'items: while i <= items {
-        let mut c = 0;
-        'codes: while c < 64 {
-            if rest_begins(m, items, i, k, c, nullable, first) {
-                rests[i * 64 + c] = 1;
-            }
-            c += 1;
-        }
-        i += 1;
-    }
 }

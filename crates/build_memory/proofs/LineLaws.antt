@@ -13,7 +13,7 @@ use Rattle.analysis.specs.ByRules.{FirstByRules}
 use Rattle.analysis.specs.Decided.{first?}
 use Rattle.analysis.specs.InMemory.{SetsOf}
 use Rattle.memory.specs.Memory.{HoldsKernels, stateAt, itemAt, dotAt}
-use Rattle.closure.specs.FirstBy.{FirstBy}
+use Rattle.analysis.specs.FirstBy.{FirstBy}
 use Rattle.lalr.specs.Strings.{entryStrings, entryLines}
 use Rattle.lalr.specs.Lookaheads.{Lookahead, look-over}
 use Rattle.lalr.specs.Distinct.{at-in}
@@ -22,7 +22,7 @@ use Rattle.lalr.specs.Carried.{look-low}
 use Rattle.lalr.specs.ItemForm.{items-lines}
 use Rattle.lalr.specs.Builder.{terminalCodes, first-in, codes-low}
 use Rattle.state_kernels.specs.ItemLines.{item-line}
-use Rattle.judge.proofs.FirstLaws.{first-flags}
+use Rattle.analysis.proofs.FirstLaws.{first-flags}
 use Rattle.least_lookaheads.specs.StatesHeld.{HoldsLookaheads}
 use Rattle.table_cells.specs.Cells.{itemsOf, HoldsMoves, HoldsLines, Filled}
 use Rattle.build_memory.specs.Stages.{Stated, Numbered, Settled}

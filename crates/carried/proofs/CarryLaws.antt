@@ -15,7 +15,7 @@ use Rattle.items.specs.Layout.{leftAt}
 use Rattle.fixpoint.specs.Flags.{On}
 use Rattle.memory.specs.Memory.{itemAt, dotAt}
 use Rattle.memory.specs.Held.{Held}
-use Rattle.closure.specs.FirstBy.{FirstBy, first-low}
+use Rattle.analysis.specs.FirstBy.{FirstBy, first-low}
 use Rattle.closure.specs.Expansion.{Follows, CarriesBy, of-kernel, of-rule, carries-by, by-carries, HoldsClosure}
 use Rattle.closure.specs.InMemory.{DeclaredItem, InMemory}
 use Rattle.closure.proofs.ItemLaws.{line-of, line-at}

@@ -6,10 +6,10 @@ use mathlib.Core.Bool.{Bool, true, false, false≢true}
 use mathlib.Core.List.{List}
 use native.Mathlib.Omega.{arith}
 use Rattle.fixpoint.specs.Flags.{On}
-use Rattle.closure.specs.FirstBy.{FirstBy, BeginsAt}
-use Rattle.closure.specs.Rests.{restAt}
-use Rattle.closure.specs.Adds.{Adds, InRow, AnyIn, RestFirst}
-use Rattle.closure.proofs.AddLaws.{adds-none}
+use Rattle.analysis.specs.FirstBy.{FirstBy, BeginsAt}
+use Rattle.analysis.specs.Rests.{restAt}
+use Rattle.analysis.specs.Adds.{Adds, InRow, AnyIn, RestFirst}
+use Rattle.analysis.proofs.AddLaws.{adds-none}
 use Rattle.carried.specs.Rows.{FirstsAt}
 
 -- a row from 0 on

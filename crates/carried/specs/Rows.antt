@@ -6,8 +6,8 @@ use lib.ListN.{length}
 use Rattle.items.specs.Layout.{Shaped, leftAt}
 use Rattle.fixpoint.specs.Flags.{On}
 use Rattle.memory.specs.Memory.{stateAt, itemAt, dotAt}
-use Rattle.closure.specs.FirstBy.{FirstBy}
-use Rattle.closure.specs.Rests.{restAt}
+use Rattle.analysis.specs.FirstBy.{FirstBy}
+use Rattle.analysis.specs.Rests.{restAt}
 use Rattle.moves.specs.Moves.{Present}
 
 -- what the code needs of memory to find first sets, whatever it holds

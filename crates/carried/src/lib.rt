@@ -2,7 +2,7 @@
 ghost use mathlib.Core.Path.{_≡_};
 ghost use Prim.Native.Nat.{_+_, _≤_};
 ghost use lib.ListN.{length};
-ghost use Rattle.closure.specs.Adds.{Adds};
+ghost use Rattle.analysis.specs.Adds.{Adds};
 ghost use Rattle.carried.specs.Rows.{FirstsAt, Ready};
 
 // Sets the flags of first(β, σ): β stands behind item i's dot k, the flags of σ from `start` on.
@@ -22,11 +22,11 @@ pub fn item_first(
     requires { ⌜ (i ≤ count) × (start + 64 ≤ length (now from)) × (length (now row) ≡ 64) ⌝ }
     ensures { λ _. ⌜ Adds (FirstsAt (now (items .entry)) codes (now (nul .entry)) (now (fst .entry)) (now (from .entry)) start i k) (now (row .entry)) (now (row .exit)) ⌝ }
 {
-    if !closure::any_code(from, start, codes) {
+    if !analysis::any_code(from, start, codes) {
         return;
     }
-    if !closure::rest_first(items, count, i, k, codes, nul, fst, row, 0) {
+    if !analysis::rest_first(items, count, i, k, codes, nul, fst, row, 0) {
         return;
     }
-    closure::add_codes(from, start, codes, row, 0);
+    analysis::add_codes(from, start, codes, row, 0);
 }

@@ -13,8 +13,8 @@ use Rattle.items.specs.Layout.{leftAt, lengthAt, markAt}
 use Rattle.fixpoint.specs.Flags.{On, Off}
 use Rattle.fixpoint.proofs.PassLaws.{all-off, off-at, no-gap}
 use Rattle.memory.specs.Memory.{stateAt, itemAt, dotAt}
-use Rattle.closure.specs.FirstBy.{first-low}
-use Rattle.closure.specs.Adds.{Adds}
+use Rattle.analysis.specs.FirstBy.{first-low}
+use Rattle.analysis.specs.Adds.{Adds}
 use Rattle.carried.specs.Rows.{FirstsAt}
 use Rattle.carried.proofs.FirstLaws.{at-zero}
 use Rattle.cells.specs.Demands.{Demand, Asking, Clash, Asks, Wants, CodeAsks, ItemAsks, announces, pops, LinesAsk, RuleAsks}

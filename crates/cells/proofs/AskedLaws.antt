@@ -23,8 +23,8 @@ use Rattle.fixpoint.specs.Flags.{On, Decides}
 use Rattle.fixpoint.proofs.PassLaws.{set-on, none-on, is-yes, is-no}
 use Rattle.memory.specs.Memory.{stateAt, itemAt, dotAt, popValue}
 use Rattle.memory.specs.Held.{Held}
-use Rattle.closure.specs.FirstBy.{FirstBy, first-low}
-use Rattle.closure.specs.Rests.{restAt}
+use Rattle.analysis.specs.FirstBy.{FirstBy, first-low}
+use Rattle.analysis.specs.Rests.{restAt}
 use Rattle.closure.specs.Expansion.{HasBy, of-kernel, of-rule, has-by, HoldsClosure}
 use Rattle.closure.specs.InMemory.{DeclaredItem}
 use Rattle.closure.proofs.ItemLaws.{item-held, line-at}

@@ -19,7 +19,7 @@ use Rattle.fixpoint.specs.Flags.{On}
 use Rattle.fixpoint.proofs.PassLaws.{set-on}
 use Rattle.memory.specs.Memory.{kindOf, valueOf, popValue}
 use Rattle.memory.specs.Held.{Held}
-use Rattle.closure.specs.FirstBy.{FirstBy}
+use Rattle.analysis.specs.FirstBy.{FirstBy}
 use Rattle.moves.specs.Moves.{nextAt}
 use Rattle.moves.specs.Flags.{HoldsMoves}
 use Rattle.moves.proofs.MoveLaws.{next-goto}

@@ -10,7 +10,7 @@ ghost use Rattle.leftcorner.specs.Construction.{CellsAgree, CellsMeet};
 ghost use Rattle.items.specs.Layout.{leftAt};
 ghost use Rattle.fixpoint.specs.Flags.{On, Decides};
 ghost use Rattle.memory.specs.Held.{Held};
-ghost use Rattle.closure.specs.FirstBy.{FirstBy};
+ghost use Rattle.analysis.specs.FirstBy.{FirstBy};
 ghost use Rattle.closure.specs.Expansion.{HoldsClosure};
 ghost use Rattle.moves.specs.Moves.{Lined, Readable, Cells};
 ghost use Rattle.moves.specs.Flags.{HoldsMoves};

@@ -12,7 +12,7 @@ use Rattle.leftcorner.specs.Construction.{KernelAt, Has, in-kernel, in-closure}
 use Rattle.items.specs.Layout.{leftAt}
 use Rattle.fixpoint.specs.Least.{Least, seed, by, Met, least-every}
 use Rattle.closure.specs.Expansion.{Expanded}
-use Rattle.closure.specs.Rests.{restAt}
+use Rattle.analysis.specs.Rests.{restAt}
 use Rattle.closure.specs.Kernel.{BeforeNonterminal}
 use Rattle.closure.specs.Steps.{Expansion, expansions}
 use Rattle.closure.proofs.ItemLaws.{ItemHeld, goes-before, before-goes}

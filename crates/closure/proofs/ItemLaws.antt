@@ -17,7 +17,7 @@ use Rattle.leftcorner.specs.Construction.{entryItem, EntryAt, KernelAt}
 use Rattle.leftcorner.specs.Sources.{symbols-rule, point-rule, symbols-entry, point-entry}
 use Rattle.items.specs.Layout.{lengthAt, markAt, symbolAt, RuleIn, EntryIn}
 use Rattle.memory.specs.Memory.{HoldsItems, HoldsKernels}
-use Rattle.closure.specs.Rests.{Before, restAt, rest-none, rest-more}
+use Rattle.analysis.specs.Rests.{Before, restAt, rest-none, rest-more}
 use Rattle.closure.specs.InMemory.{DeclaredItem, LineIs}
 
 -- ---- a row's symbols as a string

@@ -10,11 +10,11 @@ use lib.ListN.{length, set}
 use Rattle.items.specs.Layout.{symbolAt}
 use Rattle.memory.specs.Memory.{stateAt, itemAt, dotAt}
 use Rattle.fixpoint.specs.Flags.{On}
-use Rattle.closure.specs.FirstBy.{BeginsAt}
-use Rattle.closure.specs.Rests.{Before, restAt}
-use Rattle.closure.specs.Adds.{Adds, InRow, AnyIn, RestFirst}
+use Rattle.analysis.specs.FirstBy.{BeginsAt}
+use Rattle.analysis.specs.Rests.{Before, restAt}
+use Rattle.analysis.specs.Adds.{Adds, InRow, AnyIn, RestFirst}
 use Rattle.closure.specs.Kernel.{BeforeNonterminal, FollowsNonterminal, OfLine, LineBefore, LineFollows}
-use Rattle.closure.proofs.AddLaws.{adds-none, adds-map, adds-then, adds-one}
+use Rattle.analysis.proofs.AddLaws.{adds-none, adds-map, adds-then, adds-one}
 
 -- ---- one line: item i with dot k
 

@@ -1,4 +1,3 @@
-pub mod AddLaws
 pub mod PrepareLaws
 pub mod KernelLaws
 pub mod StepLaws

@@ -9,11 +9,11 @@ use mathlib.Core.List.{List}
 use lib.ListN.{length, set, replicate}
 use Rattle.fixpoint.specs.Flags.{On}
 use Rattle.fixpoint.proofs.PassLaws.{all-off, no-gap}
-use Rattle.closure.specs.FirstBy.{FirstBy, BeginsAt}
-use Rattle.closure.specs.Rests.{restAt}
-use Rattle.closure.specs.Adds.{Adds, RestFirst}
+use Rattle.analysis.specs.FirstBy.{FirstBy, BeginsAt}
+use Rattle.analysis.specs.Rests.{restAt}
+use Rattle.analysis.specs.Adds.{Adds, RestFirst}
 use Rattle.closure.specs.Prepared.{Prepared}
-use Rattle.closure.proofs.AddLaws.{adds-none, adds-map, adds-one}
+use Rattle.analysis.proofs.AddLaws.{adds-none, adds-map, adds-one}
 
 -- where the rest of rule i can be empty its flag is set
 pub through-set : {through through′ : List ℕ} {b : Bool} (i : ℕ) → b ≡ true → through′ ≡ set through i 1 → i < length through

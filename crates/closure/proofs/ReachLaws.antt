@@ -16,9 +16,9 @@ use Rattle.fixpoint.specs.Flags.{On, Marks}
 use Rattle.fixpoint.specs.Least.{Clauses, Least, seed, by, Met, least-every, least-join}
 use Rattle.fixpoint.proofs.PassLaws.{all-off}
 use Rattle.closure.specs.Expansion.{Follows, HoldsClosure}
-use Rattle.closure.specs.FirstBy.{FirstBy, first-low}
-use Rattle.closure.specs.Rests.{restAt}
-use Rattle.closure.specs.Adds.{Adds}
+use Rattle.analysis.specs.FirstBy.{FirstBy, first-low}
+use Rattle.analysis.specs.Rests.{restAt}
+use Rattle.analysis.specs.Adds.{Adds}
 use Rattle.closure.specs.Prepared.{Prepared}
 use Rattle.closure.specs.Kernel.{BeforeNonterminal, FollowsNonterminal, KernelBefore, KernelFollows}
 use Rattle.closure.specs.Steps.{expansions, Gives, Following, followings, Covered}

@@ -7,7 +7,7 @@ use mathlib.Core.List.{List}
 use Rattle.items.specs.Layout.{leftAt}
 use Rattle.fixpoint.specs.Flags.{On}
 use Rattle.fixpoint.specs.Least.{Least, by, Met, least-every}
-use Rattle.closure.specs.Adds.{AnyIn}
+use Rattle.analysis.specs.Adds.{AnyIn}
 use Rattle.closure.specs.Kernel.{BeforeNonterminal}
 use Rattle.closure.specs.Steps.{Expands, Expansion, expansions, Gives, Following, followings, LeftIn, FirstIs, Fires, Covered}
 

@@ -5,8 +5,8 @@ use mathlib.Core.List.{List}
 use Rattle.items.specs.Layout.{symbolAt}
 use Rattle.memory.specs.Memory.{stateAt, itemAt, dotAt}
 use Rattle.fixpoint.specs.Flags.{On}
-use Rattle.closure.specs.FirstBy.{FirstBy}
-use Rattle.closure.specs.Rests.{Before, restAt}
+use Rattle.analysis.specs.FirstBy.{FirstBy}
+use Rattle.analysis.specs.Rests.{Before, restAt}
 
 -- item i's dot k stands before nonterminal 64 + b, and not at its recognition point
 pub record BeforeNonterminal (m : List ℕ) (i k b : ℕ) : Type 0 where

@@ -4,8 +4,8 @@ use mathlib.Core.Path.{_≡_}
 use mathlib.Core.Logic.{_⊎_}
 use mathlib.Core.List.{List}
 use Rattle.fixpoint.specs.Flags.{On}
-use Rattle.closure.specs.FirstBy.{FirstBy}
-use Rattle.closure.specs.Rests.{restAt}
+use Rattle.analysis.specs.FirstBy.{FirstBy}
+use Rattle.analysis.specs.Rests.{restAt}
 
 -- for the rules below `limit`: `starts` has 64 flags for each, those of the codes that can begin what follows its first symbol; `through` one, set
 -- where that can be empty

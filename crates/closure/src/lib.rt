@@ -8,10 +8,10 @@ ghost use Rattle.fixpoint.specs.Least.{Least};
 ghost use Rattle.language.specs.Grammar.{Grammar};
 ghost use Rattle.leftcorner.specs.Table.{Table};
 ghost use Rattle.closure.specs.Expansion.{HoldsClosure};
-ghost use Rattle.closure.specs.FirstBy.{FirstBy};
+ghost use Rattle.analysis.specs.FirstBy.{FirstBy};
 ghost use Rattle.closure.specs.InMemory.{InMemory};
-ghost use Rattle.closure.specs.Rests.{Before, restAt};
-ghost use Rattle.closure.specs.Adds.{Adds, InRow, AnyIn, RestFirst};
+ghost use Rattle.analysis.specs.Rests.{Before};
+ghost use Rattle.analysis.specs.Adds.{Adds};
 ghost use Rattle.closure.specs.Prepared.{Prepared};
 ghost use Rattle.closure.specs.Kernel.{BeforeNonterminal, FollowsNonterminal, KernelBefore, KernelFollows};
 ghost use Rattle.closure.specs.Steps.{expansions, followings, LeftIn, FirstIs, Fires, Covered};
@@ -28,67 +28,6 @@ pub fn stands_before(m: &[u8], items: usize, i: usize, k: usize) -> bool
     }
     if items::mark_of(m, items, i) == k {
         return false;
-    }
-    true
-}
-
-// Whether a row of flags has one that is set.
-pub fn any_code(from: &[u8], start: usize, codes: usize) -> bool
-    requires { ⌜ start + codes ≤ length (now from) ⌝ }
-    ensures { λ b. ⌜ Decides (AnyIn (now (from .entry)) start codes) b ⌝ }
-{
-    let mut c = 0;
-    while c < codes {
-        if from[start + c] != 0 {
-            return true;
-        }
-        c += 1;
-    }
-    false
-}
-
-// Sets in one row of flags those that are set in another.
-pub fn add_codes(from: &[u8], start: usize, codes: usize, flags: &mut [u8], at: usize)
-    requires { ⌜ start + codes ≤ length (now from) ⌝ }
-    requires { ⌜ at + codes ≤ length (now flags) ⌝ }
-    ensures { λ _. ⌜ Adds (InRow (now (from .entry)) start codes at) (now (flags .entry)) (now (flags .exit)) ⌝ }
-{
-    let mut c = 0;
-    while c < codes {
-        if from[start + c] != 0 {
-            flags[at + c] = 1;
-        }
-        c += 1;
-    }
-}
-
-// Sets the flags of the codes that can begin the rest of item i from dot k on, and tells whether that can be empty.
-pub fn rest_first(
-    m: &[u8],
-    items: usize,
-    i: usize,
-    k: usize,
-    codes: usize,
-    nul: &[u8],
-    fst: &[u8],
-    flags: &mut [u8],
-    at: usize,
-) -> bool
-    requires { ⌜ Shaped (now m) items ⌝ }
-    requires { ⌜ (i ≤ items) × (codes ≤ 64) ⌝ }
-    requires { ⌜ (length (now nul) ≡ 128) × (length (now fst) ≡ 8192) ⌝ }
-    requires { ⌜ at + codes ≤ length (now flags) ⌝ }
-    ensures { λ b. ⌜ RestFirst codes (now (nul .entry)) (now (fst .entry)) (restAt (now (m .entry)) i k) at (now (flags .entry)) (now (flags .exit)) b ⌝ }
-{
-    let n = items::length_of(m, items, i);
-    let mut j = k;
-    while j < n {
-        let x = items::symbol_of(m, items, i, j);
-        add_codes(fst, x * 64, codes, flags, at);
-        if nul[x] == 0 {
-            return false;
-        }
-        j += 1;
     }
     true
 }
@@ -114,7 +53,7 @@ pub fn prepare_rules(
     reply::clear(through);
     let mut i = 1;
     while i <= rules {
-        if rest_first(m, items, i, 1, codes, nul, fst, starts, i * 64) {
+        if analysis::rest_first(m, items, i, 1, codes, nul, fst, starts, i * 64) {
             through[i] = 1;
         }
         i += 1;
@@ -181,13 +120,13 @@ fn add_item(
     }
     let b = x - 64;
     present[b] = 1;
-    if !any_code(lookaheads, start, codes) {
+    if !analysis::any_code(lookaheads, start, codes) {
         return;
     }
-    if !rest_first(m, items, i, k + 1, codes, nul, fst, follow, b * 64) {
+    if !analysis::rest_first(m, items, i, k + 1, codes, nul, fst, follow, b * 64) {
         return;
     }
-    add_codes(lookaheads, start, codes, follow, b * 64);
+    analysis::add_codes(lookaheads, start, codes, follow, b * 64);
 }
 
 // What the kernel lines of state q add to its closure.
@@ -352,7 +291,7 @@ fn close_follow(
                 continue 'rules;
             }
             let a = items::left_of(m, items, i) - 64;
-            if !any_code(follow, a * 64, codes) {
+            if !analysis::any_code(follow, a * 64, codes) {
                 i += 1;
                 continue 'rules;
             }

@@ -15,7 +15,7 @@ use Rattle.fixpoint.specs.Flags.{On, Decides}
 use Rattle.fixpoint.proofs.PassLaws.{none-on}
 use Rattle.memory.specs.Memory.{itemAt, dotAt}
 use Rattle.memory.specs.Held.{Held}
-use Rattle.closure.specs.FirstBy.{FirstBy}
+use Rattle.analysis.specs.FirstBy.{FirstBy}
 use Rattle.closure.specs.Expansion.{HoldsClosure}
 use Rattle.moves.specs.Flags.{HoldsMoves}
 use Rattle.carried.proofs.FirstLaws.{at-zero}

@@ -7,7 +7,7 @@ ghost use Rattle.language.specs.Grammar.{Grammar};
 ghost use Rattle.leftcorner.specs.Table.{Table};
 ghost use Rattle.fixpoint.specs.Flags.{Decides};
 ghost use Rattle.memory.specs.Held.{Held};
-ghost use Rattle.closure.specs.FirstBy.{FirstBy};
+ghost use Rattle.analysis.specs.FirstBy.{FirstBy};
 ghost use Rattle.closure.specs.Expansion.{HoldsClosure};
 ghost use Rattle.moves.specs.Moves.{Lined, Readable};
 ghost use Rattle.moves.specs.Flags.{HoldsMoves};

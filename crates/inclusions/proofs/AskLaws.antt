@@ -10,10 +10,10 @@ use Rattle.items.specs.Layout.{leftAt, lengthAt, markAt}
 use Rattle.fixpoint.specs.Flags.{On}
 use Rattle.fixpoint.proofs.PassLaws.{all-off}
 use Rattle.memory.specs.Memory.{itemAt, dotAt}
-use Rattle.closure.specs.FirstBy.{first-low}
-use Rattle.closure.specs.Adds.{Adds, InRow}
+use Rattle.analysis.specs.FirstBy.{first-low}
+use Rattle.analysis.specs.Adds.{Adds, InRow}
 use Rattle.closure.specs.Kernel.{OfLine}
-use Rattle.closure.proofs.AddLaws.{adds-none, adds-map, adds-then}
+use Rattle.analysis.proofs.AddLaws.{adds-none, adds-map, adds-then}
 use Rattle.moves.specs.Moves.{symbolAfter, nextAt}
 use Rattle.carried.specs.Rows.{FirstsAt, RowOf}
 use Rattle.carried.specs.Rows as rows

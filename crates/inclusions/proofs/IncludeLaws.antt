@@ -15,11 +15,11 @@ use Rattle.leftcorner.specs.ReadOff.{entry-is}
 use Rattle.leftcorner.specs.Sources.{entry-high}
 use Rattle.items.specs.Layout.{lengthAt, markAt}
 use Rattle.memory.specs.Held.{Held}
-use Rattle.closure.specs.Adds.{Adds}
-use Rattle.closure.specs.FirstBy.{FirstBy, first-low}
+use Rattle.analysis.specs.Adds.{Adds}
+use Rattle.analysis.specs.FirstBy.{FirstBy, first-low}
 use Rattle.closure.specs.Expansion.{HoldsClosure}
 use Rattle.closure.specs.InMemory.{DeclaredItem, LineIs}
-use Rattle.closure.proofs.AddLaws.{adds-map}
+use Rattle.analysis.proofs.AddLaws.{adds-map}
 use Rattle.moves.specs.Moves.{nextAt}
 use Rattle.moves.proofs.NextLaws.{next-line, line-next}
 use Rattle.moves.proofs.RowLaws.{row-of, symbol-of-goes, goes-of-symbol}

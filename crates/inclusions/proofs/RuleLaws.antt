@@ -19,7 +19,7 @@ use Rattle.leftcorner.specs.ReadOff.{same-string}
 use Rattle.leftcorner.specs.Sources.{symbols-rule}
 use Rattle.items.specs.Layout.{lengthAt, markAt, RuleIn}
 use Rattle.memory.specs.Held.{Held}
-use Rattle.closure.specs.Rests.{restAt}
+use Rattle.analysis.specs.Rests.{restAt}
 use Rattle.closure.proofs.ItemLaws.{item-held}
 use Rattle.entry_list.specs.Uses.{HoldsUses}
 use Rattle.entry_list.proofs.GroupLaws.{baseOf, right-length}

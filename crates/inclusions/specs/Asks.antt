@@ -5,7 +5,7 @@ use mathlib.Core.List.{List}
 use lib.ListN.{length, getD}
 use Rattle.items.specs.Layout.{leftAt, lengthAt, markAt}
 use Rattle.memory.specs.Memory.{itemAt, dotAt}
-use Rattle.closure.specs.Adds.{InRow}
+use Rattle.analysis.specs.Adds.{InRow}
 use Rattle.closure.specs.InMemory.{LineIs}
 use Rattle.closure.specs.Kernel.{OfLine}
 use Rattle.moves.specs.Moves.{symbolAfter, nextAt, Present, Lined}

@@ -7,9 +7,9 @@ ghost use Rattle.leftcorner.specs.Table.{Table};
 ghost use Rattle.items.specs.Layout.{leftAt};
 ghost use Rattle.memory.specs.Held.{Held};
 ghost use Rattle.kernel_lines.specs.Lines.{Lines, Linked};
-ghost use Rattle.closure.specs.Adds.{Adds};
+ghost use Rattle.analysis.specs.Adds.{Adds};
 ghost use Rattle.closure.specs.Kernel.{OfLine};
-ghost use Rattle.closure.specs.FirstBy.{FirstBy};
+ghost use Rattle.analysis.specs.FirstBy.{FirstBy};
 ghost use Rattle.closure.specs.Expansion.{HoldsClosure};
 ghost use Rattle.moves.specs.Moves.{Lined, Cells};
 ghost use Rattle.entry_list.specs.Uses.{HoldsUses};
@@ -42,7 +42,7 @@ fn add_line(
     if !kernel_lines::is_of(kernels, lines, count, l, i, k) {
         return;
     }
-    closure::add_codes(from, start, codes, grown, l * 64);
+    analysis::add_codes(from, start, codes, grown, l * 64);
 }
 
 // Asks of the line for item i, dot k in state s, if there is one, the codes that are flagged from `start` on.

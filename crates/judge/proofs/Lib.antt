@@ -1,4 +1,3 @@
-pub mod FirstLaws
 pub mod FaultLaws
 pub mod VerdictLaws
 pub mod StateLaws

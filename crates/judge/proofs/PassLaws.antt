@@ -11,7 +11,7 @@ use Rattle.leftcorner.specs.Construction.{EntriesMeet, LookaheadsMeet}
 use Rattle.items.specs.Layout.{Shaped, Holds}
 use Rattle.fixpoint.specs.Flags.{Off}
 use Rattle.analysis.specs.InMemory.{SetsOf}
-use Rattle.closure.specs.FirstBy.{FirstBy}
+use Rattle.analysis.specs.FirstBy.{FirstBy}
 use Rattle.lookaheads.specs.Narrow.{Narrows}
 use Rattle.lookaheads.specs.Memory.{StateCovers}
 use Rattle.lookaheads.specs.Sources.{GoalMeets}

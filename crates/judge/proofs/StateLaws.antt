@@ -11,7 +11,7 @@ use Rattle.leftcorner.specs.Table.{Table}
 use Rattle.leftcorner.specs.Construction.{ItemsMeet, CellsAgree, CellsMeet}
 use Rattle.memory.specs.Held.{Held}
 use Rattle.fixpoint.specs.Flags.{On, Off, Decides}
-use Rattle.closure.specs.FirstBy.{FirstBy}
+use Rattle.analysis.specs.FirstBy.{FirstBy}
 use Rattle.closure.specs.InMemory.{InMemory}
 use Rattle.closure.proofs.UseLaws.{in-memory}
 use Rattle.moves.specs.Moves.{Readable, Lined}

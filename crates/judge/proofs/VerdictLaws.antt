@@ -14,7 +14,7 @@ use Rattle.leftcorner.specs.Swap.{flip, lookaheads-over, agree-over, cells-over
 use Rattle.analysis.specs.ByRules.{FirstByRules}
 use Rattle.analysis.specs.Decided.{first?}
 use Rattle.analysis.specs.InMemory.{SetsOf}
-use Rattle.closure.specs.FirstBy.{FirstBy}
+use Rattle.analysis.specs.FirstBy.{FirstBy}
 use Rattle.reply.specs.declared.Reply.{Reply}
 use Rattle.reply.specs.declared.Kind.the-variants.{ItemMismatch}
 use Rattle.verdict.specs.ItemsDecided.{items?}
@@ -24,7 +24,7 @@ use Rattle.verdict.specs.CellsDecided.{agree?, cells?}
 use Rattle.verdict.specs.Verdict.{refused, verdict, Outside, off-items, off-lookaheads, off-agree, off-cells, All, Fails, is-list, is-seven, is-eight, is-nine, is-ten, is-zero}
 use Rattle.judge.specs.Accepts.{codes, code-in, tableVerdict}
 use Rattle.judge.specs.Faults.{Fault, answerOf, Found}
-use Rattle.judge.proofs.FirstLaws.{first-flags}
+use Rattle.analysis.proofs.FirstLaws.{first-flags}
 use Rattle.judge.proofs.FaultLaws.{fault-map, Flags}
 
 module _ (g : Grammar) (t : Table) (F : List ℕ → ℕ → ℕ → Type 0) (e? : Dec (EntriesMeet g t)) (i? : (q : ℕ) → Dec (ItemsMeet g t q))

@@ -1,20 +1,19 @@
 -- The verdict on a table that was read, and its meaning: accepted exactly when the table meets the construction.
 use Prim.Native.Nat.{ℕ, suc}
 use native.Mathlib.Omega.{arith}
-use mathlib.Core.Path.{_≡_, refl}
+use mathlib.Core.Path.{_≡_}
 use mathlib.Core.Logic.{_⊎_, inl, inr}
-use mathlib.Core.List.{List, [], _∷_}
-use Rattle.language.specs.Grammar.{Grammar, IsTerminal}
+use mathlib.Core.List.{List}
+use Rattle.language.specs.Grammar.{Grammar}
 use Rattle.language.specs.First.{First}
 use Rattle.language.specs.Sentence.{In, Declared, AllProductive}
 use Rattle.language.specs.Strings.{AllDeclared, symbol-derives}
-use Rattle.language.specs.Nullable.{Nullable, RightProductive, Starts}
+use Rattle.language.specs.Nullable.{RightProductive}
 use Rattle.leftcorner.specs.Claim.{_↔_}
 use Rattle.leftcorner.specs.Table.{Table}
 use Rattle.leftcorner.specs.Construction.{WellFormed, Meets}
 use Rattle.leftcorner.specs.Swap.{swap}
-use Rattle.fixpoint.specs.Least.{least-every}
-use Rattle.analysis.specs.ByRules.{starting, BeginsByRules, FirstByRules, first-rules, rules-first}
+use Rattle.analysis.specs.ByRules.{FirstByRules, starts-terminal, first-rules, rules-first}
 use Rattle.analysis.specs.Decided.{first?}
 use Rattle.reply.specs.declared.Reply.{Reply}
 use Rattle.reply.specs.declared.Reply.the-variants.{Accepted}
@@ -31,16 +30,8 @@ module _ (g : Grammar) where
   abbrev pub codes : List ℕ
   codes = upto (suc (g .terminals))
 
-  pub begins-terminal : {X c : ℕ} → BeginsByRules g X c → IsTerminal g c
-  begins-terminal {c = c} h = least-every (starting g (Nullable g)) (λ x. IsTerminal g c) (λ y s. s .1) (λ o ok ns. ns _ refl) h
-
-  pub starts-terminal : (β : List ℕ) (c : ℕ) → Starts (Nullable g) (λ X. BeginsByRules g X c) β → IsTerminal g c
-  starts-terminal [] c h = absurd h
-  starts-terminal (X ∷ β) c (inl h) = begins-terminal h
-  starts-terminal (X ∷ β) c (inr h) = starts-terminal β c (h .1)
-
   pub code-in : (β : List ℕ) (d c : ℕ) → FirstByRules g β d c → (c ≡ d) ⊎ In c codes
-  code-in β d c (inl h) = inr (in-upto (suc (g .terminals)) c (omega (arith, starts-terminal β c h .1)))
+  code-in β d c (inl h) = inr (in-upto (suc (g .terminals)) c (omega (arith, starts-terminal g β c h .1)))
   code-in β d c (inr h) = inl (h .1)
 
   -- the replies 7 to 10 of a table, or none

@@ -11,7 +11,7 @@ use Rattle.reply.specs.declared.Reply.{Reply}
 use Rattle.reply.specs.declared.Reply.the-variants.{Accepted}
 use Rattle.verdict.specs.Verdict.{refused}
 use Rattle.fixpoint.specs.Flags.{Decides, Marks}
-use Rattle.closure.specs.Adds.{Adds}
+use Rattle.analysis.specs.Adds.{Adds}
 use Rattle.inclusions.specs.Included.{Includes, FlagAsked}
 use Rattle.lookaheads.specs.Sources.{IncludesBelow}
 

@@ -9,7 +9,7 @@ ghost use Rattle.language.specs.Grammar.{Grammar};
 ghost use Rattle.leftcorner.specs.Table.{Table};
 ghost use Rattle.leftcorner.specs.Construction.{EntriesMeet};
 ghost use Rattle.fixpoint.specs.Flags.{On, Off};
-ghost use Rattle.closure.specs.FirstBy.{FirstBy};
+ghost use Rattle.analysis.specs.FirstBy.{FirstBy};
 ghost use Rattle.entry_list.specs.Uses.{HoldsUses};
 ghost use Rattle.judge.specs.Accepts.{tableVerdict};
 ghost use Rattle.judge.specs.Faults.{Fault, noted, answerOf, StateJudged, Found};

@@ -21,7 +21,7 @@ use Rattle.memory.specs.Memory.{HoldsItems}
 use Rattle.fixpoint.specs.Flags.{On, Marks}
 use Rattle.fixpoint.specs.Least.{Least}
 use Rattle.closure.specs.InMemory.{DeclaredItem}
-use Rattle.closure.specs.Rests.{restAt}
+use Rattle.analysis.specs.Rests.{restAt}
 use Rattle.closure.specs.Kernel.{BeforeNonterminal}
 use Rattle.closure.specs.Steps.{expansions}
 use Rattle.closure.specs.Expansion.{Expanded, HasBy, of-kernel, of-rule, has-by, by-has}

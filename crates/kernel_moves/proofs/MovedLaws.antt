@@ -15,7 +15,7 @@ use Rattle.lalr.specs.Lists.{RisingFrom}
 use Rattle.lalr.specs.LineLaws.{in-either}
 use Rattle.items.specs.Layout.{lengthAt, markAt, symbolAt}
 use Rattle.fixpoint.specs.Flags.{On}
-use Rattle.closure.specs.Rests.{Before}
+use Rattle.analysis.specs.Rests.{Before}
 use Rattle.moves.specs.Moves.{symbolAfter}
 use Rattle.moves.proofs.MoveLaws.{after-end, after-mark, after-symbol}
 use Rattle.kernel_moves.specs.Moved.{movedIf, movedBelow, picked}

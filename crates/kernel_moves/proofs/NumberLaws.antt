@@ -13,9 +13,9 @@ use Rattle.language.specs.Member.{in-left, in-right}
 use Rattle.lalr.specs.States.{itemOf, dotOf}
 use Rattle.lalr.specs.LineLaws.{in-either}
 use Rattle.items.specs.Layout.{symbolAt}
-use Rattle.closure.specs.Adds.{Adds}
-use Rattle.closure.specs.Rests.{Before}
-use Rattle.closure.proofs.AddLaws.{adds-none, adds-map, adds-then, adds-one}
+use Rattle.analysis.specs.Adds.{Adds}
+use Rattle.analysis.specs.Rests.{Before}
+use Rattle.analysis.proofs.AddLaws.{adds-none, adds-map, adds-then, adds-one}
 use Rattle.moves.specs.Moves.{symbolAfter, Present}
 use Rattle.kernel_moves.specs.Moved.{OfNumber, StandsBefore, RuleStart}
 use Rattle.kernel_moves.proofs.PickLaws.{in-one}

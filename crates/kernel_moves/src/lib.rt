@@ -4,7 +4,7 @@ ghost use Prim.Native.Nat.{_+_, _*_, _<_, _≤_};
 ghost use mathlib.Core.List.{_++_};
 ghost use lib.ListN.{length, take};
 ghost use Rattle.items.specs.Layout.{Shaped};
-ghost use Rattle.closure.specs.Adds.{Adds};
+ghost use Rattle.analysis.specs.Adds.{Adds};
 ghost use Rattle.kernel_moves.specs.Moved.{Numbered, OfNumber, StandsBefore, SameNumber, RuleStart, movedBelow, picked, ListsMoves};
 
 // Flags the items of a kernel set, and the nonterminals before which they stand.

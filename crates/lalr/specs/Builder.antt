@@ -3,13 +3,12 @@ use Prim.Native.Nat.{ℕ, _≤_, _<_}
 use native.Mathlib.Omega.{arith}
 use mathlib.Core.Path.{_≡_, refl, sym, ap, subst, _∙_}
 use mathlib.Core.Logic.{_⊎_, inl, inr}
-use mathlib.Core.List.{List, [], _∷_}
+use mathlib.Core.List.{List}
 use lib.ListN.{length}
 use Rattle.language.specs.Grammar.{Grammar, IsTerminal, IsNonterminal}
 use Rattle.language.specs.Derivation.{yields}
 use Rattle.language.specs.Sentence.{In, Reachable, Productive, AllProductive}
 use Rattle.language.specs.First.{First, next}
-use Rattle.language.specs.Nullable.{Nullable, Starts}
 use Rattle.language.specs.FirstLaws.{right-productive, terminal-productive}
 use Rattle.language.specs.Strings.{AllDeclared, string-derives}
 use Rattle.language.specs.WellFormed as grammar
@@ -17,8 +16,7 @@ use Rattle.leftcorner.specs.Table.{Table}
 use Rattle.leftcorner.specs.Construction.{WellFormed, CellsAgree, MeetsWith, Meets}
 use Rattle.leftcorner.specs.Claim.{_↔_}
 use Rattle.leftcorner.specs.Swap.{swap}
-use Rattle.fixpoint.specs.Least.{least-every}
-use Rattle.analysis.specs.ByRules.{starting, BeginsByRules, FirstByRules, first-rules, rules-first}
+use Rattle.analysis.specs.ByRules.{FirstByRules, starts-terminal, first-rules, rules-first}
 use Rattle.analysis.specs.Decided.{first?}
 use Rattle.reply.specs.declared.Kind.the-variants.{LimitExceeded, Conflict}
 use Rattle.reply.specs.declared.Reply.{Reply}
@@ -45,16 +43,8 @@ module _ (g : Grammar) where
   abbrev pub terminalCodes : List ℕ
   terminalCodes = range 1 (g .terminals)
 
-  begins-terminal : {X c : ℕ} → BeginsByRules g X c → IsTerminal g c
-  begins-terminal {c = c} p = least-every (starting g (Nullable g)) (λ x. IsTerminal g c) (λ x s. s .1) (λ o ok ns. ns _ refl) p
-
-  starts-terminal : (β : List ℕ) (c : ℕ) → Starts (Nullable g) (λ X. BeginsByRules g X c) β → IsTerminal g c
-  starts-terminal [] c h = absurd h
-  starts-terminal (X ∷ β) c (inl h) = begins-terminal h
-  starts-terminal (X ∷ β) c (inr h) = starts-terminal β c (h .1)
-
   pub first-in : (β : List ℕ) (d c : ℕ) → FirstByRules g β d c → (c ≡ d) ⊎ In c terminalCodes
-  first-in β d c (inl h) = let w = starts-terminal β c h in inr (in-range 1 (g .terminals) c (w .0) (omega (arith, w .1)))
+  first-in β d c (inl h) = let w = starts-terminal g β c h in inr (in-range 1 (g .terminals) c (w .0) (omega (arith, w .1)))
   first-in β d c (inr h) = inl (h .1)
 
   pub codes-low : (c : ℕ) → In c terminalCodes → c ≤ g .terminals

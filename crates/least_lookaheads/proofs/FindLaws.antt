@@ -11,8 +11,8 @@ use Rattle.fixpoint.specs.Flags.{On, Off}
 use Rattle.fixpoint.proofs.CountLaws.{on-set}
 use Rattle.fixpoint.proofs.PassLaws.{all-off, set-on}
 use Rattle.memory.specs.Memory.{stateAt, itemAt, dotAt}
-use Rattle.closure.specs.Adds.{Adds}
-use Rattle.closure.specs.FirstBy.{FirstBy}
+use Rattle.analysis.specs.Adds.{Adds}
+use Rattle.analysis.specs.FirstBy.{FirstBy}
 use Rattle.inclusions.specs.Asks.{LinesAsk}
 use Rattle.inclusions.specs.Included.{FlagAsked}
 use Rattle.lalr.specs.Lookaheads.{Lookahead}

@@ -14,7 +14,7 @@ use Rattle.leftcorner.specs.Construction.{entryItem, EntryAt, KernelAt, Has, Mo
 use Rattle.leftcorner.specs.Closure.{has-of}
 use Rattle.fixpoint.specs.Flags.{On}
 use Rattle.memory.specs.Memory.{stateAt, itemAt, dotAt}
-use Rattle.closure.specs.FirstBy.{FirstBy, first-low}
+use Rattle.analysis.specs.FirstBy.{FirstBy, first-low}
 use Rattle.closure.specs.InMemory.{DeclaredItem, InMemory, LineIs}
 use Rattle.closure.specs.Expansion.{HoldsClosure}
 use Rattle.closure.proofs.ItemLaws.{line-at}

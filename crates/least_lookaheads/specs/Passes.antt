@@ -9,10 +9,10 @@ use Rattle.leftcorner.specs.Table.{Table}
 use Rattle.fixpoint.specs.Flags.{On}
 use Rattle.fixpoint.specs.Pass.{zeros}
 use Rattle.memory.specs.Memory.{stateAt}
-use Rattle.closure.specs.FirstBy.{FirstBy}
+use Rattle.analysis.specs.FirstBy.{FirstBy}
 use Rattle.closure.specs.InMemory.{InMemory}
 use Rattle.closure.specs.Expansion.{HoldsClosure}
-use Rattle.closure.specs.Adds.{Adds}
+use Rattle.analysis.specs.Adds.{Adds}
 use Rattle.inclusions.specs.Asks.{StateAsks}
 
 -- the flags are those of p's closure

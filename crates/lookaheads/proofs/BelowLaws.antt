@@ -10,7 +10,7 @@ use Rattle.leftcorner.specs.Table.{Table}
 use Rattle.memory.specs.Memory.{stateAt, itemAt, dotAt}
 use Rattle.fixpoint.specs.Flags.{On, Off, Marks}
 use Rattle.fixpoint.proofs.PassLaws.{no-gap}
-use Rattle.closure.specs.Adds.{Adds}
+use Rattle.analysis.specs.Adds.{Adds}
 use Rattle.inclusions.specs.Included.{Includes, FlagAsked}
 use Rattle.inclusions.proofs.FlagLaws.{flag-map}
 use Rattle.lookaheads.specs.Sources.{IncludesBelow}

@@ -16,8 +16,8 @@ use Rattle.fixpoint.proofs.PassLaws.{all-off}
 use Rattle.memory.specs.Memory.{stateAt, itemAt, dotAt}
 use Rattle.memory.specs.Held.{Held}
 use Rattle.memory.proofs.RangeLaws.{entry-at}
-use Rattle.closure.specs.FirstBy.{FirstBy, first-low}
-use Rattle.closure.specs.Adds.{Adds}
+use Rattle.analysis.specs.FirstBy.{FirstBy, first-low}
+use Rattle.analysis.specs.Adds.{Adds}
 use Rattle.closure.specs.InMemory.{LineIs}
 use Rattle.closure.proofs.ItemLaws.{line-of, line-at}
 use Rattle.carried.proofs.CarryLaws.{code-low}

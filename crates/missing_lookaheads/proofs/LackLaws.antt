@@ -16,7 +16,7 @@ use Rattle.memory.specs.Memory.{stateAt, itemAt, dotAt}
 use Rattle.memory.specs.Held.{Held}
 use Rattle.memory.proofs.RangeLaws.{entry-at}
 use Rattle.kernel_lines.specs.Lines.{IsLine, Finds}
-use Rattle.closure.specs.Adds.{Adds}
+use Rattle.analysis.specs.Adds.{Adds}
 use Rattle.inclusions.specs.Included.{Includes, FlagAsked}
 use Rattle.inclusions.proofs.FlagLaws.{flag-line}
 use Rattle.missing_lookaheads.specs.declared.Lack.{Lack}

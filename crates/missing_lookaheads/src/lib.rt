@@ -9,7 +9,7 @@ ghost use Rattle.leftcorner.specs.Table.{Table};
 ghost use Rattle.fixpoint.specs.Flags.{On};
 ghost use Rattle.memory.specs.Held.{Held};
 ghost use Rattle.kernel_lines.specs.Lines.{Lines, Linked};
-ghost use Rattle.closure.specs.FirstBy.{FirstBy};
+ghost use Rattle.analysis.specs.FirstBy.{FirstBy};
 ghost use Rattle.entry_list.specs.Uses.{HoldsUses};
 ghost use Rattle.details.specs.Misses.{Misses};
 ghost use Rattle.judge.specs.Given.{Sized, Computed, Given};

@@ -22,7 +22,7 @@ use Rattle.analysis.specs.ByRules.{FirstByRules}
 use Rattle.analysis.specs.Decided.{first?}
 use Rattle.fixpoint.specs.Flags.{Decides}
 use Rattle.memory.specs.Memory.{popValue}
-use Rattle.closure.specs.FirstBy.{FirstBy}
+use Rattle.analysis.specs.FirstBy.{FirstBy}
 use Rattle.cells.specs.Demands.{HoldsAsked}
 use Rattle.lalr.specs.States.{states, goto}
 use Rattle.lalr.specs.EntryLaws.{entries-meet}

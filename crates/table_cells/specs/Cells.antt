@@ -13,7 +13,7 @@ use Rattle.leftcorner.specs.Construction.{Asked, CellsAgree}
 use Rattle.analysis.specs.ByRules.{FirstByRules}
 use Rattle.analysis.specs.Decided.{first?}
 use Rattle.memory.specs.Memory.{HoldsItems, HoldsEntries, HoldsKernels, HoldsActions, kindOf, valueOf}
-use Rattle.closure.specs.FirstBy.{FirstBy}
+use Rattle.analysis.specs.FirstBy.{FirstBy}
 use Rattle.closure.specs.Prepared.{Prepared}
 use Rattle.moves.specs.Moves.{Lined}
 use Rattle.lalr.specs.Strings.{entryStrings}

@@ -9,7 +9,7 @@ ghost use Rattle.leftcorner.specs.Table.{Table};
 ghost use Rattle.leftcorner.specs.Construction.{CellsAgree};
 ghost use Rattle.fixpoint.specs.Flags.{Decides};
 ghost use Rattle.memory.specs.Held.{Held};
-ghost use Rattle.closure.specs.FirstBy.{FirstBy};
+ghost use Rattle.analysis.specs.FirstBy.{FirstBy};
 ghost use Rattle.cells.specs.Demands.{HoldsAsked};
 ghost use Rattle.table_cells.specs.Fill.{FillsCell, FillsState};
 ghost use Rattle.table_cells.specs.Cells.{Agree, HoldsMoves, HoldsLines, StateFilled, Filled, Sized};

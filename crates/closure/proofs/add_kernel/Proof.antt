@@ -3,7 +3,7 @@ use Prim.Native.Nat.{_≤_, _<_, _-_}
 use native.Mathlib.Omega.{arith}
 use mathlib.Core.Path.{sym, _∙_}
 use borrow.Author.Needs.{needs}
-use Rattle.closure.specs.Adds.{Adds}
+use Rattle.analysis.specs.Adds.{Adds}
 use Rattle.closure.specs.Kernel.{KernelBefore, KernelFollows}
 use Rattle.closure.proofs.KernelLaws.{lines-none, lines-skip, lines-more, lines-all, line-before, line-follows}
 use Rattle.closure.proofs.add_kernel.Statement.{statement}

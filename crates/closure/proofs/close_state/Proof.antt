@@ -2,7 +2,7 @@
 use mathlib.Core.Path.{_∙_}
 use borrow.Author.Needs.{needs}
 use lib.ListN.{length}
-use Rattle.closure.proofs.AddLaws.{zeroed}
+use Rattle.analysis.proofs.AddLaws.{zeroed}
 use Rattle.closure.proofs.ReachLaws.{adds-marks, marks-least, covered, holds-closure}
 use Rattle.closure.proofs.close_state.Statement.{statement}
 use Rattle.closure.proofs.close_state.Tie as tie

@@ -6,8 +6,8 @@ use mathlib.Core.Path.{_≡_, sym, _∙_}
 use mathlib.Core.Logic.{⊎-elim}
 use borrow.Author.Needs.{needs}
 use lib.ListN.{length}
-use Rattle.closure.specs.Adds.{Adds}
-use Rattle.closure.proofs.AddLaws.{zeroed}
+use Rattle.analysis.specs.Adds.{Adds}
+use Rattle.analysis.proofs.AddLaws.{zeroed}
 use Rattle.closure.proofs.PrepareLaws.{Filled, filled-none, through-set, through-kept, filled-more, filled-all}
 use Rattle.closure.proofs.prepare_rules.Statement.{statement}
 use Rattle.closure.proofs.prepare_rules.Tie as tie

@@ -5,7 +5,7 @@ use borrow.Author.Needs.{needs}
 use lib.ListN.{length, length-replicate}
 use Rattle.language.specs.Grammar.{Grammar}
 use Rattle.leftcorner.specs.Table.{Table}
-use Rattle.closure.specs.FirstBy.{FirstBy}
+use Rattle.analysis.specs.FirstBy.{FirstBy}
 use Rattle.entry_list.specs.Uses.{HoldsUses}
 use Rattle.entry_list.proofs.ListLaws.{zeros-of}
 use Rattle.judge.specs.Faults.{Found}

@@ -5,8 +5,8 @@ use native.Mathlib.Omega.{arith}
 use lib.ListN.{length, take}
 use borrow.Author.Needs.{needs}
 use Rattle.language.specs.GrammarLaws.{in-string}
-use Rattle.closure.proofs.AddLaws.{adds-one}
-use Rattle.closure.specs.Adds.{Adds}
+use Rattle.analysis.proofs.AddLaws.{adds-one}
+use Rattle.analysis.specs.Adds.{Adds}
 use Rattle.kernel_moves.specs.Moved.{OfNumber, StandsBefore, SameNumber}
 use Rattle.kernel_moves.proofs.NumberLaws.{numbers-none, numbers-more, numbers-all, stands-none, stands-one}
 use Rattle.kernel_moves.proofs.flag_kernel.Statement.{statement}

@@ -4,7 +4,7 @@ use Prim.Native.Nat.{_+_, _≤_, _-_}
 use native.Mathlib.Omega.{arith}
 use borrow.Author.Needs.{needs}
 use borrow.Author.Tests.{not-true, not-false}
-use Rattle.closure.specs.Adds.{Adds}
+use Rattle.analysis.specs.Adds.{Adds}
 use Rattle.kernel_moves.specs.Moved.{RuleStart}
 use Rattle.kernel_moves.proofs.NumberLaws.{starts-none, starts-skip, starts-more, starts-all}
 use Rattle.kernel_moves.proofs.hold_rules.Statement.{statement}

@@ -1,7 +1,7 @@
 -- The items that are flagged are those of the closure, and what moves of them is listed.
 use mathlib.Core.Path.{refl, sym, subst}
 use borrow.Author.Needs.{needs}
-use Rattle.closure.proofs.AddLaws.{adds-then}
+use Rattle.analysis.proofs.AddLaws.{adds-then}
 use Rattle.closure.proofs.ReachLaws.{adds-marks, marks-least}
 use Rattle.kernel_moves.specs.Moved.{ListsMoves}
 use Rattle.kernel_moves.proofs.HasLaws.{lists-moves}

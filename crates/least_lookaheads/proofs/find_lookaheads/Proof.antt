@@ -3,7 +3,7 @@ use mathlib.Core.Path.{refl, _∙_}
 use native.Mathlib.Omega.{arith}
 use lib.ListN.{length}
 use Rattle.fixpoint.specs.Pass.{zeros}
-use Rattle.closure.proofs.AddLaws.{zeroed}
+use Rattle.analysis.proofs.AddLaws.{zeroed}
 use borrow.Author.Needs.{needs}
 use Rattle.least_lookaheads.proofs.find_lookaheads.Statement.{statement}
 use Rattle.least_lookaheads.proofs.find_lookaheads.Tie as tie

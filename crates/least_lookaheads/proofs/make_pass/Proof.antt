@@ -1,7 +1,7 @@
 use mathlib.Core.Path.{sym, _∙_}
 use native.Mathlib.Omega.{arith}
 use lib.ListN.{length}
-use Rattle.closure.proofs.AddLaws.{zeroed}
+use Rattle.analysis.proofs.AddLaws.{zeroed}
 use borrow.Author.Needs.{needs}
 use Rattle.least_lookaheads.proofs.make_pass.Statement.{statement}
 use Rattle.least_lookaheads.proofs.make_pass.Tie as tie

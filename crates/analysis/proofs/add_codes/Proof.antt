@@ -4,10 +4,10 @@ use native.Mathlib.Omega.{arith}
 use mathlib.Core.Logic.{⊎-elim}
 use borrow.Author.Needs.{needs}
 use Rattle.fixpoint.proofs.PassLaws.{set-on}
-use Rattle.closure.specs.Adds.{Adds, InRow}
-use Rattle.closure.proofs.AddLaws.{row-start, row-set, row-skip, row-all}
-use Rattle.closure.proofs.add_codes.Statement.{statement}
-use Rattle.closure.proofs.add_codes.Tie as tie
+use Rattle.analysis.specs.Adds.{Adds, InRow}
+use Rattle.analysis.proofs.AddLaws.{row-start, row-set, row-skip, row-all}
+use Rattle.analysis.proofs.add_codes.Statement.{statement}
+use Rattle.analysis.proofs.add_codes.Tie as tie
 
 abbrev Inv-loop : tie.InvT-loop
 Inv-loop from start codes flags₀ at c₀ flags c = (c ≤ codes) × Adds (InRow from start c at) flags₀ flags

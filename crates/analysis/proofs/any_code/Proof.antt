@@ -5,8 +5,8 @@ use borrow.Author.Count.{below-more, below-none}
 use borrow.Author.Needs.{needs}
 use Rattle.fixpoint.specs.Flags.{Off}
 use Rattle.fixpoint.proofs.PassLaws.{set-on, is-yes, is-no}
-use Rattle.closure.proofs.any_code.Statement.{statement}
-use Rattle.closure.proofs.any_code.Tie as tie
+use Rattle.analysis.proofs.any_code.Statement.{statement}
+use Rattle.analysis.proofs.any_code.Tie as tie
 
 abbrev Inv-loop : tie.InvT-loop
 Inv-loop from start codes c₀ c = (c ≤ codes) × ((k : ℕ) → k < c → Off from (start + k))

@@ -6,7 +6,7 @@ use mathlib.Core.Logic.{_⊎_}
 use mathlib.Core.List.{List}
 use lib.ListN.{length}
 use Rattle.fixpoint.specs.Flags.{On}
-use Rattle.closure.specs.FirstBy.{FirstBy, BeginsAt}
+use Rattle.analysis.specs.FirstBy.{FirstBy, BeginsAt}
 
 -- the flags of P are set, the others stay
 pub record Adds (P : ℕ → Type 0) (fs₀ fs : List ℕ) : Type 0 where

@@ -10,9 +10,9 @@ use lib.ListN.{length, set, length-set, replicate, length-replicate}
 use Rattle.items.specs.Layout.{lengthAt, symbolAt}
 use Rattle.fixpoint.specs.Flags.{On, Off}
 use Rattle.fixpoint.proofs.CountLaws.{on-set, only-set, keep-set}
-use Rattle.closure.specs.FirstBy.{FirstBy, follows, begins, skips, first-nil, first-cons, BeginsAt}
-use Rattle.closure.specs.Rests.{restAt, rest-none, rest-more}
-use Rattle.closure.specs.Adds.{Adds, InRow, RestFirst}
+use Rattle.analysis.specs.FirstBy.{FirstBy, follows, begins, skips, first-nil, first-cons, BeginsAt}
+use Rattle.analysis.specs.Rests.{restAt, rest-none, rest-more}
+use Rattle.analysis.specs.Adds.{Adds, InRow, RestFirst}
 
 -- the length of a slice that was cleared
 pub zeroed : {xs : List ℕ} {n k : ℕ} → xs ≡ replicate n 0 → n ≡ k → length xs ≡ k

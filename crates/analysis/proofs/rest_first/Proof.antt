@@ -5,10 +5,10 @@ use mathlib.Core.Path.{_≡_, _∙_}
 use borrow.Author.Needs.{needs}
 use Rattle.items.specs.Layout.{lengthAt}
 use Rattle.fixpoint.proofs.PassLaws.{set-on}
-use Rattle.closure.specs.Rests.{restAt}
-use Rattle.closure.proofs.AddLaws.{Passed, passed-none, dot-stop, dot-more, dot-end}
-use Rattle.closure.proofs.rest_first.Statement.{statement}
-use Rattle.closure.proofs.rest_first.Tie as tie
+use Rattle.analysis.specs.Rests.{restAt}
+use Rattle.analysis.proofs.AddLaws.{Passed, passed-none, dot-stop, dot-more, dot-end}
+use Rattle.analysis.proofs.rest_first.Statement.{statement}
+use Rattle.analysis.proofs.rest_first.Tie as tie
 
 abbrev Inv-loop : tie.InvT-loop
 Inv-loop m items i k codes nul fst flags₀ at n j₀ flags j = (n ≡ lengthAt m i) × (n ≤ 15) × Passed codes nul fst (restAt m i k) (restAt m i j) at flags₀ flags

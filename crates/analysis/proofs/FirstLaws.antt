@@ -1,17 +1,16 @@
 -- first by flags is first by rules.
-use Prim.Native.Nat.{ℕ, suc, _+_, _*_, _≤_, _<_}
+use Prim.Native.Nat.{ℕ, suc, _+_, _*_, _≤_}
 use native.Mathlib.Omega.{arith}
 use mathlib.Core.Path.{_≡_, refl, sym, subst}
-use mathlib.Core.Logic.{_⊎_, inl, inr}
+use mathlib.Core.Logic.{inl, inr}
 use mathlib.Core.List.{List, [], _∷_}
 use Rattle.language.specs.Grammar.{Grammar}
 use Rattle.language.specs.Nullable.{Nullable, AllIn, Starts}
 use Rattle.leftcorner.specs.Claim.{_↔_}
 use Rattle.fixpoint.specs.Rows.{to-row, from-row}
-use Rattle.analysis.specs.ByRules.{BeginsByRules, FirstByRules}
+use Rattle.analysis.specs.ByRules.{BeginsByRules, FirstByRules, begins-terminal}
 use Rattle.analysis.specs.InMemory.{SetsOf}
-use Rattle.closure.specs.FirstBy.{FirstBy, follows, begins, skips}
-use Rattle.judge.specs.Accepts.{begins-terminal}
+use Rattle.analysis.specs.FirstBy.{FirstBy, follows, begins, skips}
 
 module _ (g : Grammar) (few : g .terminals ≤ 63) {codes : ℕ} (count : codes ≡ suc (g .terminals)) {nul fst : List ℕ} (S : SetsOf g nul fst) where
   to-rules : {β : List ℕ} {d c : ℕ} → FirstBy codes nul fst β d c → FirstByRules g β d c
