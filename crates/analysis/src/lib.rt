@@ -127,7 +127,8 @@ pub fn add_codes(from: &[u8], start: usize, codes: usize, flags: &mut [u8], at: 
     }
 }
 
-// Sets the flags of the codes that can begin the rest of item i from dot k on, and tells whether that can be empty.
+// Sets the flags of the codes that can begin the rest of item i from dot k on, and tells whether that can be empty: then the codes of σ, too, are in
+// first(rest, σ).
 pub fn rest_first(
     m: &[u8],
     items: usize,

@@ -9,13 +9,13 @@ ghost use Rattle.language.specs.Grammar.{Grammar};
 ghost use Rattle.leftcorner.specs.Table.{Table};
 ghost use Rattle.closure.specs.Expansion.{HoldsClosure};
 ghost use Rattle.analysis.specs.FirstBy.{FirstBy};
+ghost use Rattle.kernel_lines.specs.Lines.{Lines};
 ghost use Rattle.closure.specs.InMemory.{InMemory};
 ghost use Rattle.analysis.specs.Rests.{Before};
 ghost use Rattle.analysis.specs.Adds.{Adds};
 ghost use Rattle.closure.specs.Prepared.{Prepared};
 ghost use Rattle.closure.specs.Kernel.{BeforeNonterminal, FollowsNonterminal, KernelBefore, KernelFollows};
 ghost use Rattle.closure.specs.Steps.{expansions, followings, LeftIn, FirstIs, Fires, Covered};
-ghost use Rattle.memory.specs.Memory.{stateAt, itemAt, dotAt};
 
 // Whether item i's dot k stands before a symbol, and not at its recognition point.
 pub fn stands_before(m: &[u8], items: usize, i: usize, k: usize) -> bool
@@ -58,36 +58,6 @@ pub fn prepare_rules(
         }
         i += 1;
     }
-}
-
-fn wide(x: u8) -> usize
-    ensures { λ r. ⌜ (r ≡ x) × (r < 256) ⌝ }
-{
-    x as usize
-}
-
-// The state of kernel line l.
-pub fn state_of(kernels: &[u8], lines: usize, l: usize) -> usize
-    requires { ⌜ (lines * 4 ≤ length (now kernels)) × (l < lines) ⌝ }
-    ensures { λ r. ⌜ (r ≡ stateAt (now (kernels .entry)) l) × (r < 256) ⌝ }
-{
-    wide(kernels[l * 4])
-}
-
-// The item of kernel line l.
-pub fn item_of(kernels: &[u8], lines: usize, l: usize) -> usize
-    requires { ⌜ (lines * 4 ≤ length (now kernels)) × (l < lines) ⌝ }
-    ensures { λ r. ⌜ (r ≡ itemAt (now (kernels .entry)) l) × (r < 256) ⌝ }
-{
-    wide(kernels[l * 4 + 1])
-}
-
-// The dot of kernel line l.
-pub fn dot_of(kernels: &[u8], lines: usize, l: usize) -> usize
-    requires { ⌜ (lines * 4 ≤ length (now kernels)) × (l < lines) ⌝ }
-    ensures { λ r. ⌜ (r ≡ dotAt (now (kernels .entry)) l) × (r < 256) ⌝ }
-{
-    wide(kernels[l * 4 + 2])
 }
 
 // What item i with dot k adds to its state's closure, where its lookaheads stand from `start` on.
@@ -144,8 +114,8 @@ fn add_kernel(
     follow: &mut [u8],
 )
     requires { ⌜ Shaped (now m) items ⌝ }
-    requires { ⌜ (lines * 4 ≤ length (now kernels)) × (lines * 64 ≤ length (now lookaheads)) × (codes ≤ 64) ⌝ }
-    requires { ⌜ ((l : ℕ) → l < lines → itemAt (now kernels) l ≤ items) ⌝ }
+    requires { ⌜ Lines (now kernels) lines items ⌝ }
+    requires { ⌜ (lines * 64 ≤ length (now lookaheads)) × (codes ≤ 64) ⌝ }
     requires { ⌜ (length (now nul) ≡ 128) × (length (now fst) ≡ 8192) ⌝ }
     requires { ⌜ (length (now present) ≡ 64) × (length (now follow) ≡ 4096) ⌝ }
     ensures { λ _. ⌜ Adds (KernelBefore (now (m .entry)) (now (kernels .entry)) lines q) (now (present .entry)) (now (present .exit)) ⌝ }
@@ -153,12 +123,12 @@ fn add_kernel(
 {
     let mut l = 0;
     while l < lines {
-        if state_of(kernels, lines, l) != q {
+        if kernel_lines::state_of(kernels, lines, items, l) != q {
             l += 1;
             continue;
         }
-        let i = item_of(kernels, lines, l);
-        let k = dot_of(kernels, lines, l);
+        let i = kernel_lines::item_of(kernels, lines, items, l);
+        let k = kernel_lines::dot_of(kernels, lines, items, l);
         add_item(
             m,
             items,
@@ -332,8 +302,8 @@ pub fn close_state(
 )
     requires { ⌜ Shaped (now m) items ⌝ }
     requires { ⌜ (rules ≤ items) × (rules ≤ 127) × (codes ≤ 64) ⌝ }
-    requires { ⌜ (lines * 4 ≤ length (now kernels)) × (lines * 64 ≤ length (now lookaheads)) ⌝ }
-    requires { ⌜ ((l : ℕ) → l < lines → itemAt (now kernels) l ≤ items) ⌝ }
+    requires { ⌜ Lines (now kernels) lines items ⌝ }
+    requires { ⌜ lines * 64 ≤ length (now lookaheads) ⌝ }
     requires { ⌜ (length (now nul) ≡ 128) × (length (now fst) ≡ 8192) × (length (now starts) ≡ 8192) × (length (now through) ≡ 128) ⌝ }
     requires { ⌜ Prepared (now m) (rules + 1) codes (now nul) (now fst) (now starts) (now through) ⌝ }
     requires { ⌜ (length (now present) ≡ 64) × (length (now follow) ≡ 4096) ⌝ }

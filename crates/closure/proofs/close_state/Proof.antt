@@ -21,8 +21,8 @@ add-kernel-requires c κs = let c1 = c .before .before .before .before in
     let n = p .1 .1 .1 .1 .0 in (
       p .0,
       (
-        (p .1 .1 .0 .0, p .1 .1 .0 .1, p .1 .0 .2),
-        (p .1 .1 .1 .0, ((n .0, n .1), (zeroed (c2 .clear .ensures) (start .pre .1 .1 .1 .1 .1 .1 .0), zeroed (c1 .clear2 .ensures) (start .pre .1 .1 .1 .1 .1 .1 .1)))),
+        p .1 .1 .0,
+        ((p .1 .1 .1 .0, p .1 .0 .2), ((n .0, n .1), (zeroed (c2 .clear .ensures) (start .pre .1 .1 .1 .1 .1 .1 .0), zeroed (c1 .clear2 .ensures) (start .pre .1 .1 .1 .1 .1 .1 .1)))),
       ),
     )
 

@@ -21,7 +21,7 @@ slice-aggregate-close-state-2 : tie.Need-slice-aggregate-close-state-2
 slice-aggregate-close-state-2 c = search needs
 
 close-state-requires : tie.Need-close-state-requires
-close-state-requires c κs = let S = c .before .before .before .before .before .before .before .before .before .before .before .before .before .before .before .before .before .pre .0 in let C = c .before .before .before .before .before .before .before .before .before .before .before .before .before .before .before .before .before .pre .1 .0 in let low = c .before .before .before .before .before .before .before .before .before .before .before .before .before .before .before .before .before .pre .1 .1 .2 in (S .shaped, ((within _ _, S .few-rules, C .few-codes), ((S .some-lines .room, S .codes-room), (S .some-lines .item-low, ((C .nul-room, C .fst-room, C .starts-room, C .through-room), (C .prepared, (refl, refl)))))))
+close-state-requires c κs = let S = c .before .before .before .before .before .before .before .before .before .before .before .before .before .before .before .before .before .pre .0 in let C = c .before .before .before .before .before .before .before .before .before .before .before .before .before .before .before .before .before .pre .1 .0 in let low = c .before .before .before .before .before .before .before .before .before .before .before .before .before .before .before .before .before .pre .1 .1 .2 in (S .shaped, ((within _ _, S .few-rules, C .few-codes), (S .some-lines, (S .codes-room, ((C .nul-room, C .fst-room, C .starts-room, C .through-room), (C .prepared, (refl, refl)))))))
 
 slice-aggregate-flag-moves : tie.Need-slice-aggregate-flag-moves
 slice-aggregate-flag-moves c = search needs

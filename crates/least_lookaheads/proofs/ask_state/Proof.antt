@@ -15,9 +15,9 @@ close-state-requires c κs = let p = c .before .before .before .before .before .
       (
         (p .0 .rules-within, p .0 .few-rules, p .0 .ready .few-codes),
         (
-          (s .room, p .1 .1 .1 .1 .1),
+          s,
           (
-            s .item-low,
+            p .1 .1 .1 .1 .1,
             ((p .0 .ready .nul-room, p .0 .ready .fst-room, p .1 .1 .0 .0, p .1 .1 .0 .1), (p .1 .1 .1 .0, search needs)),
           ),
         ),

@@ -17,7 +17,7 @@ slice-aggregate-close-state-2 c = search needs
 
 close-state-requires : tie.Need-close-state-requires
 close-state-requires c κs = let s = c .before .before .before .before .before .before .before .before .before .before .before in let Z = s .pre .0 in let Y = Z .lined in
-    (Y .shaped, ((omega arith, Z .few-rules, Z .few-codes), ((Y .some-lines .room, Z .codes-room), (Y .some-lines .item-low, ((Z .nul-room, Z .fst-room, Z .starts-room, Z .through-room), (Z .prepared, (refl, refl)))))))
+    (Y .shaped, ((omega arith, Z .few-rules, Z .few-codes), (Y .some-lines, (Z .codes-room, ((Z .nul-room, Z .fst-room, Z .starts-room, Z .through-room), (Z .prepared, (refl, refl)))))))
 
 slice-aggregate-flag-moves : tie.Need-slice-aggregate-flag-moves
 slice-aggregate-flag-moves c = search needs
