@@ -19,7 +19,7 @@ loop-holds : tie.Need-loop-holds Inv-loop μ-loop
 loop-holds c = (omega arith, lines-none _ _ _ _, lines-none _ _ _ _)
 
 state-of-requires : tie.Need-state-of-requires Inv-loop μ-loop
-state-of-requires c κs = (c@pre .1 .0, c@loop-test .taken)
+state-of-requires c κs = (c .before .before .before .before .before .before .before .before .before .pre .1 .0, c .loop-test .taken)
 
 add-l : tie.Need-add-l Inv-loop μ-loop
 add-l c = search needs
@@ -32,10 +32,10 @@ loop-again c = let v = c .before .before .before .loop .inv in
     (omega arith, lines-skip _ _ _ _ (λ e. c .if1 .taken (c .before .state-of .ensures .0 ∙ e)) (v .1), lines-skip _ _ _ _ (λ e. c .if1 .taken (c .before .state-of .ensures .0 ∙ e)) (v .2))
 
 item-of-requires : tie.Need-item-of-requires Inv-loop μ-loop
-item-of-requires c κs = (c@pre .1 .0, c@loop-test .taken)
+item-of-requires c κs = (c .before .before .before .before .before .before .before .before .before .before .before .pre .1 .0, c .before .before .loop-test .taken)
 
 dot-of-requires : tie.Need-dot-of-requires Inv-loop μ-loop
-dot-of-requires c κs = (c@pre .1 .0, c@loop-test .taken)
+dot-of-requires c κs = (c .before .before .before .before .before .before .before .before .before .before .before .before .pre .1 .0, c .before .before .before .loop-test .taken)
 
 mul-add-item : tie.Need-mul-add-item Inv-loop μ-loop
 mul-add-item c = search needs

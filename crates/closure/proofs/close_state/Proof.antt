@@ -66,7 +66,7 @@ returns c = let c1 = c .before .before .before .before .before .before .before i
     let c4 = c3 .before .before .before .before in
     let start = c4 .before .before .before .before .before .before .before .before .before .before .before in
     λ g t H. let p = start .pre in
-    holds-closure _ _ _ _ _ _ _ _ _ _ _ _ (p .0) (p .1 .1 .1 .0) (p .1 .0 .0) (p .1 .0 .2) g t H (p .1 .1 .1 .1 .1 .0)
+    holds-closure _ _ _ _ _ _ _ _ _ _ _ _ (p .0) (p .1 .1 .0 .item-low) (p .1 .0 .0) (p .1 .0 .2) g t H (p .1 .1 .1 .1 .1 .0)
     (marks-least (adds-marks (length (start .args .present .now)) (c4 .clear .ensures) (c2 .add-kernel .ensures .0)) (c1 .close-present .ensures))
     (marks-least (adds-marks (length (start .args .follow .now)) (c3 .clear2 .ensures) (c2 .add-kernel .ensures .1)) (c .before .before .close-follow .ensures))
 
