@@ -1,18 +1,18 @@
 -- What the builder promises of every grammar book. `buildOf` (builder/specs/Build.antt) is what `build_tables` answers, reply and slice, for all
 -- bytes; here is what it says of any book that is read as a grammar, for every length of the slice that is lent. Other books it
 -- refuses as `grammarOf` does.
-use Prim.Native.Nat.{ℕ, zero, suc, _-_, _≤_, _<_}
+use Prim.Native.Nat.{ℕ, zero, _-_, _≤_, _<_}
 use native.Mathlib.Omega.{arith}
 use mathlib.Core.Path.{_≡_, sym, ap, subst, _∙_}
-use mathlib.Core.Logic.{_⊎_, inl, inr}
-use mathlib.Core.List.{List, _++_}
+use mathlib.Core.Logic.{_⊎_}
+use mathlib.Core.List.{List, [], _∷_, _++_}
 use mathlib.Core.Option.{some}
 use lib.ListN.{length, replicate}
 use Rattle.language.specs.Grammar.{Grammar}
 use Rattle.language.specs.Sentence.{In}
 use Rattle.language.specs.First.{First}
 use Rattle.leftcorner.specs.Table.{Action, Table, nextState}
-use Rattle.leftcorner.specs.Construction.{entryItem, EntryAt, KernelAt, ActionAt, MovedBy, Asked, LookaheadsMeet}
+use Rattle.leftcorner.specs.Construction.{EntryAt, KernelAt, ActionAt, Asked, EntriesMeet, LookaheadsMeet}
 use Rattle.leftcorner.specs.Claim.{_↔_}
 use Rattle.reply.specs.declared.Kind.the-variants.{LimitExceeded, Conflict, BufferTooSmall}
 use Rattle.reply.specs.declared.Reply.{Reply}
@@ -27,11 +27,13 @@ use Rattle.lalr.specs.Lookaheads.{Lookahead}
 use Rattle.lalr.specs.Text.{tableText}
 use Rattle.lalr.specs.BuiltForm.{states-both}
 use Rattle.lalr.specs.Conflicts as conflicts
-use Rattle.lalr.specs.BookLaws.{Within, limits}
+use Rattle.lalr.specs.BookLaws.{limits}
 use Rattle.lalr.specs.Builder.{terminalCodes, first-in, builderTable, builderReply}
 use Rattle.checker.specs.Checked.{verdictOf}
 use Rattle.builder.specs.Build.{buildFrom, buildOf}
 use Rattle.builder.specs.Accepted.{writes-accepted}
+use Rattle.builder_promise.specs.Kernels.{entry, Dotted, dot, Reached, TooMany, WithinLimits, KernelIs}
+use Rattle.builder_promise.specs.ManyLaws.{kept}
 use Rattle.builder_promise.specs.PromiseLaws as laws
 use Rattle.builder_promise.specs.ReplyLaws as reply
 
@@ -50,11 +52,6 @@ module _ (g : Grammar) where
   -- item i with dot k stands in the kernel set of state q
   abbrev pub InKernel : ℕ → ℕ → ℕ → Type 0
   InKernel q i k = (σ : List ℕ) × KernelAt g table q i k σ
-
-  -- the kernel set of state q is an entry's one item, or what moves past X from a state that is reached
-  pub data Reached : ℕ → Type 0 where
-    from-entry : {q : ℕ} (e : ℕ) {γ : List ℕ} → EntryAt g table e q γ → ((i k : ℕ) → InKernel q i k ↔ ((i ≡ entryItem g table e) × (k ≡ zero))) → Reached q
-    from-move : {p q X i k : ℕ} → Reached p → MovedBy g table p X i k → ((j n : ℕ) → InKernel q j n ↔ MovedBy g table p X j n) → Reached q
 
   -- a table with these entries, kernel sets and moves, of whatever contexts
   pub record HasStates (v : Table) : Type 0 where
@@ -87,27 +84,31 @@ module _ (g : Grammar) where
     -- and whatever contexts of the same states do hold these
     pub least : (v : Table) → HasStates v → ((q : ℕ) → LookaheadsMeet g v (First g) q) → (q i k d : ℕ) (σ τ : List ℕ)
         → KernelAt g table q i k σ → KernelAt g v q i k τ → In d σ → In d τ
-    -- "every state's kernel set is reached"
-    pub reached : (q : ℕ) → IsState q → Reached q
+    -- the entry lines are "the goal alone, then every other distinct group once", and each names the state that has its one item
+    pub entries : EntriesMeet g table
+    pub entry-states : (e s : ℕ) (γ : List ℕ) → EntryAt g table e s γ → KernelIs g table s (dot (entry γ) zero ∷ [])
+    -- "every state's kernel set is reached" (`Kernels.antt`), and every one that is reached is a state's
+    pub reached : (q : ℕ) → IsState q → (K : List Dotted) × Reached g K × KernelIs g table q K
+    pub every-reached : (K : List Dotted) → Reached g K → (q : ℕ) × IsState q × KernelIs g table q K
     -- "no two states have the same kernel set"
     pub distinct : (p q : ℕ) → IsState p → IsState q → ((i k : ℕ) → InKernel p i k ↔ InKernel q i k) → p ≡ q
 
 pub record Promise (gs : List ℕ) (g : Grammar) : Type 0 where
-  -- where there are no more entries, states and kernel lines than a book may have (`Within`)
-  pub construction : Within g → Construction g
+  -- where there are no more entries, states and kernel lines than a book may have (`Kernels.antt`)
+  pub construction : WithinLimits g → Construction g
   -- "it refuses 9 exactly where some cell of that construction would hold two different actions, at the lowest such state"
-  pub refuses-conflict : (room q : ℕ) → (buildOf gs room .reply ≡ refused Conflict q) ↔ (Within g × LowestConflict g q)
+  pub refuses-conflict : (room q : ℕ) → (buildOf gs room .reply ≡ refused Conflict q) ↔ (WithinLimits g × LowestConflict g q)
   -- "a book that it writes": the table's, followed by zeros
   pub book-written : (room : ℕ) → buildOf gs room .reply ≡ Accepted 0 → buildOf gs room .slice ≡ text g ++ replicate (room - length (text g)) 0
   -- "is accepted": the checker replies 0 to it
   pub book-accepted : (room : ℕ) → buildOf gs room .reply ≡ Accepted 0 → verdictOf gs (text g) ≡ Accepted 0
   -- "within the limits it refuses nothing else", where the book fits what is lent
-  pub writes : (room : ℕ) → (buildOf gs room .reply ≡ Accepted 0) ↔ (Within g × NoConflict g × (length (text g) ≤ 65536) × (length (text g) ≤ room))
+  pub writes : (room : ℕ) → (buildOf gs room .reply ≡ Accepted 0) ↔ (WithinLimits g × NoConflict g × (length (text g) ≤ 65536) × (length (text g) ≤ room))
   -- 2: more entries, states or kernel lines than a book may have, or, with no conflict, more bytes
-  pub refuses-many : (room : ℕ) → (buildOf gs room .reply ≡ refused LimitExceeded 0) ↔ ((Within g → ⊥) ⊎ (Within g × NoConflict g × (65536 < length (text g))))
+  pub refuses-many : (room : ℕ) → (buildOf gs room .reply ≡ refused LimitExceeded 0) ↔ (TooMany g ⊎ (WithinLimits g × NoConflict g × (65536 < length (text g))))
   -- 11: all is well but the room that is lent
   pub refuses-short : (room : ℕ)
-      → (buildOf gs room .reply ≡ refused BufferTooSmall 0) ↔ (Within g × NoConflict g × (length (text g) ≤ 65536) × (room < length (text g)))
+      → (buildOf gs room .reply ≡ refused BufferTooSmall 0) ↔ (WithinLimits g × NoConflict g × (length (text g) ≤ 65536) × (room < length (text g)))
 
 -- ---- the proof
 
@@ -138,24 +139,19 @@ module _ (g : Grammar) (R : Reduced g) where
   unfolding builderTable
   as-many = states-both g (FirstByRules g) (first? g) (terminalCodes g) (first-in g)
 
-  all-reached : Within g → (n q : ℕ) → q ≤ n → IsState g q → Reached g q
+  constructed : WithinLimits g → Construction g
   unfolding builderTable
-  all-reached w zero q l s = absurd (omega (arith, l, s .0))
-  all-reached w (suc n) q l s = go (laws.origin g R (limits g (R .formed) w) q (s .0) (omega (arith, s .1, as-many))) (all-reached w n)
-    where
-      go : ((γ : List ℕ) × EntryAt g (builderTable g) q q γ) ⊎ laws.MovedFrom g R (limits g (R .formed) w) q → ((p : ℕ) → p ≤ n → IsState g p → Reached g p) → Reached g q
-      go (inl e) rec = from-entry q (e .1) (laws.entry-items g R (limits g (R .formed) w) q (e .0) (e .1))
-      go (inr m) rec = from-move (rec (m .from) (omega (arith, m .earlier, l)) (m .low, omega (arith, m .earlier, s .1))) (m .moves) (m .kernel)
-
-  constructed : Within g → Construction g
-  unfolding builderTable
-  constructed w =
+  constructed few =
+      let w = kept g (R .formed) few in
       let L = limits g (R .formed) w in
       record {
         contexts = laws.contexts g R L;
         inclusions = laws.inclusions g R L;
         least = λ v h. laws.least g R L v (h .entries) (λ q i k σ m. h .kernels q i k (σ, m)) (h .moves);
-        reached = λ q s. all-reached w q q (omega arith) s;
+        entries = laws.meets g R;
+        entry-states = laws.entry-states g R;
+        reached = λ q s. laws.reached g R w q (s .0) (omega (arith, s .1, as-many));
+        every-reached = λ K r. let s = laws.every-reached g R w K r in (s .0, (s .1, omega (arith, s .2, as-many)), s .3);
         distinct = λ p q l m. laws.one-state g R p q (l .0) (omega (arith, l .1, as-many)) (m .0) (omega (arith, m .1, as-many));
       }
 

@@ -1,39 +1,45 @@
 -- What the builder's promises of its table rest on: the contexts told with `First`, the states told by their lines.
-use Prim.Native.Nat.{ℕ, zero, suc, _≤_, _<_}
+use Prim.Native.Nat.{ℕ, zero, suc, _-_, _≤_, _<_}
 use native.Mathlib.Omega.{arith}
-use mathlib.Core.Path.{_≡_, refl, sym, ap, subst, _∙_}
-use mathlib.Core.Logic.{_⊎_, inl, inr}
-use mathlib.Core.List.{List}
-use mathlib.Core.Option.{some}
+use mathlib.Core.Path.{_≡_, refl, sym, ap, ap₂, subst, _∙_}
+use mathlib.Core.Bool.{cond}
+use mathlib.Core.List.{List, [], _∷_}
+use mathlib.Core.Option.{Option, some}
+use lib.Dec.{leb}
 use lib.ListN.{length}
 use Rattle.language.specs.Grammar.{Grammar, concat}
 use Rattle.language.specs.Sentence.{In, Declared}
 use Rattle.language.specs.First.{First}
+use Rattle.language.specs.Member.{in-map}
 use Rattle.language.specs.Strings.{AllDeclared, later-declared}
-use Rattle.leftcorner.specs.Table.{Action, Table, nextState}
-use Rattle.leftcorner.specs.Construction.{entryItem, EntryAt, KernelAt, ActionAt, in-kernel, MovedBy, Asked, to-move, EntriesMeet, LookaheadsMeet}
+use Rattle.leftcorner.specs.Table.{EntryLine, E, Action, Table, stringOf, nextState}
+use Rattle.leftcorner.specs.Construction.{EntryAt, KernelAt, ActionAt, in-kernel, Asked, EntriesMeet, LookaheadsMeet}
 use Rattle.leftcorner.specs.Claim.{_↔_}
 use Rattle.leftcorner.specs.ItemStrings.{rest-declared}
 use Rattle.leftcorner.specs.Swap.{flip, asked-over, lookaheads-over}
+use Rattle.verdict.specs.Closure.{image-in}
 use Rattle.analysis.specs.ByRules.{FirstByRules}
 use Rattle.analysis.specs.Decided.{first?}
 use Rattle.grammar.proofs.GrammarLaws.{Reduced}
-use Rattle.lalr.specs.Strings.{entryStrings}
-use Rattle.lalr.specs.EntryLaws.{entries-meet}
+use Rattle.lalr.specs.EntryLaws.{entry-line, entries-meet}
 use Rattle.lalr.specs.States.{Kernel, itemOf, dotOf, find, states, kernelOf}
 use Rattle.lalr.specs.Lists.{rising-same}
 use Rattle.lalr.specs.Discovery.{find-at}
 use Rattle.lalr.specs.Limits.{Limits, declared}
-use Rattle.lalr.specs.MoveLaws.{move-only}
-use Rattle.lalr.specs.StateLaws.{states-distinct, Reached, entry-or, kernels-rising}
+use Rattle.lalr.specs.Over.{entry-over}
+use Rattle.lalr.specs.StateLaws.{more-states, states-distinct, kernels-rising}
 use Rattle.lalr.specs.Lookaheads.{bare, Lookahead, of-goal, of-closure, of-move, of-group}
-use Rattle.lalr.specs.LineLaws.{itemTable, codes, of-line, alone-moved}
+use Rattle.lalr.specs.LineLaws.{itemTable, codes, of-line}
 use Rattle.lalr.specs.Carried.{looked, on-line}
-use Rattle.lalr.specs.CellLaws.{goesTo, move-next, cell-move}
-use Rattle.lalr.specs.BuiltForm.{entry-of, fullTable, built-entries, to-built, from-built, asked-built, built-asked, built-line, is-action, asked-place}
-use Rattle.lalr.specs.MeetsBuilt.{from-items, built-items, built-lookaheads}
+use Rattle.lalr.specs.BuiltForm.{fullTable, built-entries, to-built, from-built, asked-built, built-asked, built-line}
+use Rattle.lalr.specs.MeetsBuilt.{built-lookaheads}
+use Rattle.lalr.specs.BookLaws.{Within}
 use Rattle.lalr.specs.Least as smallest
 use Rattle.lalr.specs.Builder.{terminalCodes, first-in, codes-low, same-first}
+use Rattle.builder_promise.specs.Kernels.{Item, rule, entry, Dotted, dot, Reached, itemAt, KernelIs}
+use Rattle.builder_promise.specs.KernelLaws.{source, dotted}
+use Rattle.builder_promise.specs.KernelLaws as kernels
+use Rattle.builder_promise.specs.ManyLaws.{entry-items, state-reached, stands}
 
 -- a first that says more of declared strings gives more
 module _ (g : Grammar) (D : Declared g) (F G : List ℕ → ℕ → ℕ → Type 0) (up : (β : List ℕ) → AllDeclared g β → (d c : ℕ) → F β d c → G β d c) where
@@ -67,7 +73,7 @@ module _ (g : Grammar) (R : Reduced g) where
 
   -- ---- what is asked of a cell
 
-  meets : EntriesMeet g u
+  pub meets : EntriesMeet g u
   meets = entries-meet g u (built-entries g F (first? g) (terminalCodes g) (first-in g))
 
   pub asked-same : {q X : ℕ} {x : Action} → Asked g t F q X x ↔ Asked g u (First g) q X x
@@ -102,58 +108,56 @@ module _ (g : Grammar) (R : Reduced g) where
           (to-built g F (first? g) (terminalCodes g) (first-in g) q i k (x .0) (x .1)) h (x .2);
     }
 
-    -- ---- the states
+  -- ---- the states
 
-    -- state q has the items that move from an earlier one
-    pub record MovedFrom (q : ℕ) : Type 0 where
-      pub from : ℕ
-      pub symbol : ℕ
-      pub low : 1 ≤ from
-      pub earlier : from < q
-      pub item : ℕ
-      pub dot : ℕ
-      pub moves : MovedBy g u from symbol item dot
-      pub kernel : (i k : ℕ) → InKernel q i k ↔ MovedBy g u from symbol i k
+  same-item : (i : ℕ) → itemAt g u i ≡ source g i
+  same-item i =
+      ap (λ (o : Option EntryLine). cond (leb i (length (g .rules))) (rule i) (entry (stringOf o)))
+      (entry-over g u (bare g) (built-entries g F (first? g) (terminalCodes g) (first-in g)) (i - length (g .rules)))
 
-    moved-from : (q : ℕ) → q ≤ length (states g) → Reached g q → MovedFrom q
-    moved-from q h r =
-        let p = r .from in
-        let X = r .symbol in
-        let x = r .some-item .0 in
-        let hp : p ≤ length (states g) = omega (arith, r .earlier, h) in
-        let m = alone-moved g F (first? g) (terminalCodes g) (first-in g) (r .low) hp (move-only g (kernelOf g p) X x (r .some-item .1)) in
-        let v = from-items g F (first? g) (terminalCodes g) (first-in g) L (codes-low g) m in
-        let y = goesTo g F (first? g) (terminalCodes g) (first-in g) p X in
-        let a = is-action g F (first? g) (terminalCodes g) (first-in g) p X y (r .low) hp (asked-place g F (first? g) (terminalCodes g) (first-in g) L (codes-low g) (to-move m) .2)
-        (cell-move g F (first? g) (terminalCodes g) (first-in g) p X (to-move m)) in
-        let n = move-next g F (first? g) (terminalCodes g) (first-in g) p X ∙ ap (λ (z : ℕ). some z) (r .back) in
-        let I = built-items g F (first? g) (terminalCodes g) (first-in g) L (codes-low g) p in
-        record {
-          from = p;
-          symbol = X;
-          low = r .low;
-          earlier = r .earlier;
-          item = itemOf x;
-          dot = dotOf x;
-          moves = v;
-          kernel = λ i k. record { to = λ s. I .move-only X q (itemOf x) (dotOf x) y a n v i k (s .0) (s .1); from = λ s. I .move-has X q i k y a n s };
-        }
+  kernel-is : (q : ℕ) → 1 ≤ q → q ≤ length (states g) → KernelIs g u q (kernels.items g (kernelOf g q))
+  kernel-is q l h a = record { to = to; from = from }
+    where
+      Line : Type 0
+      Line = (i : ℕ) × (k : ℕ) × (σ : List ℕ) × KernelAt g u q i k σ × (a ≡ dot (itemAt g u i) k)
 
-    -- "Entry k's state [..] has the one kernel item r+k, dot 0"
-    pub entry-items : (q : ℕ) (γ : List ℕ) → EntryAt g u q q γ → (i k : ℕ) → InKernel q i k ↔ ((i ≡ entryItem g u q) × (k ≡ zero))
-    entry-items q γ e i k =
-        let I = built-items g F (first? g) (terminalCodes g) (first-in g) L (codes-low g) q in
-        record {
-          to = λ s. I .entry-only q γ e i k (s .0) (s .1);
-          from = λ h. subst (λ (j : ℕ). InKernel q j k) (sym (h .0)) (subst (InKernel q (entryItem g u q)) (sym (h .1)) (I .entry-has q γ e));
-        }
+      to : In a (kernels.items g (kernelOf g q)) → Line
+      to m =
+          let r = in-map (dotted g) (kernelOf g q) m in
+          let x = r .0 in
+          let c = codes g F (first? g) (terminalCodes g) (first-in g) q x in (
+            itemOf x,
+            dotOf x,
+            c,
+            to-built g F (first? g) (terminalCodes g) (first-in g) q (itemOf x) (dotOf x) c (of-line g F (first? g) (terminalCodes g) (first-in g) q x l h (r .1)),
+            r .2 ∙ ap (λ (ι : Item). dot ι (dotOf x)) (sym (same-item (itemOf x))),
+          )
 
-    pub origin : (q : ℕ) → 1 ≤ q → q ≤ length (states g) → ((γ : List ℕ) × EntryAt g u q q γ) ⊎ MovedFrom q
-    origin q l h = go (entry-or g q h)
-      where
-        go : (q ≤ length (entryStrings g)) ⊎ Reached g q → ((γ : List ℕ) × EntryAt g u q q γ) ⊎ MovedFrom q
-        go (inl e) = inl (entry-of g L u (built-entries g F (first? g) (terminalCodes g) (first-in g)) q l e)
-        go (inr r) = inr (moved-from q h r)
+      from : Line → In a (kernels.items g (kernelOf g q))
+      from r =
+          let w = built-line g F (first? g) (terminalCodes g) (first-in g) q (r .0) (r .1) (r .2) (r .3) in
+          subst (λ (b : Dotted). In b (kernels.items g (kernelOf g q)))
+          (sym (r .4 ∙ ap (λ (ι : Item). dot ι (r .1)) (same-item (r .0)) ∙ ap₂ (λ (i k : ℕ). dot (source g i) k) (w .item) (w .dot)))
+          (image-in (dotted g) (w .number) (kernelOf g q) (w .stands))
+
+  -- "Entry k's state, named by its line, has the one kernel item r+k, dot 0."
+  pub entry-states : (e s : ℕ) (γ : List ℕ) → EntryAt g u e s γ → KernelIs g u s (dot (entry γ) zero ∷ [])
+  entry-states e s γ h =
+      let z = built-entries g F (first? g) (terminalCodes g) (first-in g) in
+      let l = entry-line g u z e h in
+      let b : EntryAt g (bare g) e e γ = sym (entry-over g u (bare g) z e) ∙ h ∙ ap (λ (n : ℕ). some (E n γ)) (l .0) in
+      subst (λ (n : ℕ). KernelIs g u n (dot (entry γ) zero ∷ [])) (sym (l .0))
+      (subst (KernelIs g u e) (entry-items g e b) (kernel-is e (l .1) (omega (arith, l .2, more-states g))))
+
+  module _ (w : Within g) where
+    pub reached : (q : ℕ) → 1 ≤ q → q ≤ length (states g) → (K : List Dotted) × Reached g K × KernelIs g u q K
+    reached q l h = (kernels.items g (kernelOf g q), state-reached g (R .formed) (w .few-entries) q q (omega arith) l h, kernel-is q l h)
+
+    pub every-reached : (K : List Dotted) → Reached g K → (q : ℕ) × (1 ≤ q) × (q ≤ length (states g)) × KernelIs g u q K
+    every-reached K r =
+        let s = stands g (R .formed) w r in
+        let k = kernel-is (s .state) (s .low) (s .high) in
+        (s .state, s .low, s .high, λ a. record { to = λ m. k a .to (s .same a .to m); from = λ m. s .same a .from (k a .from m) })
 
   among : (p q : ℕ) → 1 ≤ p → p ≤ length (states g) → ((i k : ℕ) → InKernel p i k → InKernel q i k) → (x : ℕ) → In x (kernelOf g p) → In x (kernelOf g q)
   among p q l h f x m =

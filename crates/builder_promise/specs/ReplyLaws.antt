@@ -18,12 +18,11 @@ use Rattle.reply.specs.Reply.{numberOf, placeOf}
 use Rattle.reply.specs.declared.Kind.the-variants.{LimitExceeded, Conflict, BufferTooSmall}
 use Rattle.reply.specs.declared.Reply.{Reply}
 use Rattle.reply.specs.declared.Reply.the-variants.{Accepted}
-use Rattle.verdict.specs.Tests.{map-dec, both?}
+use Rattle.verdict.specs.Tests.{map-dec}
 use Rattle.verdict.specs.Verdict.{refused}
 use Rattle.analysis.specs.ByRules.{FirstByRules}
 use Rattle.analysis.specs.Decided.{first?}
-use Rattle.lalr.specs.Strings.{entryStrings}
-use Rattle.lalr.specs.States.{total, states}
+use Rattle.lalr.specs.States.{states}
 use Rattle.lalr.specs.LineLaws.{itemTable}
 use Rattle.lalr.specs.BuiltForm.{asked-place}
 use Rattle.lalr.specs.Conflicts.{TwoActions, two-actions?, agree-where, no-agreement}
@@ -31,13 +30,11 @@ use Rattle.lalr.specs.Text.{tableText}
 use Rattle.lalr.specs.Book.{textReply}
 use Rattle.lalr.specs.BookLaws.{Within, limits}
 use Rattle.lalr.specs.Builder.{terminalCodes, first-in, codes-low, builderTable, builderReply, table-text, replies-many, replies-conflict, replies-text}
+use Rattle.builder_promise.specs.Kernels.{TooMany, WithinLimits}
+use Rattle.builder_promise.specs.ManyLaws.{within?, too-many, kept, not-many}
 
 differ : {A : Type 0} {r s : Reply} → r ≡ s → (numberOf r ≡ numberOf s → ⊥) → A
 differ e f = absurd (f (ap numberOf e))
-
-within? : (g : Grammar) → Dec (Within g)
-within? g = map-dec (λ h. record { few-entries = h .0; few-states = h .1 .0; few-lines = h .1 .1 }) (λ w. (w .few-entries, (w .few-states, w .few-lines)))
-    (both? (decLe (length (entryStrings g)) 127) (both? (decLe (length (states g)) 255) (decLe (total (states g)) 1023)))
 
 -- the reply to a text, by its length
 text-replied : (text : List ℕ) (room : ℕ) (Φ : Reply → Type 0) → (65536 < length text → Φ (refused LimitExceeded 0))
@@ -96,34 +93,34 @@ module _ (g : Grammar) (W : grammar.WellFormed g) (Clash : ℕ → Type 0)
   text-replies room w f = replies-text g room w (λ q. agree q (f q)) ∙ ap (λ (l : List ℕ). textReply l room) (sym (table-text g))
 
   -- the reply, by all that it depends on
-  replied : (room : ℕ) (Φ : Reply → Type 0) → ((Within g → ⊥) → Φ (refused LimitExceeded 0)) → ((q : ℕ) → Within g → Lowest q → Φ (refused Conflict q))
-      → (Within g → None → 65536 < length text → Φ (refused LimitExceeded 0)) → (Within g → None → length text ≤ 65536 → room < length text → Φ (refused BufferTooSmall 0))
-      → (Within g → None → length text ≤ 65536 → length text ≤ room → Φ (Accepted 0)) → Φ (builderReply g room)
+  replied : (room : ℕ) (Φ : Reply → Type 0) → (TooMany g → Φ (refused LimitExceeded 0)) → ((q : ℕ) → WithinLimits g → Lowest q → Φ (refused Conflict q))
+      → (WithinLimits g → None → 65536 < length text → Φ (refused LimitExceeded 0)) → (WithinLimits g → None → length text ≤ 65536 → room < length text → Φ (refused BufferTooSmall 0))
+      → (WithinLimits g → None → length text ≤ 65536 → length text ≤ room → Φ (Accepted 0)) → Φ (builderReply g room)
   replied room Φ many conflict long short fits = go (within? g)
     where
       by-lowest : (w : Within g) → ((q : ℕ) × Lowest q) ⊎ ((q : ℕ) → q < suc (length (states g)) → Clash q → ⊥) → Φ (builderReply g room)
-      by-lowest w (inl h) = subst Φ (sym (conflict-replies room (h .0) w (h .1))) (conflict (h .0) w (h .1))
+      by-lowest w (inl h) = subst Φ (sym (conflict-replies room (h .0) w (h .1))) (conflict (h .0) (not-many g W w) (h .1))
       by-lowest w (inr f) =
           let n : None = λ q c. f q (omega (arith, clash-state w q c)) c in
-          subst Φ (sym (text-replies room w n)) (text-replied text room Φ (long w n) (short w n) (fits w n))
+          subst Φ (sym (text-replies room w n)) (text-replied text room Φ (long (not-many g W w) n) (short (not-many g W w) n) (fits (not-many g W w) n))
 
       go : Dec (Within g) → Φ (builderReply g room)
-      go (no f) = subst Φ (sym (replies-many g room f)) (many f)
+      go (no f) = subst Φ (sym (replies-many g room f)) (many (too-many g W f))
       go (yes w) = by-lowest w (lowest-below w (suc (length (states g))))
 
   -- ---- each reply
 
   -- "then 9": at the lowest state that has a clash
-  pub refuses-conflict : (room q : ℕ) → (builderReply g room ≡ refused Conflict q) ↔ (Within g × Lowest q)
+  pub refuses-conflict : (room q : ℕ) → (builderReply g room ≡ refused Conflict q) ↔ (WithinLimits g × Lowest q)
   refuses-conflict room q = record {
-    to = replied room (λ (r : Reply). r ≡ refused Conflict q → Within g × Lowest q)
+    to = replied room (λ (r : Reply). r ≡ refused Conflict q → WithinLimits g × Lowest q)
         (λ _ e. differ e (λ n. omega (arith, n))) (λ p w c e. (w, subst Lowest (ap placeOf e) c))
         (λ _ _ _ e. differ e (λ n. omega (arith, n))) (λ _ _ _ _ e. differ e (λ n. omega (arith, n))) (λ _ _ _ _ e. differ e (λ n. omega (arith, n)));
-    from = λ h. conflict-replies room q (h .0) (h .1);
+    from = λ h. conflict-replies room q (kept g W (h .0)) (h .1);
   }
 
   abbrev Many : Type 0
-  Many = (Within g → ⊥) ⊎ (Within g × None × (65536 < length text))
+  Many = TooMany g ⊎ (WithinLimits g × None × (65536 < length text))
 
   -- "2 for entries, states and kernel lines", and "then 2 for the book's bytes"
   pub refuses-many : (room : ℕ) → (builderReply g room ≡ refused LimitExceeded 0) ↔ Many
@@ -135,23 +132,23 @@ module _ (g : Grammar) (W : grammar.WellFormed g) (Clash : ℕ → Type 0)
   }
     where
       from : Many → builderReply g room ≡ refused LimitExceeded 0
-      from (inl f) = replies-many g room f
-      from (inr h) = text-replies room (h .0) (h .1) ∙ simp (lt-ltb 65536 (length text) (h .2))
+      from (inl m) = replies-many g room (λ w. not-many g W w m)
+      from (inr h) = text-replies room (kept g W (h .0)) (h .1) ∙ simp (lt-ltb 65536 (length text) (h .2))
 
   -- "then 11"
-  pub refuses-short : (room : ℕ) → (builderReply g room ≡ refused BufferTooSmall 0) ↔ (Within g × None × (length text ≤ 65536) × (room < length text))
+  pub refuses-short : (room : ℕ) → (builderReply g room ≡ refused BufferTooSmall 0) ↔ (WithinLimits g × None × (length text ≤ 65536) × (room < length text))
   refuses-short room = record {
-    to = replied room (λ (r : Reply). r ≡ refused BufferTooSmall 0 → Within g × None × (length text ≤ 65536) × (room < length text))
+    to = replied room (λ (r : Reply). r ≡ refused BufferTooSmall 0 → WithinLimits g × None × (length text ≤ 65536) × (room < length text))
         (λ _ e. differ e (λ n. omega (arith, n))) (λ _ _ _ e. differ e (λ n. omega (arith, n))) (λ _ _ _ e. differ e (λ n. omega (arith, n)))
         (λ w f l s _. (w, f, l, s)) (λ _ _ _ _ e. differ e (λ n. omega (arith, n)));
-    from = λ h. text-replies room (h .0) (h .1) ∙ simp (le-ltb 65536 (length text) (h .2), lt-ltb room (length text) (h .3));
+    from = λ h. text-replies room (kept g W (h .0)) (h .1) ∙ simp (le-ltb 65536 (length text) (h .2), lt-ltb room (length text) (h .3));
   }
 
   -- else the book
-  pub writes : (room : ℕ) → (builderReply g room ≡ Accepted 0) ↔ (Within g × None × (length text ≤ 65536) × (length text ≤ room))
+  pub writes : (room : ℕ) → (builderReply g room ≡ Accepted 0) ↔ (WithinLimits g × None × (length text ≤ 65536) × (length text ≤ room))
   writes room = record {
-    to = replied room (λ (r : Reply). r ≡ Accepted 0 → Within g × None × (length text ≤ 65536) × (length text ≤ room))
+    to = replied room (λ (r : Reply). r ≡ Accepted 0 → WithinLimits g × None × (length text ≤ 65536) × (length text ≤ room))
         (λ _ e. differ e (λ n. omega (arith, n))) (λ _ _ _ e. differ e (λ n. omega (arith, n))) (λ _ _ _ e. differ e (λ n. omega (arith, n)))
         (λ _ _ _ _ e. differ e (λ n. omega (arith, n))) (λ w f l s _. (w, f, l, s));
-    from = λ h. text-replies room (h .0) (h .1) ∙ simp (le-ltb 65536 (length text) (h .2), le-ltb room (length text) (h .3));
+    from = λ h. text-replies room (kept g W (h .0)) (h .1) ∙ simp (le-ltb 65536 (length text) (h .2), le-ltb room (length text) (h .3));
   }
