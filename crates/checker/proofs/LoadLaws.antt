@@ -1,11 +1,13 @@
--- Tables that were read into slices with room are ready for the judge, and what its verdict makes of them.
+-- Tables that were read into slices with room are ready for the judge, what its verdict makes of them, and what a walk is promised.
 use Prim.Native.Nat.{ℕ, suc, _+_, _≤_}
 use native.Mathlib.Omega.{arith}
-use mathlib.Core.Path.{_≡_, refl, sym, ap, _∙_}
+use mathlib.Core.Path.{_≡_, refl, sym, ap, subst, _∙_}
 use mathlib.Core.Bool.{true}
 use mathlib.Core.List.{List}
 use Rattle.language.specs.Grammar.{Grammar}
 use Rattle.leftcorner.specs.Table.{Table}
+use Rattle.entry_list.specs.Uses.{strings-of}
+use Rattle.leftcorner.specs.ReadOff.{clash}
 use Rattle.reply.specs.declared.Refusal.{Refusal}
 use Rattle.reply.specs.declared.Reply.{Reply}
 use Rattle.reply.specs.declared.Reply.the-variants.{Accepted, Refused}
@@ -15,13 +17,15 @@ use Rattle.table.specs.declared.TableReply.the-variants as reply
 use Rattle.table.specs.Book.{Reading, whole, rejected, tablesOf, readOf}
 use Rattle.table.specs.Memory.{countsOf, replyOf, Slices, hasRoom, Holds}
 use Rattle.table_facts.specs.Sound.{Sound, tables-sound}
-use Rattle.table_views.specs.Views.{sized, given}
+use Rattle.table_views.specs.Views.{held, sized, given}
 use Rattle.judge.specs.Accepts.{tableVerdict}
 use Rattle.judge.specs.Given.{Sized, Given}
 use Rattle.checker.specs.Checked.{byReply, judged, checkedOf}
+use Rattle.checker.specs.Exactly.{accepted, accepted-sound}
+use Rattle.checker.specs.Loaded.{Loaded}
 
 -- a grammar and its table are in the slices, by these figures
-pub record Loaded (gs s : List ℕ) (b a : Slices) (c : Counts) : Type 0 where
+pub record BooksRead (gs s : List ℕ) (b a : Slices) (c : Counts) : Type 0 where
   pub grammar : Grammar
   pub table : Table
   pub reads : tablesOf gs s ≡ whole grammar table
@@ -34,42 +38,42 @@ module _ (gs s : List ℕ) {b a : Slices} {r : TableReply} (room : hasRoom b ≡
   with-room : (r ≡ replyOf (readOf true (tablesOf gs s))) × Holds (readOf true (tablesOf gs s)) b a
   with-room = rw (← room) h
 
-  pub loaded : {c : Counts} → r ≡ reply.Read c → Loaded gs s b a c
-  loaded {c} e = go (tablesOf gs s) refl with-room
+  pub books-read : {c : Counts} → r ≡ reply.Read c → BooksRead gs s b a c
+  books-read {c} e = go (tablesOf gs s) refl with-room
     where
-      go : (x : Reading) → tablesOf gs s ≡ x → (r ≡ replyOf (readOf true x)) × Holds (readOf true x) b a → Loaded gs s b a c
+      go : (x : Reading) → tablesOf gs s ≡ x → (r ≡ replyOf (readOf true x)) × Holds (readOf true x) b a → BooksRead gs s b a c
       go (whole g t) q k = record { grammar = g; table = t; reads = q; counts-are = let z : c ≡ countsOf g t = cc in z; holds = k .1 }
       go (rejected why) q k = let z : _≡_ {A = ℕ} 0 1 = cc in absurd (omega arith)
 
-  pub not-loaded : {why : Refusal} → r ≡ reply.Refused why → (r ≡ replyOf (checkedOf gs s)) × Holds (checkedOf gs s) b a
+  pub not-read : {why : Refusal} → r ≡ reply.Refused why → (r ≡ replyOf (checkedOf gs s)) × Holds (checkedOf gs s) b a
   unfolding checkedOf
-  not-loaded {why} e = go (tablesOf gs s) with-room
+  not-read {why} e = go (tablesOf gs s) with-room
     where
       go : (x : Reading) → (r ≡ replyOf (readOf true x)) × Holds (readOf true x) b a → (r ≡ replyOf (judged x)) × Holds (judged x) b a
       go (whole g t) k = let z : _≡_ {A = ℕ} 0 1 = cc in absurd (omega arith)
       go (rejected v) k = k
 
-module _ {gs s : List ℕ} {b a : Slices} {c : Counts} (l : Loaded gs s b a c) where
-  loaded-sound : Sound (l .grammar) (l .table)
-  loaded-sound = tables-sound gs s (l .reads)
+module _ {gs s : List ℕ} {b a : Slices} {c : Counts} (l : BooksRead gs s b a c) where
+  read-sound : Sound (l .grammar) (l .table)
+  read-sound = tables-sound gs s (l .reads)
 
   -- ---- what the judge asks
   module _ (room : hasRoom b ≡ true) where
-    pub loaded-sized : Sized (a .items) (a .states) (a .kernels) (a .lookaheads) (a .kinds) (a .values) (a .gotos) (a .named) (c .grammar .rules) (c .entries) (c .kernels)
-    loaded-sized = let S = loaded-sound in rw (l .counts-are) (sized (l .holds) room (S .formed) (S .fits) (S .some-entry))
+    pub read-sized : Sized (a .items) (a .states) (a .kernels) (a .lookaheads) (a .kinds) (a .values) (a .gotos) (a .named) (c .grammar .rules) (c .entries) (c .kernels)
+    read-sized = let S = read-sound in rw (l .counts-are) (sized (l .holds) room (S .formed) (S .fits) (S .some-entry))
 
-    pub loaded-given : Given (l .grammar) (l .table) (a .items) (a .states) (a .kernels) (a .lookaheads) (a .kinds) (a .values) (a .gotos) (a .named) (c .grammar .rules) (c .entries)
+    pub read-given : Given (l .grammar) (l .table) (a .items) (a .states) (a .kernels) (a .lookaheads) (a .kinds) (a .values) (a .gotos) (a .named) (c .grammar .rules) (c .entries)
         (c .kernels) (c .states) (c .grammar .terminals + 1)
-    loaded-given = let S = loaded-sound in rw (l .counts-are, add-one (l .grammar .terminals)) (given (l .holds) room (S .formed) (S .fits))
+    read-given = let S = read-sound in rw (l .counts-are, add-one (l .grammar .terminals)) (given (l .holds) room (S .formed) (S .fits))
       where
         add-one : (n : ℕ) → n + 1 ≡ suc n
         add-one n = omega arith
 
-  pub loaded-low : (c .grammar .terminals ≤ 63) × (c .states ≤ 255)
-  loaded-low = let S = loaded-sound in rw (l .counts-are) (S .formed .few-terminals, S .fits .few-states)
+  pub read-low : (c .grammar .terminals ≤ 63) × (c .states ≤ 255)
+  read-low = let S = read-sound in rw (l .counts-are) (S .formed .few-terminals, S .fits .few-states)
 
-  pub loaded-goal : l .grammar .goal ≡ c .grammar .goal
-  loaded-goal = rw (l .counts-are) refl
+  pub read-goal : l .grammar .goal ≡ c .grammar .goal
+  read-goal = rw (l .counts-are) refl
 
   -- ---- what its verdict makes of them
   module _ {v : Reply} (e : v ≡ tableVerdict (l .grammar) (l .table)) where
@@ -77,8 +81,45 @@ module _ {gs s : List ℕ} {b a : Slices} {c : Counts} (l : Loaded gs s b a c) w
     unfolding checkedOf
     by-verdict = ap judged (l .reads) ∙ ap (byReply (l .grammar) (l .table)) (sym e)
 
-    pub loaded-refused : {why : Refusal} → v ≡ Refused why → checkedOf gs s ≡ rejected why
-    loaded-refused q = by-verdict ∙ ap (byReply (l .grammar) (l .table)) q
+    pub read-refused : {why : Refusal} → v ≡ Refused why → checkedOf gs s ≡ rejected why
+    read-refused q = by-verdict ∙ ap (byReply (l .grammar) (l .table)) q
 
-    pub loaded-accepted : {n : ℕ} → v ≡ Accepted n → (reply.Read c ≡ replyOf (checkedOf gs s)) × Holds (checkedOf gs s) b a
-    loaded-accepted q = rw (by-verdict ∙ ap (byReply (l .grammar) (l .table)) q) (ap reply.Read (l .counts-are), l .holds)
+    pub read-accepted : {n : ℕ} → v ≡ Accepted n → (reply.Read c ≡ replyOf (checkedOf gs s)) × Holds (checkedOf gs s) b a
+    read-accepted q = rw (by-verdict ∙ ap (byReply (l .grammar) (l .table)) q) (ap reply.Read (l .counts-are), l .holds)
+
+-- ---- what a walk is promised, where the answer is that of books that are accepted
+whole-of : (x : Reading) {r : TableReply} {c : Counts} → r ≡ replyOf x → r ≡ reply.Read c → (g : Grammar) × (t : Table) × (x ≡ whole g t) × (c ≡ countsOf g t)
+whole-of (whole g t) {c = c} e f = (g, t, refl, (let q : c ≡ countsOf g t = cc in q))
+whole-of (rejected why) e f = clash cc
+
+module _ {gs s : List ℕ} {b a : Slices} (room : hasRoom b ≡ true) where
+  loaded : {g : Grammar} {t : Table} → checkedOf gs s ≡ whole g t → Holds (whole g t) b a → Loaded gs s a (countsOf g t)
+  loaded {g} {t} q h =
+      let S = accepted-sound gs s q in
+      let M = held h room (S .formed) (S .fits) in
+      let Z = sized h room (S .formed) (S .fits) (S .some-entry) in
+      record {
+        grammar = g;
+        table = t;
+        books = q;
+        in-memory = record {
+          meets = accepted gs s q .meets;
+          terminals-is = refl;
+          holds-strings = strings-of M;
+          holds-entries = M .holds-entries;
+          holds-actions = M .holds-actions;
+        };
+        readable = record { shaped = Z .shaped; few-rules = Z .few-rules; few-strings = Z .few-strings; entries-room = Z .entries-room };
+      }
+
+  pub promised : {r : TableReply} → (r ≡ replyOf (checkedOf gs s)) × Holds (checkedOf gs s) b a
+      → (r ≡ replyOf (checkedOf gs s)) × (Holds (checkedOf gs s) b a × ((c : Counts) → r ≡ reply.Read c → Loaded gs s a c))
+  promised h = (
+    h .0,
+    (
+      h .1,
+      λ c e.
+          let x = whole-of (checkedOf gs s) (h .0) e in
+          subst (Loaded gs s a) (sym (x .3)) (loaded (x .2) (subst (λ (y : Reading). Holds y b a) (x .2) (h .1))),
+    ),
+  )

@@ -6,6 +6,7 @@ use mathlib.Core.Path.{_≡_, refl, ap, _∙_}
 use mathlib.Core.List.{List}
 use Rattle.language.specs.Grammar.{Grammar}
 use Rattle.language.specs.FirstLaws.{right-productive}
+use Rattle.language.specs.WellFormed.{declared-of}
 use Rattle.leftcorner.specs.Claim.{_↔_}
 use Rattle.leftcorner.specs.Table.{Table}
 use Rattle.leftcorner.specs.Construction.{Meets}
@@ -15,7 +16,6 @@ use Rattle.table.specs.Book.{Reading, whole, rejected, tablesOf}
 use Rattle.table.specs.Memory.{replyOf, asReply}
 use Rattle.table_facts.specs.Sound.{Sound, tables-sound}
 use Rattle.judge.specs.Accepts.{tableVerdict, accepted-zero, accepted-exactly}
-use Rattle.judge.proofs.VerdictLaws.{declared-of}
 use Rattle.checker.specs.Checked.{byReply, judged, checkedOf, verdictOf, Accepts}
 
 -- a table that was read is accepted exactly when it meets the construction

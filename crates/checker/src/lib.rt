@@ -3,7 +3,9 @@ use reply::Reply;
 use table::TableReply;
 ghost use mathlib.Core.Path.{_≡_};
 ghost use Rattle.table.specs.Memory.{replyOf, slices, Rooms, Holds};
+ghost use Rattle.table.specs.declared.Counts.{Counts};
 ghost use Rattle.checker.specs.Checked.{checkedOf, verdictOf};
+ghost use Rattle.checker.specs.Loaded.{Loaded};
 
 // Reads and judges both books. Tables that are accepted are then in the slices; a refusal leaves zeros.
 pub fn load_tables(
@@ -21,6 +23,7 @@ pub fn load_tables(
     requires { ⌜ Rooms (slices (now items) (now «entry_states») (now kernels) (now lookaheads) (now kinds) (now values) (now gotos) (now named)) ⌝ }
     ensures { λ r. ⌜ r ≡ replyOf (checkedOf (now (grammar .entry)) (now (book .entry))) ⌝ }
     ensures { λ r. ⌜ Holds (checkedOf (now (grammar .entry)) (now (book .entry))) (slices (now (items .entry)) (now («entry_states» .entry)) (now (kernels .entry)) (now (lookaheads .entry)) (now (kinds .entry)) (now (values .entry)) (now (gotos .entry)) (now (named .entry))) (slices (now (items .exit)) (now («entry_states» .exit)) (now (kernels .exit)) (now (lookaheads .exit)) (now (kinds .exit)) (now (values .exit)) (now (gotos .exit)) (now (named .exit))) ⌝ }
+    ensures { λ r. ⌜ ((c : Counts) → r ≡ TableReply.Read c → Loaded (now (grammar .entry)) (now (book .entry)) (slices (now (items .exit)) (now («entry_states» .exit)) (now (kernels .exit)) (now (lookaheads .exit)) (now (kinds .exit)) (now (values .exit)) (now (gotos .exit)) (now (named .exit))) c) ⌝ }
 {
     let answer = table::read_tables(
         grammar,

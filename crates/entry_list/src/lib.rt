@@ -134,6 +134,17 @@ pub fn fill_rules(
     true
 }
 
+// Notes at rule * 16 + group the number of each group's entry, where the entries are those of the construction.
+pub fn note_uses(items: &[u8], rules: usize, strings: usize, uses: &mut [u8])
+    requires { ⌜ Shaped (now items) (rules + strings) ⌝ }
+    requires { ⌜ (rules ≤ 127) × (strings ≤ 127) × (now uses ≡ replicate 2048 0) ⌝ }
+    ensures { λ r. ⌜ length (now (uses .exit)) ≡ 2048 ⌝ }
+    ensures { λ r. ⌜ ((g : Grammar) (t : Table) → HoldsStrings g t (now (items .entry)) rules strings → EntriesMeet g t → HoldsUses (now (uses .exit)) g t) ⌝ }
+{
+    let mut wanted = [0u8; 128];
+    fill_rules(items, rules, strings, uses, &mut wanted);
+}
+
 // Whether item i's string is the goal alone.
 pub fn is_goal(items: &[u8], count: usize, i: usize, goal: usize) -> bool
     requires { ⌜ Shaped (now items) count ⌝ }

@@ -56,14 +56,6 @@ module _ (g : Grammar) (t : Table) (F : List ℕ → ℕ → ℕ → Type 0) (e?
       sym (is-zero g t F e? i? l? a? c? E (all-of _ (off-items g t F e? i? l? a? c? W) fa) (all-of _ (off-lookaheads g t F e? i? l? a? c? W) fb)
       (all-of _ (off-agree g t F e? i? l? a? c? W) fc) (all-of _ (off-cells g t F e? i? l? a? c? W) (fd refl)))
 
-pub declared-of : {g : Grammar} → language.WellFormed g → Declared g
-declared-of w = record {
-  few-terminals = w .few-terminals;
-  goal-kind = w .goal-declared;
-  left-kind = λ i r e. w .formed i e .left-declared;
-  right-kind = λ i r X e m. w .formed i e .declared X m;
-}
-
 -- the entry list fails
 pub list-verdict : (g : Grammar) (t : Table) → (EntriesMeet g t → ⊥) → refused ItemMismatch 0 ≡ tableVerdict g t
 unfolding tableVerdict
@@ -87,7 +79,7 @@ found-verdict g t w W E {n} {nul} {fst} count S a b c d f fb =
     Rules = FirstByRules g
 
     D : Declared g
-    D = declared-of w
+    D = language.declared-of w
 
     to : (β : List ℕ) → AllDeclared g β → (x y : ℕ) → FirstBy n nul fst β x y ↔ FirstByRules g β x y
     to β al x y = first-flags g (w .few-terminals) count S β x y

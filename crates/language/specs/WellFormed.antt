@@ -6,7 +6,7 @@ use mathlib.Core.List.{List, []}
 use mathlib.Core.Option.{some}
 use lib.ListN.{length}
 use Rattle.language.specs.Grammar.{Grammar, Rule, ruleAt, right, IsTerminal, IsNonterminal}
-use Rattle.language.specs.Sentence.{In}
+use Rattle.language.specs.Sentence.{In, Declared}
 
 -- 'left' is a nonterminal, the right side has at most 15 declared symbols, and no group is empty
 pub record RuleFormed (g : Grammar) (r : Rule) : Type 0 where
@@ -24,3 +24,12 @@ pub record WellFormed (g : Grammar) : Type 0 where
   pub few-rules : length (g .rules) ≤ 127
   pub goal-declared : IsNonterminal g (g .goal)
   pub formed : (i : ℕ) {r : Rule} → ruleAt g i ≡ some r → RuleFormed g r
+
+-- its symbols are then declared
+pub declared-of : {g : Grammar} → WellFormed g → Declared g
+declared-of w = record {
+  few-terminals = w .few-terminals;
+  goal-kind = w .goal-declared;
+  left-kind = λ i r e. w .formed i e .left-declared;
+  right-kind = λ i r X e m. w .formed i e .declared X m;
+}

@@ -7,7 +7,7 @@ ghost use Rattle.leftcorner.specs.Table.{Table};
 ghost use Rattle.leftcorner.specs.Construction.{EntriesMeet};
 ghost use Rattle.items.specs.Layout.{Shaped};
 ghost use Rattle.memory.specs.Memory.{HoldsEntries};
-ghost use Rattle.entry_list.specs.Uses.{HoldsStrings, HoldsUses};
+ghost use Rattle.entry_list.specs.Uses.{HoldsStrings};
 ghost use Rattle.linked_rules.specs.Linked.{Linked};
 ghost use Rattle.linked_rules.specs.Rows.{GroupCount, GroupsLinked, RuleLinked};
 
@@ -61,24 +61,19 @@ fn link_rule(items: &[u8], count: usize, i: usize, entries: &[u8], uses: &[u8], 
     rows[i * 32 + 3] = groups as u8;
 }
 
-// Writes the rows of all rules, by the items, the entries' states and the entries that groups use.
-pub fn link_rules(
-    items: &[u8],
-    rules: usize,
-    strings: usize,
-    entries: &[u8],
-    uses: &[u8],
-    rows: &mut [u8],
-)
+// Writes the rows of all rules, by the items and the entries' states.
+pub fn link_rules(items: &[u8], rules: usize, strings: usize, entries: &[u8], rows: &mut [u8])
     requires { ⌜ Shaped (now items) (rules + strings) ⌝ }
-    requires { ⌜ (rules ≤ 127) × (256 ≤ length (now entries)) × (length (now uses) ≡ 2048) × (now rows ≡ replicate 8448 0) ⌝ }
+    requires { ⌜ (rules ≤ 127) × (strings ≤ 127) × (256 ≤ length (now entries)) × (now rows ≡ replicate 8448 0) ⌝ }
     ensures { λ r. ⌜ length (now (rows .exit)) ≡ 8448 ⌝ }
-    ensures { λ r. ⌜ ((g : Grammar) (t : Table) (start : ℕ) → HoldsStrings g t (now (items .entry)) rules strings → HoldsEntries (now (entries .entry)) t → HoldsUses (now (uses .entry)) g t → EntriesMeet g t
+    ensures { λ r. ⌜ ((g : Grammar) (t : Table) (start : ℕ) → HoldsStrings g t (now (items .entry)) rules strings → HoldsEntries (now (entries .entry)) t → EntriesMeet g t
         → Linked (now (rows .exit)) start g t) ⌝ }
 {
+    let mut uses = [0u8; 2048];
+    entry_list::note_uses(items, rules, strings, &mut uses);
     let mut i = 1;
     while i <= rules {
-        link_rule(items, rules + strings, i, entries, uses, rows);
+        link_rule(items, rules + strings, i, entries, &uses, rows);
         i += 1;
     }
 }

@@ -15,15 +15,13 @@ use Rattle.language.specs.Sentence.{In}
 use Rattle.language.specs.Member.{in-cons}
 use Rattle.leftcorner.specs.Machine.{Verdict, whole-at, wrong-at, short-at, walk}
 use Rattle.leftcorner.specs.Table.{Action, P, Table, stateOf, automaton}
-use Rattle.leftcorner.specs.Construction.{EntryAt, ActionAt, Asked, to-move, to-announce, to-pop, Meets}
+use Rattle.leftcorner.specs.Construction.{EntryAt, ActionAt, Asked, to-move, to-announce, to-pop}
 use Rattle.leftcorner.specs.ReadOff.{clash}
-use Rattle.fixpoint.specs.Flags.{Decides}
 use Rattle.fixpoint.specs.declared.Found.{Found}
 use Rattle.range.specs.Range.{within}
 use Rattle.range.proofs.RangeLaws.{within-true}
 use Rattle.reply.specs.declared.Kind.the-variants.{Undeclared}
-use Rattle.memory.specs.Memory.{HoldsEntries, HoldsActions}
-use Rattle.entry_list.specs.Uses.{HoldsStrings}
+use Rattle.checker.specs.Loaded.{InMemory}
 use Rattle.walker.specs.declared.Walked.{Walked}
 use Rattle.walker.specs.declared.Walked.the-variants.{Accepted}
 use Rattle.walker.specs.Memory.{memoryGrammar}
@@ -33,16 +31,11 @@ use Rattle.grammar.specs.Book.{onFound}
 use Rattle.session.specs.Session.{strayFrom, refusedAt, endedBy, tableSession, Tells}
 use Rattle.session.proofs.AgreeLaws.{walk-same, units-same}
 
--- a test of what holds says so
-pub told : {A : Type 0} {b : Bool} → Decides A b → A → b ≡ true
-told {b = true} d x = refl
-told {b = false} d x = absurd (d .no refl x)
-
 -- where no token is a stray, each is "1 to t"
-terminals : (t at : ℕ) (w : List ℕ) → strayFrom t at w ≡ Found.Nothing → (a : ℕ) → In a w → (1 ≤ a) × (a ≤ t)
+all-terminals : (t at : ℕ) (w : List ℕ) → strayFrom t at w ≡ Found.Nothing → (a : ℕ) → In a w → (1 ≤ a) × (a ≤ t)
 unfolding strayFrom
-terminals t at [] e a m = elim m [ ]
-terminals t at (b ∷ w) e a m = go (within 1 b t) refl e (λ f. terminals t (suc at) w f a) (in-cons m)
+all-terminals t at [] e a m = elim m [ ]
+all-terminals t at (b ∷ w) e a m = go (within 1 b t) refl e (λ f. all-terminals t (suc at) w f a) (in-cons m)
   where
     go : (c : Bool) → within 1 b t ≡ c → cond c (strayFrom t (suc at) w) (Found.At at) ≡ Found.Nothing
         → (strayFrom t (suc at) w ≡ Found.Nothing → In a w → (1 ≤ a) × (a ≤ t)) → (a ≡ b) ⊎ In a w → (1 ≤ a) × (a ≤ t)
@@ -70,26 +63,26 @@ module _ (g : Grammar) (t : Table) where
   stray-session n k p w {stack} {listing} {r} e T =
       subst (λ (f : Found). Tells (onFound f (refusedAt n k Undeclared) (endedBy n k g (walk g (automaton g t) n k w))) r stack listing) (sym e) T
 
-  module _ {items entries kinds values gotos rows : List ℕ} {rules strings start : ℕ} (S : HoldsStrings g t items rules strings) (H : HoldsEntries entries t)
-      (A : HoldsActions kinds values gotos t) (M : Meets g t) (L : Linked rows start g t) (first : start ≡ getD entries 1 0) where
+  module _ {items entries kinds values gotos rows : List ℕ} {terminals rules strings start : ℕ} (I : InMemory g t items entries kinds values gotos terminals rules strings)
+      (L : Linked rows start g t) (first : start ≡ getD entries 1 0) where
     pops-low : (q c n : ℕ) → ActionAt g t q c (P n) → (1 ≤ n) × (n ≤ 255)
     pops-low q c n a =
-        let h = pop-of (M .cells q .asked c (P n) a) n refl in
-        (omega (arith, h .4), omega (arith, h .4, S .fits .string-short (h .0) (h .1) (h .2) (h .3)))
+        let h = pop-of (I .meets .cells q .asked c (P n) a) n refl in
+        (omega (arith, h .4), omega (arith, h .4, I .holds-strings .fits .string-short (h .0) (h .1) (h .2) (h .3)))
 
     rules-low : (i : ℕ) (r : Rule) → ruleAt g i ≡ some r → (i < 256) × (r .left < 128)
     rules-low i r e =
-        let f = S .formed in
+        let f = I .holds-strings .formed in
         (omega (arith, rule-range g i e .1, f .few-rules), omega (arith, f .formed i e .left-declared .1, f .few-nonterminals))
 
     entry-first : automaton g t .enter 1 ≡ start
-    entry-first = let e = M .entries .goal-first in ap stateOf (e .1) ∙ sym (H .state-is 1 (e .0) (e .1)) ∙ sym first
+    entry-first = let e = I .meets .entries .goal-first in ap stateOf (e .1) ∙ sym (I .holds-entries .state-is 1 (e .0) (e .1)) ∙ sym first
 
     module _ (n k : ℕ) (w : List ℕ) (none : strayFrom (g .terminals) 0 w ≡ Found.Nothing) where
       walk-is : walk g (automaton g t) n k w ≡ memoryWalk kinds values gotos rows start n k w
       walk-is =
-          walk-same g t kinds values gotos rows start A (S .fits) L rules-low pops-low entry-first n k w
-          (λ a m. omega (arith, terminals (g .terminals) 0 w none a m .1, S .formed .few-terminals))
+          walk-same g t kinds values gotos rows start (I .holds-actions) (I .holds-strings .fits) L rules-low pops-low entry-first n k w
+          (λ a m. omega (arith, all-terminals (g .terminals) 0 w none a m .1, I .holds-strings .formed .few-terminals))
 
       pub table-session : {stack listing : List ℕ} {r : Walked} → r ≡ answer (memoryGrammar rows) (memoryWalk kinds values gotos rows start n k w)
           → listing ≡ padded k (listed (memoryWalk kinds values gotos rows start n k w)) → stack ≡ replicate n 0
@@ -97,7 +90,7 @@ module _ (g : Grammar) (t : Table) where
       unfolding tableSession
       table-session {stack} {listing} {r} er el es =
           subst (λ (f : Found). Tells (onFound f (refusedAt n k Undeclared) (endedBy n k g (walk g (automaton g t) n k w))) r stack listing) (sym none) (record {
-            reply-is = er ∙ answer-same (memoryGrammar rows) g (units-same g t kinds values gotos rows start A (S .fits) L rules-low pops-low entry-first)
+            reply-is = er ∙ answer-same (memoryGrammar rows) g (units-same g t kinds values gotos rows start (I .holds-actions) (I .holds-strings .fits) L rules-low pops-low entry-first)
                 (memoryWalk kinds values gotos rows start n k w)
                 ∙ ap (answer g) (sym walk-is);
             listing-is = el ∙ ap (λ (v : Verdict). padded k (listed v)) (sym walk-is);

@@ -11,6 +11,7 @@ use Rattle.language.specs.Grammar.{Grammar, IsTerminal}
 use Rattle.language.specs.Derivation.{Tree, yield, IsTree}
 use Rattle.language.specs.Listing.{listing, units}
 use Rattle.language.specs.Sentence.{In, Sentence}
+use Rattle.language.specs.WellFormed.{declared-of}
 use Rattle.leftcorner.specs.Machine.{Ending, accepted, failed, Walk, start, walk}
 use Rattle.leftcorner.specs.Table.{Table, automaton}
 use Rattle.leftcorner.specs.Claim.{_↔_, WrongAt, Outgrows, Claim, comesBack}
@@ -18,7 +19,6 @@ use Rattle.leftcorner.specs.Demand3 as machine
 use Rattle.reply.specs.Reply.{numberOf}
 use Rattle.reply.specs.declared.Kind.the-variants.{BufferTooSmall, SyntaxError}
 use Rattle.reply.specs.declared.Reply.the-variants as reply
-use Rattle.judge.proofs.VerdictLaws.{declared-of}
 use Rattle.checker.specs.Checked.{verdictOf, Accepts}
 use Rattle.checker.specs.Exactly.{accepts, accepted-sound, exactly}
 use Rattle.walker.specs.declared.Walked.the-variants.{Accepted}

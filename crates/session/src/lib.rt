@@ -1,21 +1,18 @@
 // A session of scans: both books are read and checked, then the tokens are walked.
 use fixpoint::Found;
-use range::in_range;
 use reply::Kind;
 use reply::Refusal;
 use reply::clear;
+use symbol::Symbol;
 use table::TableReply;
 use walker::Walked;
 ghost use mathlib.Core.Path.{_≡_};
-ghost use Prim.Native.Nat.{_+_, _<_, _≤_};
+ghost use Prim.Native.Nat.{_<_};
 ghost use lib.ListN.{length};
 ghost use Rattle.language.specs.Grammar.{Grammar};
 ghost use Rattle.leftcorner.specs.Table.{Table};
-ghost use Rattle.leftcorner.specs.Construction.{Meets};
-ghost use Rattle.items.specs.Layout.{Shaped};
-ghost use Rattle.memory.specs.Memory.{HoldsEntries, HoldsActions};
-ghost use Rattle.entry_list.specs.Uses.{HoldsStrings};
 ghost use Rattle.checker.specs.Checked.{checkedOf};
+ghost use Rattle.checker.specs.Loaded.{InMemory, Readable};
 ghost use Rattle.session.specs.Session.{strayFrom, refusedBy, tableSession, afterBooks, session, Tells};
 
 // Accepted, with the tokens read, the rules listed and the units among them; or refused.
@@ -33,7 +30,10 @@ fn find_stray(tokens: &[u8], terminals: usize) -> Found
 {
     let mut i = 0;
     while i < tokens.len() {
-        if !in_range(1, wide(tokens[i]), terminals) {
+        let token = Symbol {
+            code: wide(tokens[i]),
+        };
+        if !token.is_terminal(terminals) {
             return Found::At(i);
         }
         i += 1;
@@ -58,17 +58,15 @@ fn walk_table(
     values: &[u8],
     gotos: &[u8],
     terminals: usize,
-    goal: usize,
     rules: usize,
     strings: usize,
     tokens: &[u8],
     stack: &mut [u8],
     listing: &mut [u8],
 ) -> SessionReply
-    requires { ⌜ Shaped (now items) (rules + strings) ⌝ }
-    requires { ⌜ (rules ≤ 127) × (1 ≤ strings) × (strings ≤ 127) × (256 ≤ length (now entries)) ⌝ }
+    requires { ⌜ Readable (now items) (now entries) rules strings ⌝ }
     requires { ⌜ (length (now kinds) ≡ 16640) × (length (now values) ≡ 16640) × (length (now gotos) ≡ 16640) ⌝ }
-    ensures { λ r. ⌜ ((g : Grammar) (t : Table) → HoldsStrings g t (now (items .entry)) rules strings → HoldsEntries (now (entries .entry)) t → HoldsActions (now (kinds .entry)) (now (values .entry)) (now (gotos .entry)) t → g .terminals ≡ terminals → g .goal ≡ goal → Meets g t
+    ensures { λ r. ⌜ ((g : Grammar) (t : Table) → InMemory g t (now (items .entry)) (now (entries .entry)) (now (kinds .entry)) (now (values .entry)) (now (gotos .entry)) terminals rules strings
         → Tells (tableSession (length (now (stack .entry))) (length (now (listing .entry))) g t (now (tokens .entry))) r (now (stack .exit)) (now (listing .exit))) ⌝ }
 {
     let stray = find_stray(tokens, terminals);
@@ -82,10 +80,8 @@ fn walk_table(
             listing,
         );
     }
-    let mut uses = [0u8; 2048];
     let mut rows = [0u8; 8448];
-    entry_list::entries_meet(items, rules, strings, goal, &mut uses);
-    linked_rules::link_rules(items, rules, strings, entries, &uses, &mut rows);
+    linked_rules::link_rules(items, rules, strings, entries, &mut rows);
     let start = entries[1];
     walker::walk_tokens(kinds, values, gotos, &rows, start, tokens, stack, listing)
 }
@@ -131,7 +127,6 @@ fn walk_books(
                 &values,
                 &gotos,
                 heading.terminals,
-                heading.goal,
                 heading.rules,
                 counts.entries,
                 tokens,

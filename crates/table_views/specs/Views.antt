@@ -1,4 +1,4 @@
--- After a table book was read whole, memory is what the checker and the walker ask of it.
+-- After a table book was read whole, memory is what the judge asks of it, and what a walk is promised.
 use Prim.Native.Nat.{ℕ, suc, _+_, _≤_}
 use native.Mathlib.Omega.{arith}
 use mathlib.Core.Path.{_≡_, refl, sym, subst}
@@ -25,7 +25,7 @@ use Rattle.table_views.specs.Entries as entries
 
 module _ {g : Grammar} {t : Table} {b a : Slices} (h : Holds (whole g t) b a) where
   -- cells and gotos are as long as what was lent for them
-  pub cells-long : (length (a .kinds) ≡ length (b .kinds)) × (length (a .values) ≡ length (b .values)) × (length (a .gotos) ≡ length (b .gotos))
+  cells-long : (length (a .kinds) ≡ length (b .kinds)) × (length (a .values) ≡ length (b .values)) × (length (a .gotos) ≡ length (b .gotos))
   cells-long = (image-long _ _ (h .kinds-are), image-long _ _ (h .values-are), image-long _ _ (h .gotos-are))
 
   module _ (roomy : hasRoom b ≡ true) (W : language.WellFormed g) (F : Fits g t) where

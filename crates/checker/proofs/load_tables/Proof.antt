@@ -5,7 +5,7 @@ use denote.Ref.{now}
 use borrow.Author.Needs.{needs}
 use Rattle.table.specs.Memory.{Slices, slices, hasRoom}
 use Rattle.table.proofs.IntoLaws.{has-room, Alike, holds-alike, AllZero, holds-zero}
-use Rattle.checker.proofs.LoadLaws.{Loaded, loaded, not-loaded, loaded-sized, loaded-given, loaded-low, loaded-goal, loaded-refused, loaded-accepted}
+use Rattle.checker.proofs.LoadLaws.{BooksRead, books-read, not-read, read-sized, read-given, read-low, read-goal, read-refused, read-accepted, promised}
 use Rattle.checker.proofs.load_tables.Statement.{statement}
 use Rattle.checker.proofs.load_tables.Tie as tie
 
@@ -48,11 +48,11 @@ zero c = record { items-zero = c .clear-all .ensures .0; states-zero = c .clear-
 room : (c : tie.Start) → hasRoom (lent c) ≡ true
 room c = has-room (lent c) (c .pre)
 
-load : (c : tie.After-known-told) → Loaded (now (start-of (books-of c) .args .grammar)) (now (start-of (books-of c) .args .book)) (lent (start-of (books-of c))) (filled (books-of c))
+load : (c : tie.After-known-told) → BooksRead (now (start-of (books-of c) .args .grammar)) (now (start-of (books-of c) .args .book)) (lent (start-of (books-of c))) (filled (books-of c))
     (c .before .answer .given .0 .0)
 load c =
     let r = books-of c in
-    loaded (now (start-of r .args .grammar)) (now (start-of r .args .book)) {b = lent (start-of r)} {a = filled r} (room (start-of r)) (r .read-tables .ensures) (c .before .answer .given .1)
+    books-read (now (start-of r .args .grammar)) (now (start-of r .args .book)) {b = lent (start-of r)} {a = filled r} (room (start-of r)) (r .read-tables .ensures) (c .before .answer .given .1)
 
 read-tables-requires : tie.Need-read-tables-requires
 read-tables-requires c κs = search needs
@@ -88,10 +88,14 @@ same-length-8 : tie.Need-same-length-8
 same-length-8 c = search needs
 
 returns : tie.Need-returns
-returns c = let r = read-of (c .before .before) in let a = start-of r .args in not-loaded (now (a .grammar)) (now (a .book)) {b = lent (start-of r)} {a = filled r} (room (start-of r)) (r .read-tables .ensures) (c .enum-told .given .1)
+returns c =
+    let r = read-of (c .before .before) in
+    let a = start-of r .args in
+    promised {b = lent (start-of r)} {a = filled r} (room (start-of r))
+    (not-read (now (a .grammar)) (now (a .book)) {b = lent (start-of r)} {a = filled r} (room (start-of r)) (r .read-tables .ensures) (c .enum-told .given .1))
 
 judge-requires : tie.Need-judge-requires
-judge-requires c κs = let k : tie.After-known-told = c .before .before .before .before .before .before .before .before .before in (loaded-sized (load k) (room (start-of (books-of k))), loaded-low (load k))
+judge-requires c κs = let k : tie.After-known-told = c .before .before .before .before .before .before .before .before .before in (read-sized (load k) (room (start-of (books-of k))), read-low (load k))
 
 enum-known-verdict : tie.Need-enum-known-verdict
 enum-known-verdict c = search needs
@@ -126,9 +130,9 @@ same-length-16 c = let k = cleared-of c in k .clear-all .kept .1 .1 .1 .1 .1 .1 
 returns-2 : tie.Need-returns-2
 returns-2 c = let k = cleared-of c in let j = judge-of k in let l = load (told-of j) in
     let r = books-of (told-of j) in
-    let v = j .judge .ensures (l .grammar) (l .table) (loaded-given l (room (start-of r))) (loaded-goal l) in
-    let h = holds-zero (loaded-refused l v (k .before .before .before .before .before .before .before .before .before .before .verdict .given .1)) (zero k) in
-    (h .0, holds-alike (alike r) (h .1))
+    let v = j .judge .ensures (l .grammar) (l .table) (read-given l (room (start-of r))) (read-goal l) in
+    let h = holds-zero (read-refused l v (k .before .before .before .before .before .before .before .before .before .before .verdict .given .1)) (zero k) in
+    promised {b = lent (start-of r)} {a = wiped k} (room (start-of r)) (h .0, holds-alike (alike r) (h .1))
 
 enum-told-2 : tie.Need-enum-told-2
 enum-told-2 c = search needs
@@ -158,9 +162,12 @@ same-length-24 : tie.Need-same-length-24
 same-length-24 c = alike (books-of (told-of (c .before .before))) .named-same
 
 returns-3 : tie.Need-returns-3
-returns-3 c = let j : tie.After-judge = c .before .before in let l = load (told-of j) in
-    let v = j .judge .ensures (l .grammar) (l .table) (loaded-given l (room (start-of (books-of (told-of j))))) (loaded-goal l) in
-    loaded-accepted l v (c .enum-told2 .given .1)
+returns-3 c =
+    let j : tie.After-judge = c .before .before in
+    let l = load (told-of j) in
+    let r = books-of (told-of j) in
+    let v = j .judge .ensures (l .grammar) (l .table) (read-given l (room (start-of r))) (read-goal l) in
+    promised {b = lent (start-of r)} {a = filled r} (room (start-of r)) (read-accepted l v (c .enum-told2 .given .1))
 
 pub load-tables-spec : {M : Type 1} → statement M
 load-tables-spec =

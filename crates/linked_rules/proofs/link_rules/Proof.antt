@@ -1,5 +1,5 @@
 -- The rows of the rules passed are written.
-use mathlib.Core.Path.{_≡_, sym, ap, _∙_}
+use mathlib.Core.Path.{_≡_, refl, sym, ap, _∙_}
 use Prim.Native.Nat.{ℕ, _+_, _≤_, _-_}
 use native.Mathlib.Omega.{arith}
 use lib.ListN.{length, length-replicate}
@@ -11,19 +11,33 @@ use Rattle.linked_rules.proofs.link_rules.Statement.{statement}
 use Rattle.linked_rules.proofs.link_rules.Tie as tie
 
 abbrev Inv-loop : tie.InvT-loop
-Inv-loop items rules strings entries uses rows₀ i₀ rows i = (1 ≤ i) × (i ≤ rules + 1) × (length rows ≡ 8448) × RulesLinked items entries uses i rows
+Inv-loop items rules strings entries rows₀ uses i₀ rows i = (1 ≤ i) × (i ≤ rules + 1) × (length rows ≡ 8448) × RulesLinked items entries uses i rows
 
 abbrev μ-loop : tie.MeasureT-loop
-μ-loop items rules strings entries uses rows₀ i₀ rows i = rules + 1 - i
+μ-loop items rules strings entries rows₀ uses i₀ rows i = rules + 1 - i
+
+slice-aggregate-note-uses : tie.Need-slice-aggregate-note-uses Inv-loop μ-loop
+slice-aggregate-note-uses c = search needs
+
+note-uses-requires : tie.Need-note-uses-requires Inv-loop μ-loop
+note-uses-requires c κs = let s = c .before .before .before .before in (s .pre .0, (s .pre .1 .0, s .pre .1 .1, refl))
 
 loop-holds : tie.Need-loop-holds Inv-loop μ-loop
-loop-holds c = let s = c .before .before .before .before in (omega arith, omega arith, ap length (s .pre .1 .3) ∙ length-replicate {A = ℕ} 8448 0, rules-start (s .pre .1 .3))
+loop-holds c =
+    let s = c .before .before .before .before .before .before in
+    (omega arith, omega arith, ap length (s .pre .1 .3) ∙ length-replicate {A = ℕ} 8448 0, rules-start (s .pre .1 .3))
 
 add-link-rule : tie.Need-add-link-rule Inv-loop μ-loop
 add-link-rule c = search needs
 
+slice-aggregate-link-rule : tie.Need-slice-aggregate-link-rule Inv-loop μ-loop
+slice-aggregate-link-rule c = search needs
+
 link-rule-requires : tie.Need-link-rule-requires Inv-loop μ-loop
-link-rule-requires c κs = search needs
+link-rule-requires c κs =
+    let s = c .before .before .before .before .before .before .before .before .before .before in
+    let low = c .before .before .loop-test .taken in
+    (s .pre .0, ((s .pre .1 .2, c .before .before .before .before .before .note-uses .ensures .0, c .before .before .before .loop .inv .2), (omega (arith, low), omega (arith, low, s .pre .1 .0))))
 
 add-i : tie.Need-add-i Inv-loop μ-loop
 add-i c = search needs
@@ -32,13 +46,18 @@ loop-less : tie.Need-loop-less Inv-loop μ-loop
 loop-less c = search needs
 
 loop-again : tie.Need-loop-again Inv-loop μ-loop
-loop-again c = let o = c .before .before .before .before .before .loop in let e = c .before .before .link-rule .ensures in (omega arith, omega arith, e .long, rules-more (o .inv .3) e)
+loop-again c = let o = c .before .before .before .before .before .before .loop in let e = c .before .before .link-rule .ensures in (omega arith, omega arith, e .long, rules-more (o .inv .3) e)
 
 same-length : tie.Need-same-length Inv-loop μ-loop
-same-length c = c .before .loop .inv .2 ∙ sym (ap length (c .before .before .before .before .before .before .pre .1 .3) ∙ length-replicate {A = ℕ} 8448 0)
+same-length c = c .before .loop .inv .2 ∙ sym (ap length (c .before .before .before .before .before .before .before .before .pre .1 .3) ∙ length-replicate {A = ℕ} 8448 0)
 
 returns : tie.Need-returns Inv-loop μ-loop
-returns c = let o = c .before .loop in (o .inv .2, λ g t start S H U M. linked g t S H U M (rules-all (omega (arith, o .inv .1, c .loop-test .left)) (o .inv .3)) start)
+returns c =
+    let o = c .before .loop in
+    let noted = c .before .before .before .note-uses .ensures in (
+      o .inv .2,
+      λ g t start S H M. linked g t S H (noted .1 g t S M) M (rules-all (omega (arith, o .inv .1, c .loop-test .left)) (o .inv .3)) start,
+    )
 
 pub link-rules-spec : {M : Type 1} → statement M
 link-rules-spec =
@@ -46,8 +65,11 @@ link-rules-spec =
     (tie.spec
     Inv-loop
     μ-loop
+    slice-aggregate-note-uses
+    note-uses-requires
     loop-holds
     add-link-rule
+    slice-aggregate-link-rule
     link-rule-requires
     add-i
     loop-less

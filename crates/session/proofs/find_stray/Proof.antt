@@ -26,15 +26,15 @@ shared-slice-read-wide c = search needs
 wide-requires : tie.Need-wide-requires Inv-loop μ-loop
 wide-requires c κs = search needs
 
-in-range-requires : tie.Need-in-range-requires Inv-loop μ-loop
-in-range-requires c κs = search needs
+is-terminal-requires : tie.Need-is-terminal-requires Inv-loop μ-loop
+is-terminal-requires c κs = search needs
 
 returns : tie.Need-returns Inv-loop μ-loop
 returns c =
     let o = c .before .before .before .before .before .loop in
     let k = c .before .before .before .before .before .before .before .args in
     sym (o .inv .1 ∙ stray-here (k .terminals) (o .i) (k .tokens .now) (c .before .before .before .before .loop-test .taken)
-    (ap (λ (x : ℕ). within 1 x (k .terminals)) (sym (c .before .before .wide .ensures .0)) ∙ (sym (c .before .in-range .ensures) ∙ not-true _ (c .if1 .taken))))
+    (ap (λ (x : ℕ). within 1 x (k .terminals)) (sym (c .before .before .wide .ensures .0)) ∙ (sym (c .before .is-terminal .ensures) ∙ not-true _ (c .if1 .taken))))
 
 add-i : tie.Need-add-i Inv-loop μ-loop
 add-i c = search needs
@@ -48,7 +48,7 @@ loop-again c =
     let k = c .before .before .before .before .before .before .before .args in (
       omega arith,
       o .inv .1 ∙ stray-more (k .terminals) (o .i) (k .tokens .now) (c .before .before .before .before .loop-test .taken)
-          (ap (λ (x : ℕ). within 1 x (k .terminals)) (sym (c .before .before .wide .ensures .0)) ∙ (sym (c .before .in-range .ensures) ∙ not-false _ (c .if1 .left))),
+          (ap (λ (x : ℕ). within 1 x (k .terminals)) (sym (c .before .before .wide .ensures .0)) ∙ (sym (c .before .is-terminal .ensures) ∙ not-false _ (c .if1 .left))),
     )
 
 returns-2 : tie.Need-returns-2 Inv-loop μ-loop
@@ -63,7 +63,7 @@ find-stray-spec =
     loop-holds
     shared-slice-read-wide
     wide-requires
-    in-range-requires
+    is-terminal-requires
     returns
     add-i
     loop-less

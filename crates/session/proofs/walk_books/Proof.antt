@@ -2,7 +2,7 @@
 use lib.ListN.{length}
 use borrow.Author.Needs.{needs}
 use Rattle.checker.specs.Checked.{checkedOf}
-use Rattle.session.proofs.BookLaws.{books-refused, loaded, lent-rooms, books-walked}
+use Rattle.session.proofs.BookLaws.{books-refused, books-walked}
 use Rattle.session.proofs.walk_books.Statement.{statement}
 use Rattle.session.proofs.walk_books.Tie as tie
 
@@ -59,9 +59,8 @@ slice-aggregate-walk-table-5 c = search needs
 
 walk-table-requires : tie.Need-walk-table-requires
 walk-table-requires c κs =
-    let e = c .before .before .before .before .before .before .before .before .before .before .before .before .before .before .before .before .before .before .before .load-tables .ensures in
-    let l = loaded lent-rooms (e .0) (c .before .before .before .before .before .before .before .before .before .answer2 .given .1) (e .1) in
-    (l .shaped, ((l .few-rules, l .some-strings, l .few-strings, l .entries-room), search needs))
+    let promise = c .before .before .before .before .before .before .before .before .before .before .before .before .before .before .before .before .before .before .before .load-tables .ensures .1 .1 in
+    (promise _ (c .before .before .before .before .before .before .before .before .before .answer2 .given .1) .readable, search needs)
 
 same-length : tie.Need-same-length
 same-length c = search needs
@@ -83,8 +82,8 @@ same-length-4 c = search needs
 returns-2 : tie.Need-returns-2
 returns-2 c =
     let k = c .before .before .before .before .before .before .before .before .before .before .before .before .before .before .before .before .before .before .before .before .before .before .before .before .before .before .before .before .before .before .before .before .before .before .before .before .before .before .args in
-    let e = c .before .before .before .before .before .before .before .before .before .before .before .before .before .before .before .before .before .before .before .before .before .before .before .before .load-tables .ensures in
-    books-walked (length (k .stack .now)) (length (k .listing .now)) (k .tokens .now) (loaded lent-rooms (e .0) (c .before .before .before .before .before .before .before .before .before .before .before .before .before .before .answer2 .given .1) (e .1)) (c .before .before .before .before .walk-table .ensures)
+    let promise = c .before .before .before .before .before .before .before .before .before .before .before .before .before .before .before .before .before .before .before .before .before .before .before .before .load-tables .ensures .1 .1 in
+    books-walked (length (k .stack .now)) (length (k .listing .now)) (k .tokens .now) (promise _ (c .before .before .before .before .before .before .before .before .before .before .before .before .before .before .answer2 .given .1)) (c .before .before .before .before .walk-table .ensures)
 
 pub walk-books-spec : {M : Type 1} → statement M
 walk-books-spec =

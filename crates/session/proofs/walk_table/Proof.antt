@@ -4,7 +4,7 @@ use Prim.Native.Nat.{ℕ}
 use lib.ListN.{length}
 use borrow.Author.Needs.{needs}
 use Rattle.session.specs.Session.{strayFrom}
-use Rattle.session.proofs.TableLaws.{told, stray-session, table-session}
+use Rattle.session.proofs.TableLaws.{stray-session, table-session}
 use Rattle.session.proofs.walk_table.Statement.{statement}
 use Rattle.session.proofs.walk_table.Tie as tie
 
@@ -24,28 +24,21 @@ same-length-2 : tie.Need-same-length-2
 same-length-2 c = search needs
 
 returns : tie.Need-returns
-returns c = λ g t S H A et eg M.
+returns c = λ g t I.
     let k = c .before .before .before .before .before .before .before .before .before .before .before .before .before .before .before .before .before .before .before .args in
     stray-session g t (length (k .stack .now)) (length (k .listing .now)) _ (k .tokens .now)
-    (ap (λ (x : ℕ). strayFrom x 0 (k .tokens .now)) et ∙ (sym (c .before .before .before .before .before .before .before .before .before .before .find-stray .ensures) ∙ c .before .before .before .before .before .before .before .before .stray .given .1)) (c .before .before .before .before .refuse .ensures)
+    (ap (λ (x : ℕ). strayFrom x 0 (k .tokens .now)) (I .terminals-is) ∙ (sym (c .before .before .before .before .before .before .before .before .before .before .find-stray .ensures) ∙ c .before .before .before .before .before .before .before .before .stray .given .1)) (c .before .before .before .before .refuse .ensures)
 
 enum-told : tie.Need-enum-told
 enum-told c = search needs
 
-slice-aggregate-entries-meet : tie.Need-slice-aggregate-entries-meet
-slice-aggregate-entries-meet c = search needs
-
-entries-meet-requires : tie.Need-entries-meet-requires
-entries-meet-requires c κs = search needs
-
 slice-aggregate-link-rules : tie.Need-slice-aggregate-link-rules
 slice-aggregate-link-rules c = search needs
 
-slice-aggregate-link-rules-2 : tie.Need-slice-aggregate-link-rules-2
-slice-aggregate-link-rules-2 c = search needs
-
 link-rules-requires : tie.Need-link-rules-requires
-link-rules-requires c κs = search needs
+link-rules-requires c κs =
+    let r = c .before .before .before .before .before .before .before .before .before .before .before .before .pre .0 in
+    (r .shaped, (r .few-rules, r .few-strings, r .entries-room, refl))
 
 shared-slice-read-start : tie.Need-shared-slice-read-start
 shared-slice-read-start c = search needs
@@ -63,14 +56,13 @@ same-length-4 : tie.Need-same-length-4
 same-length-4 c = search needs
 
 returns-2 : tie.Need-returns-2
-returns-2 c = λ g t S H A et eg M.
-    let k = c .before .before .before .before .before .before .before .before .before .before .before .before .before .before .before .before .before .before .before .before .before .before .before .before .before .before .before .args in
-    let none = ap (λ (x : ℕ). strayFrom x 0 (k .tokens .now)) et ∙ (sym (c .before .before .before .before .before .before .before .before .before .before .before .before .before .before .before .before .before .before .find-stray .ensures) ∙ c .before .before .before .before .before .before .before .before .before .before .before .before .before .before .before .before .enum-told .given .1) in
-    let met = c .before .before .before .before .before .before .before .before .before .before .before .before .before .before .entries-meet .ensures .1 g t S eg in
-    let uses = met .1 (told (met .0) (M .entries)) in
+returns-2 c = λ g t I.
+    let k = c .before .before .before .before .before .before .before .before .before .before .before .before .before .before .before .before .before .before .before .before .before .before .before .args in
+    let found = c .before .before .before .before .before .before .before .before .before .before .before .before .before .before .find-stray .ensures in
+    let none = ap (λ (x : ℕ). strayFrom x 0 (k .tokens .now)) (I .terminals-is) ∙ (sym found ∙ c .before .before .before .before .before .before .before .before .before .before .before .before .enum-told .given .1) in
+    let linked = c .before .before .before .before .before .before .before .before .before .before .link-rules .ensures .1 g t _ (I .holds-strings) (I .holds-entries) (I .meets .entries) in
     let walked = c .before .before .before .before .walk-tokens .ensures in
-    table-session g t S H A M (c .before .before .before .before .before .before .before .before .before .before .link-rules .ensures .1 g t _ S H uses (M .entries)) refl (length (k .stack .now)) (length (k .listing .now)) (k .tokens .now) none
-    (walked .0) (walked .1 .0) (walked .1 .1)
+    table-session g t I linked refl (length (k .stack .now)) (length (k .listing .now)) (k .tokens .now) none (walked .0) (walked .1 .0) (walked .1 .1)
 
 pub walk-table-spec : {M : Type 1} → statement M
 walk-table-spec =
@@ -83,10 +75,7 @@ walk-table-spec =
     same-length-2
     returns
     enum-told
-    slice-aggregate-entries-meet
-    entries-meet-requires
     slice-aggregate-link-rules
-    slice-aggregate-link-rules-2
     link-rules-requires
     shared-slice-read-start
     slice-aggregate-walk-tokens

@@ -1,0 +1,38 @@
+-- Each group has an entry, so every row is filled.
+use Prim.Native.Nat.{ℕ}
+use mathlib.Core.Path.{refl, ap, _∙_}
+use borrow.Author.Needs.{needs}
+use lib.ListN.{length, length-replicate}
+use Rattle.fixpoint.proofs.PassLaws.{told}
+use Rattle.entry_list.proofs.ListLaws.{meets-entered, uses-hold, zeros-of}
+use Rattle.entry_list.proofs.note_uses.Statement.{statement}
+use Rattle.entry_list.proofs.note_uses.Tie as tie
+
+slice-aggregate-fill-rules : tie.Need-slice-aggregate-fill-rules
+slice-aggregate-fill-rules c = search needs
+
+fill-rules-requires : tie.Need-fill-rules-requires
+fill-rules-requires c κs =
+    let s = c .before .before .before .before in
+    (s .pre .0, ((s .pre .1 .0, s .pre .1 .1), (ap length (s .pre .1 .2) ∙ length-replicate {A = ℕ} 2048 0, refl)))
+
+same-length : tie.Need-same-length
+same-length c = search needs
+
+returns : tie.Need-returns
+returns c =
+    let f = c .before .before .before .fill-rules .ensures in (
+      f .0 .0,
+      λ g t S M.
+          let F = f .1 g t S (zeros-of 2048 (c .before .before .before .before .before .before .before .before .pre .1 .2)) in
+          uses-hold g t S (F .filled (told (F .decides) (meets-entered g t S M))),
+    )
+
+pub note-uses-spec : {M : Type 1} → statement M
+note-uses-spec =
+    tie.close
+    (tie.spec
+    slice-aggregate-fill-rules
+    fill-rules-requires
+    same-length
+    returns)
