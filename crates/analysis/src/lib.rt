@@ -1,4 +1,5 @@
 // Nullable symbols and first sets of a grammar in memory, and first of the rest of an item.
+// Inner: for the checker and the builder.
 ghost use mathlib.Core.Path.{_≡_};
 ghost use Prim.Native.Nat.{_+_, _<_, _≤_};
 ghost use lib.ListN.{length, replicate};

@@ -1,4 +1,5 @@
 // The construction's table of a grammar book, in memory.
+// Inner: for `builder` and `explain_grammar`. A refusal leaves the slices free: locals of theirs, not read then.
 use grammar::GrammarReply;
 use header::Heading;
 use reply::Kind;

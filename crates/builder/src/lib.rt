@@ -1,4 +1,5 @@
 // The builder: the construction's table book of a grammar book.
+// The door is `build_tables`.
 use build_memory::Built;
 use reply::Kind;
 use reply::Reply;

@@ -1,5 +1,6 @@
 // The calls on bytes for C and Rust: each answers the reply's number and puts its place, and what it counts, into the first elements of
 // slices lent for them.
+// Each is a door.
 ghost use mathlib.Core.Path.{_≡_};
 ghost use lib.ListN.{length, set};
 ghost use Rattle.reply.specs.Reply.{numberOf, placeOf};

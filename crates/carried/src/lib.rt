@@ -1,4 +1,5 @@
 // The items of a state with their lookaheads, and what can begin behind their dots.
+// Inner: for the checker and the builder.
 ghost use mathlib.Core.Path.{_≡_};
 ghost use Prim.Native.Nat.{_+_, _≤_};
 ghost use lib.ListN.{length};

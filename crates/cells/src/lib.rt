@@ -1,4 +1,5 @@
 // What the items of a state ask of its cells, and whether the cells are so.
+// Inner: for the checker and the builder.
 ghost use mathlib.Core.Path.{_≡_};
 ghost use mathlib.Core.Bool.{true};
 ghost use mathlib.Core.List.{List};

@@ -1,4 +1,5 @@
 // The checker of tables, over both books.
+// The door is `check_tables`; `load_tables` is inner, for `session`.
 use reply::Reply;
 use table::TableReply;
 ghost use mathlib.Core.Path.{_≡_};

@@ -1,4 +1,5 @@
 // Which two actions the items of a state ask of one cell.
+// Inner: for `explanation`.
 ghost use mathlib.Core.Path.{_≡_};
 ghost use mathlib.Core.List.{List};
 ghost use Prim.Native.Nat.{ℕ, suc, _*_, _+_, _<_, _≤_};

@@ -1,4 +1,5 @@
 // Whether the kernels at a state are those of the construction.
+// Inner: for the checker.
 ghost use mathlib.Core.Path.{_≡_};
 ghost use mathlib.Core.List.{List};
 ghost use Prim.Native.Nat.{ℕ, _+_, _<_, _≤_};

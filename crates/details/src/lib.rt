@@ -1,4 +1,5 @@
 // What exactly is wrong with tables that are refused with 7 or 10.
+// Inner: for `explanation`.
 use fixpoint::Found;
 ghost use mathlib.Core.Path.{_≡_};
 ghost use mathlib.Core.List.{List};

@@ -1,4 +1,5 @@
 // The list of entries: the goal alone, then every other distinct group once; and which entries the groups of a rule use.
+// Inner: for the checker, the builder and `linked_rules`.
 use fixpoint::Found;
 ghost use mathlib.Core.Path.{_≡_};
 ghost use mathlib.Core.Bool.{true};

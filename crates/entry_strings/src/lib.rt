@@ -1,4 +1,5 @@
 // Finds the entries of a grammar that stands in memory, and stores their strings as items behind its rules.
+// Inner: for `build_memory`.
 ghost use mathlib.Core.Path.{_≡_};
 ghost use mathlib.Core.List.{List};
 ghost use mathlib.Core.Option.{some};

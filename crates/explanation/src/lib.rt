@@ -1,4 +1,5 @@
 // Refusals in words: the line, the item, the code, the actions.
+// Inner: for the programs that explain.
 use conflicts::Conflict;
 use details::EntryFault;
 use details::ItemFault;

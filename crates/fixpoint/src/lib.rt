@@ -1,4 +1,5 @@
 // Least sets as flags in memory.
+// Inner: for crates that keep flags in memory.
 ghost use Prim.Native.Nat.{_≤_};
 ghost use lib.ListN.{length};
 ghost use Rattle.fixpoint.specs.Flags.{Off};

@@ -1,4 +1,5 @@
 // Reads a grammar book into the item table.
+// The door is `read_grammar`.
 use fixpoint::Found;
 use header::HeaderLine;
 use header::Heading;

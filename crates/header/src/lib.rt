@@ -1,4 +1,5 @@
 // The first line of a grammar book, `G,t,n,r,goal`.
+// Inner: for `grammar`.
 use range::in_range;
 use reply::Kind;
 use reply::Refusal;

@@ -1,4 +1,5 @@
 // What the items of a state ask of the lookaheads of others, added as flags at line * 64 + code.
+// Inner: for the checker and the builder.
 ghost use mathlib.Core.Path.{_≡_};
 ghost use Prim.Native.Nat.{ℕ, suc, _+_, _*_, _<_, _≤_};
 ghost use lib.ListN.{length};

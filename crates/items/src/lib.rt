@@ -1,4 +1,5 @@
 // The item table in memory: rules, then entry strings, a row of 64 bytes each.
+// Inner: for crates that know the table to be in shape.
 ghost use mathlib.Core.Path.{_≡_};
 ghost use Prim.Native.Nat.{_+_, _*_, _<_, _≤_};
 ghost use Rattle.items.specs.Layout.{Shaped, leftAt, lengthAt, markAt, unitAt, symbolAt, startAt};

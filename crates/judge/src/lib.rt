@@ -1,4 +1,5 @@
 // The verdict on tables in memory.
+// Inner: for `checker`.
 use reply::Kind;
 use reply::Reply;
 ghost use mathlib.Core.Path.{_≡_};

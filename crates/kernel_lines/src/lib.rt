@@ -1,4 +1,5 @@
 // Kernel lines in memory, found by state, item and dot.
+// Inner: for the checker and the builder.
 use fixpoint::Found;
 ghost use mathlib.Core.Path.{_≡_};
 ghost use Prim.Native.Nat.{ℕ, _+_, _<_, _≤_};

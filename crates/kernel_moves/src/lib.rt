@@ -1,4 +1,5 @@
 // What moves from a kernel set, given as the rising numbers item * 16 + dot of its items.
+// Inner: for the builder.
 ghost use mathlib.Core.Path.{_≡_};
 ghost use Prim.Native.Nat.{_+_, _*_, _<_, _≤_};
 ghost use mathlib.Core.List.{_++_};

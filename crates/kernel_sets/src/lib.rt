@@ -1,4 +1,5 @@
 // Kernel sets in memory, and what joins them as a state is left. A kernel set is the rising list of the numbers item * 16 + dot of its items.
+// Inner: for the builder.
 ghost use mathlib.Core.Path.{_≡_};
 ghost use Prim.Native.Nat.{_+_, _<_, _≤_};
 ghost use lib.ListN.{length, take};

@@ -1,4 +1,5 @@
 // The builder's lookaheads: the smallest that satisfy the inclusions, by passes over the states.
+// Inner: for `build_memory`.
 ghost use mathlib.Core.Path.{_≡_};
 ghost use Prim.Native.Nat.{_+_, _*_, _<_, _≤_};
 ghost use lib.ListN.{length};

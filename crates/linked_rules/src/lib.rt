@@ -1,4 +1,5 @@
 // The rules as the walker reads them: what an announce of each needs, in a row of 32 bytes.
+// Inner: for `session`.
 ghost use mathlib.Core.Path.{_≡_};
 ghost use Prim.Native.Nat.{ℕ, _+_, _*_, _<_, _≤_};
 ghost use lib.ListN.{length, replicate};

@@ -1,4 +1,5 @@
 // The inclusions that lookaheads must meet; states whose lookaheads are too few are flagged.
+// Inner: for the checker.
 ghost use mathlib.Core.Path.{_≡_};
 ghost use mathlib.Core.List.{List};
 ghost use Prim.Native.Nat.{ℕ, _*_, _<_, _≤_};

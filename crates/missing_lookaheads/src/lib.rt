@@ -1,4 +1,5 @@
 // Which lookahead a kernel line of a state lacks.
+// Inner: for `explanation`.
 use fixpoint::Found;
 ghost use mathlib.Core.Path.{_≡_};
 ghost use mathlib.Core.List.{List};

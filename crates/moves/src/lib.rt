@@ -1,4 +1,5 @@
 // What moves from a state, and on which symbols.
+// Inner: for the checker and the builder.
 ghost use mathlib.Core.Path.{_≡_};
 ghost use Prim.Native.Nat.{ℕ, _+_, _-_, _<_, _≤_};
 ghost use mathlib.Core.List.{List};

@@ -1,4 +1,5 @@
 // What the programs share: the files that arguments name, and the lines that are written.
+// Inner: for the programs.
 use libc::STDERR_FILENO;
 use libc::STDOUT_FILENO;
 use text::Cursor;

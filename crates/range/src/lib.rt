@@ -1,4 +1,5 @@
 // Ranges of figures.
+// Inner: for the readers of lines.
 ghost use mathlib.Core.Path.{_≡_};
 ghost use Rattle.range.specs.Range.{within};
 

@@ -1,4 +1,5 @@
 // Whether a grammar in memory is reduced: each nonterminal productive and reachable.
+// Inner: for `grammar` and `analysis`, on rules in memory.
 ghost use mathlib.Core.Path.{_≡_};
 ghost use Prim.Native.Nat.{_+_, _<_, _≤_};
 ghost use lib.ListN.{length, replicate};

@@ -1,4 +1,5 @@
 // The replies of every reader, builder and walker, and the zeroing of lent slices.
+// The types, `number` and `place` are for whoever calls a door; the rest is inner.
 ghost use mathlib.Core.Path.{_≡_};
 ghost use lib.ListN.{length, replicate};
 ghost use Rattle.reply.specs.Reply.{kindNumber, numberOf, placeOf};

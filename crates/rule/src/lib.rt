@@ -1,4 +1,5 @@
 // Rule lines of a grammar book, `R,left,..` or `U,left,..`, read into the item table.
+// Inner: for `grammar`. A refusal leaves the row free; `grammar::read_grammar` then clears the item table.
 use reply::Kind;
 use reply::Refusal;
 use symbol::Symbol;

@@ -1,4 +1,5 @@
 // A session over a scan file.
+// The door is `run_scans`.
 use reply::Kind;
 use reply::Refusal;
 use reply::Reply;

@@ -1,4 +1,5 @@
 // Reads scan files: a token for each line.
+// The door is `read_scans`.
 use reply::Kind;
 use reply::Refusal;
 use reply::Reply;

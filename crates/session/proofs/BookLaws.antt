@@ -11,13 +11,11 @@ use Rattle.leftcorner.specs.Table.{Table}
 use Rattle.leftcorner.specs.ReadOff.{clash}
 use Rattle.reply.specs.declared.Kind.the-variants.{LimitExceeded}
 use Rattle.reply.specs.declared.Refusal.{Refusal}
-use Rattle.table.specs.declared.Counts.{Counts}
 use Rattle.table.specs.declared.TableReply.{TableReply}
 use Rattle.table.specs.declared.TableReply.the-variants as reply
 use Rattle.table.specs.Book.{Reading, whole, rejected}
-use Rattle.table.specs.Memory.{replyOf, Slices}
+use Rattle.table.specs.Memory.{replyOf}
 use Rattle.checker.specs.Checked.{checkedOf}
-use Rattle.checker.specs.Loaded.{InMemory, Loaded}
 use Rattle.walker.specs.declared.Walked.{Walked}
 use Rattle.session.specs.Session.{Session, refusedBy, refusedAt, tableSession, afterBooks, session, Tells}
 
@@ -29,12 +27,10 @@ books-refused n k (rejected y) w {why = why} {a = a} {stack = stack} {listing = 
     subst (λ (z : Refusal). Tells (refusedBy n k z) a stack listing) (let q : why ≡ y = cc in q) T
 
 -- books that are accepted
-pub books-walked : (n k : ℕ) (w : List ℕ) {gs s : List ℕ} {m : Slices} {c : Counts} {a : Walked} {stack listing : List ℕ} → Loaded gs s m c
-    → ((g : Grammar) (t : Table) → InMemory g t (m .items) (m .states) (m .kinds) (m .values) (m .gotos) (c .grammar .terminals) (c .grammar .rules) (c .entries)
-    → Tells (tableSession n k g t w) a stack listing)
-    → Tells (afterBooks n k (checkedOf gs s) w) a stack listing
-books-walked n k w {a = a} {stack = stack} {listing = listing} L f =
-    subst (λ (y : Reading). Tells (afterBooks n k y w) a stack listing) (sym (L .books)) (f (L .grammar) (L .table) (L .in-memory))
+pub books-walked : (n k : ℕ) (x : Reading) (w : List ℕ) {g : Grammar} {t : Table} {a : Walked} {stack listing : List ℕ} → x ≡ whole g t
+    → Tells (tableSession n k g t w) a stack listing → Tells (afterBooks n k x w) a stack listing
+books-walked n k x w {a = a} {stack = stack} {listing = listing} e T =
+    subst (λ (y : Reading). Tells (afterBooks n k y w) a stack listing) (sym e) T
 
 -- a length that is too large, or not
 module _ (most : ℕ) (l : List ℕ) (x y : Session) {a : Walked} {stack listing : List ℕ} where

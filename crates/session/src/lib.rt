@@ -1,4 +1,5 @@
 // A session of scans: both books are read and checked, then the tokens are walked.
+// The door is `run_session`; `refuse` is inner.
 use fixpoint::Found;
 use reply::Kind;
 use reply::Refusal;

@@ -1,4 +1,5 @@
 // The states of a grammar's table, found from the entries on.
+// Inner: for `build_memory`.
 use kernel_sets::Size;
 ghost use Prim.Native.Nat.{ℕ, _+_, _*_, _<_, _≤_};
 ghost use lib.ListN.{length, getD};

@@ -1,4 +1,5 @@
 // Symbol codes: the end of the tokens, terminals and nonterminals.
+// Inner: for the readers of lines, and for the tokens of a session.
 use range::in_range;
 ghost use mathlib.Core.Path.{_≡_};
 ghost use Prim.Native.Nat.{_≤_};

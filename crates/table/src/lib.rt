@@ -1,4 +1,5 @@
 // Reads a table book, with the grammar book it belongs to, into memory.
+// The door is `read_tables`; `clear_all` is inner.
 use grammar::GrammarReply;
 use header::Heading;
 use range::in_range;

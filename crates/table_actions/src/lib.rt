@@ -1,4 +1,5 @@
 // Action lines of table books, the cells and gotos in memory.
+// Inner: for `table`. A refusal leaves the slices free; `table::read_tables` then clears them.
 use range::in_range;
 use reply::Kind;
 use reply::Refusal;

@@ -1,4 +1,5 @@
 // The cells of the builder's table: announces and pops join the moves, unless items ask two different actions of one cell.
+// Inner: for `build_memory`.
 ghost use mathlib.Core.Path.{_≡_};
 ghost use mathlib.Core.Bool.{true};
 ghost use mathlib.Core.List.{List};

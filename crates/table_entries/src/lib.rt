@@ -1,4 +1,5 @@
 // Entry lines of table books, and their strings and states in memory.
+// Inner: for `table` and the builder. A refusal leaves the slices free; `table::read_tables` then clears them.
 use range::in_range;
 use reply::Kind;
 use reply::Refusal;

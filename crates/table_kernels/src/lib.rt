@@ -1,4 +1,5 @@
 // Kernel lines of table books, their figures and lookaheads in memory.
+// Inner: for `table`. A refusal leaves the slices free; `table::read_tables` then clears them.
 use range::in_range;
 use reply::Kind;
 use reply::Refusal;

@@ -1,4 +1,5 @@
 // Lines of table books: a letter, then numbers to the line's end; and what comes of a line and of a block of lines.
+// Inner: for the readers of blocks. A broken line leaves `numbers` free: a local of theirs, not read then.
 use reply::Kind;
 use reply::Refusal;
 use text::Cursor;

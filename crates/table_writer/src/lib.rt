@@ -1,4 +1,5 @@
 // Writes a table that stands in memory as a table book.
+// Inner: for `builder`.
 ghost use mathlib.Core.Path.{_≡_};
 ghost use mathlib.Core.List.{[], _∷_, map};
 ghost use Prim.Native.Nat.{_+_, _*_, _<_, _≤_, min};

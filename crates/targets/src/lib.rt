@@ -1,4 +1,5 @@
 // The moves from a state, against the kernels of the states that they lead to.
+// Inner: for the checker.
 ghost use mathlib.Core.Path.{_≡_};
 ghost use mathlib.Core.List.{List};
 ghost use Prim.Native.Nat.{ℕ, _+_, _<_, _≤_};

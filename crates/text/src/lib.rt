@@ -1,4 +1,5 @@
 // Fields of books: what stands at a cursor, up to the comma or the LF that ends it.
+// Inner: for the readers of lines.
 ghost use mathlib.Core.Path.{_≡_};
 ghost use Prim.Native.Nat.{_≤_, _<_};
 ghost use lib.ListN.{drop};

@@ -1,4 +1,5 @@
 // The inner loop of the session walker, over tables in memory.
+// Inner: for `session`. `Walked`, `as_reply`, `rule_count` and `unit_count` are for whoever calls a door.
 ghost use mathlib.Core.Path.{_≡_};
 ghost use Prim.Native.Nat.{_+_, _<_, _≤_};
 ghost use lib.ListN.{length, getD, replicate};

@@ -83,7 +83,9 @@ returns-2 : tie.Need-returns-2
 returns-2 c =
     let k = c .before .before .before .before .before .before .before .before .before .before .before .before .before .before .before .before .before .before .before .before .before .before .before .before .before .before .before .before .before .before .before .before .before .before .before .before .before .before .args in
     let promise = c .before .before .before .before .before .before .before .before .before .before .before .before .before .before .before .before .before .before .before .before .before .before .before .before .load-tables .ensures .1 .1 in
-    books-walked (length (k .stack .now)) (length (k .listing .now)) (k .tokens .now) (promise _ (c .before .before .before .before .before .before .before .before .before .before .before .before .before .before .answer2 .given .1)) (c .before .before .before .before .walk-table .ensures)
+    let l = promise _ (c .before .before .before .before .before .before .before .before .before .before .before .before .before .before .answer2 .given .1) in
+    books-walked (length (k .stack .now)) (length (k .listing .now)) (checkedOf (k .grammar .now) (k .tables .now)) (k .tokens .now) (l .books)
+    (c .before .before .before .before .walk-table .ensures (l .grammar) (l .table) (l .in-memory))
 
 pub walk-books-spec : {M : Type 1} → statement M
 walk-books-spec =
