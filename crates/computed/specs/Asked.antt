@@ -113,7 +113,8 @@ module _ (g : Grammar) (L : Limits g) (ks : List Kernel) (same : states g ≡ ks
   Asks q X x = Asked g t (FirstByRules g) q X x
 
   abbrev found : {q i k d : ℕ} → Carries g t (FirstByRules g) q i k d → Listed g (L .formed) (L .few-entries) ks same ok nl fl F-is f ls done q i k d
-  found h = listed g (L .formed) (L .few-entries) ks same ok nl fl F-is f ls done (looked g (FirstByRules g) (first? g) (terminalCodes g) (first-in g) h)
+  found h =
+      listed g (L .formed) (L .few-entries) ks same ok nl fl F-is f ls done (looked g (FirstByRules g) (first? g) (terminalCodes g) (first-in g) h)
 
   entry-bare : (k : ℕ) {s : ℕ} {γ : List ℕ} → EntryAt g t k s γ → entryAt (bare g) k ≡ some (E s γ)
   entry-bare k e = sym (entry-over g t (bare g) (same-entries g (FirstByRules g) (first? g) (terminalCodes g) (first-in g)) k) ∙ e
@@ -131,9 +132,11 @@ module _ (g : Grammar) (L : Limits g) (ks : List Kernel) (same : states g ≡ ks
   asked-computed {q = q} {X = X} l h (to-move {i = i} {n = n} m) =
       let a = moved-alone g (FirstByRules g) (first? g) (terminalCodes g) (first-in g) m in
       let u = goes-to g L q X i n l h a in
-      let v = subst (λ (k : Kernel). In (i * 16 + n) k) (moves-computed g (L .formed) (L .few-entries) ks same ok q X) (in-move g (L .formed) (L .few-entries) (kernelOf g q) a) in
+      let v = subst (λ (k : Kernel). In (i * 16 + n) k) (moves-computed g (L .formed) (L .few-entries) ks same ok q X)
+      (in-move g (L .formed) (L .few-entries) (kernelOf g q) a) in
       let y = from-in (movers g (bare g) (kernelIn ks q)) X (i * 16 + n) v in
-      let p = in-left (lookAsks g (bare g) nl fl ks q ls) (image-in (moveAsk g (bare g) nl fl ks q) (y .0) (movers g (bare g) (kernelIn ks q)) (y .1)) in
+      let p = in-left (lookAsks g (bare g) nl fl ks q ls)
+      (image-in (moveAsk g (bare g) nl fl ks q) (y .0) (movers g (bare g) (kernelIn ks q)) (y .1)) in
       record {
         low = omega (arith, goto-computed g (L .formed) (L .few-entries) ks same ok q X, u .high, L .few-states);
         stands = subst (λ (z : ℕ). In (z * 1024 + (256 + gotoIn g (bare g) ks q z)) (asks g (bare g) nl fl ks ls q)) (y .2) p;
@@ -143,12 +146,15 @@ module _ (g : Grammar) (L : Limits g) (ks : List Kernel) (same : states g ≡ ks
       let x = i * 16 + length (r .before) in
       let a : itemOf x ≡ i = item-of i (length (r .before)) (v .dot) in
       let b : dotOf x ≡ length (r .before) = dot-of i (length (r .before)) (v .dot) in
-      let m : isMarked g (bare g) nl fl ks x ≡ true = ap (λ (z : ℕ). sameMark (recognitionPoint g (bare g) z) (dotOf x)) a ∙ ap (sameMark (recognitionPoint g (bare g) i)) b ∙ rule-mark g (bare g) nl fl ks i r e in
+      let m : isMarked g (bare g) nl fl ks x ≡ true = ap (λ (z : ℕ). sameMark (recognitionPoint g (bare g) z) (dotOf x)) a
+      ∙ ap (sameMark (recognitionPoint g (bare g) i)) b ∙ rule-mark g (bare g) nl fl ks i r e in
       let s : concat (r .groups) ≡ concat (groupsOf (ruleAt g i)) = ap (λ (o : Option Rule). concat (groupsOf o)) (sym e) in
       let n : In (X * 1024 + (512 + i)) (announceIf g (bare g) nl fl ks true i d) =
-      image-in (λ (z : ℕ). z * 1024 + (512 + i)) X (firstOf nl fl (concat (groupsOf (ruleAt g i))) d) (subst (λ (β : List ℕ). In X (firstOf nl fl β d)) s (F-is (concat (r .groups)) d X .from F)) in
+      image-in (λ (z : ℕ). z * 1024 + (512 + i)) X (firstOf nl fl (concat (groupsOf (ruleAt g i))) d)
+      (subst (λ (β : List ℕ). In X (firstOf nl fl β d)) s (F-is (concat (r .groups)) d X .from F)) in
       let o : In (X * 1024 + (512 + i)) (announceIf g (bare g) nl fl ks (isMarked g (bare g) nl fl ks x) (itemOf x) d) =
-      subst (λ (z : Bool). In (X * 1024 + (512 + i)) (announceIf g (bare g) nl fl ks z (itemOf x) d)) (sym m) (subst (λ (z : ℕ). In (X * 1024 + (512 + i)) (announceIf g (bare g) nl fl ks true z d)) (sym a) n) in
+      subst (λ (z : Bool). In (X * 1024 + (512 + i)) (announceIf g (bare g) nl fl ks z (itemOf x) d)) (sym m)
+      (subst (λ (z : ℕ). In (X * 1024 + (512 + i)) (announceIf g (bare g) nl fl ks true z d)) (sym a) n) in
       record {
         low = omega (arith, rule-range g i e .1, L .formed .few-rules);
         stands = ask-late q (X * 1024 + (512 + i)) (at-look g (bare g) nl fl ks q x d (X * 1024 + (512 + i)) ls (v .item) (v .code) (v .stands)
@@ -162,12 +168,16 @@ module _ (g : Grammar) (L : Limits g) (ks : List Kernel) (same : states g ≡ ks
       let b : dotOf x ≡ length γ = dot-of i (length γ) (v .dot) in
       let j : itemOf x - length (g .rules) ≡ k = omega (arith, a) in
       let m : endOf (entryAt (bare g) (itemOf x - length (g .rules))) (dotOf x) ≡ true =
-      ap (λ (z : ℕ). endOf (entryAt (bare g) z) (dotOf x)) j ∙ ap (λ (o : Option EntryLine). endOf o (dotOf x)) (entry-bare k e) ∙ eq-eqb (length γ) (dotOf x) (sym b) in
+      ap (λ (z : ℕ). endOf (entryAt (bare g) z) (dotOf x)) j ∙ ap (λ (o : Option EntryLine). endOf o (dotOf x)) (entry-bare k e)
+      ∙ eq-eqb (length γ) (dotOf x) (sym b) in
       let n : In (X * 1024 + (768 + suc (length γ))) (popIf (endOf (entryAt (bare g) (itemOf x - length (g .rules))) (dotOf x)) (dotOf x) X) =
-      subst (λ (z : Bool). In (X * 1024 + (768 + suc (length γ))) (popIf z (dotOf x) X)) (sym m) (subst (λ (z : ℕ). In (X * 1024 + (768 + suc (length γ))) (popIf true z X)) (sym b) here) in
+      subst (λ (z : Bool). In (X * 1024 + (768 + suc (length γ))) (popIf z (dotOf x) X)) (sym m)
+      (subst (λ (z : ℕ). In (X * 1024 + (768 + suc (length γ))) (popIf true z X)) (sym b) here) in
       record {
         low = omega (arith, wanted-short g (L .formed) (bare g) refl (entry-line g (bare g) refl k (entry-bare k e) .3));
-        stands = ask-late q (X * 1024 + (768 + suc (length γ))) (at-look g (bare g) nl fl ks q x X (X * 1024 + (768 + suc (length γ))) ls (v .item) (v .code) (v .stands)
+        stands =
+            ask-late q (X * 1024 + (768 + suc (length γ))) (at-look g (bare g) nl fl ks q x X (X * 1024 + (768 + suc (length γ))) ls (v .item)
+            (v .code) (v .stands)
             (in-right (announceIf g (bare g) nl fl ks (isMarked g (bare g) nl fl ks x) (itemOf x) X) n));
       }
 
@@ -183,9 +193,17 @@ module _ (g : Grammar) (L : Limits g) (ks : List Kernel) (same : states g ≡ ks
   end-entry zero k q = clash cc
   end-entry (suc e) k q = go (entryAt (bare g) (suc e)) refl q
     where
-      go : (o : Option EntryLine) → entryAt (bare g) (suc e) ≡ o → endOf o k ≡ true → (s : ℕ) × (γ : List ℕ) × (1 ≤ suc e) × EntryAt g t (suc e) s γ × (length γ ≡ k)
+      go : (o : Option EntryLine) → entryAt (bare g) (suc e) ≡ o → endOf o k ≡ true
+          → (s : ℕ) × (γ : List ℕ) × (1 ≤ suc e) × EntryAt g t (suc e) s γ × (length γ ≡ k)
       go none p z = clash cc
-      go (some (E s γ)) p z = (s, γ, omega arith, entry-over g t (bare g) (same-entries g (FirstByRules g) (first? g) (terminalCodes g) (first-in g)) (suc e) ∙ p, eqb-true (length γ) k z)
+      go (some (E s γ)) p z = (
+        s,
+        γ,
+        omega arith,
+        entry-over g t (bare g) (same-entries g (FirstByRules g) (first? g) (terminalCodes g) (first-in g)) (suc e)
+            ∙ p,
+        eqb-true (length γ) k z,
+      )
 
   pub computed-asked : (q X v : ℕ) → 1 ≤ q → q ≤ length (states g) → v < 1024 → In (X * 1024 + v) (asks g (bare g) nl fl ks ls q) → Some q X
   computed-asked q X v l h low m = go (in-either (map (moveAsk g (bare g) nl fl ks q) (movers g (bare g) (kernelIn ks q))) m)
@@ -196,12 +214,15 @@ module _ (g : Grammar) (L : Limits g) (ks : List Kernel) (same : states g ≡ ks
       moving : (y : ℕ) → In y (movers g (bare g) (kernelIn ks q)) → X * 1024 + v ≡ moveAsk g (bare g) nl fl ks q y → Some q X
       moving y n e =
           let z = in-from (movers g (bare g) (kernelIn ks q)) (y / 4096) y n refl in
-          let a = move-only g (kernelOf g q) (y / 4096) (suc (y % 4096)) (subst (λ (k : Kernel). In (suc (y % 4096)) k) (sym (moves-computed g (L .formed) (L .few-entries) ks same ok q (y / 4096))) z) in
+          let a = move-only g (kernelOf g q) (y / 4096) (suc (y % 4096))
+          (subst (λ (k : Kernel). In (suc (y % 4096)) k) (sym (moves-computed g (L .formed) (L .few-entries) ks same ok q (y / 4096))) z) in
           let u = goes-to g L q (y / 4096) _ _ l h a in
-          at-symbol (y / 4096) (omega (arith, e, low, goto-computed g (L .formed) (L .few-entries) ks same ok q (y / 4096), u .high, L .few-states)) (S 0)
+          at-symbol (y / 4096) (omega (arith, e, low, goto-computed g (L .formed) (L .few-entries) ks same ok q (y / 4096), u .high, L .few-states))
+          (S 0)
           (to-move (alone-moved g (FirstByRules g) (first? g) (terminalCodes g) (first-in g) l h a))
 
-      announcing : (x d : ℕ) → Lookahead g (FirstByRules g) q (itemOf x) (dotOf x) d → (b : Bool) → isMarked g (bare g) nl fl ks x ≡ b → In (X * 1024 + v) (announceIf g (bare g) nl fl ks b (itemOf x) d) → Some q X
+      announcing : (x d : ℕ) → Lookahead g (FirstByRules g) q (itemOf x) (dotOf x) d → (b : Bool) → isMarked g (bare g) nl fl ks x ≡ b
+          → In (X * 1024 + v) (announceIf g (bare g) nl fl ks b (itemOf x) d) → Some q X
       announcing x d k false e n = elim n [ ]
       announcing x d k true e n =
           let r = mark-rule g (bare g) nl fl ks (itemOf x) (dotOf x) e in
@@ -209,15 +230,19 @@ module _ (g : Grammar) (L : Limits g) (ks : List Kernel) (same : states g ≡ ks
           let F = F-is (concat (groupsOf (ruleAt g (itemOf x)))) d (c .0) .to (c .1) in
           let s = ap (λ (o : Option Rule). concat (groupsOf o)) (r .1) in
           at-symbol (c .0) (omega (arith, c .2, low, rule-range g (itemOf x) (r .1) .1, L .formed .few-rules)) (A (itemOf x))
-          (to-announce (itemOf x) (r .1) (held (subst (λ (z : ℕ). Lookahead g (FirstByRules g) q (itemOf x) z d) (sym (r .2)) k)) (subst (λ (β : List ℕ). FirstByRules g β d (c .0)) s F))
+          (to-announce (itemOf x) (r .1) (held (subst (λ (z : ℕ). Lookahead g (FirstByRules g) q (itemOf x) z d) (sym (r .2)) k))
+          (subst (λ (β : List ℕ). FirstByRules g β d (c .0)) s F))
 
-      popping : (x d : ℕ) → Lookahead g (FirstByRules g) q (itemOf x) (dotOf x) d → (b : Bool) → endOf (entryAt (bare g) (itemOf x - length (g .rules))) (dotOf x) ≡ b → In (X * 1024 + v) (popIf b (dotOf x) d) → Some q X
+      popping : (x d : ℕ) → Lookahead g (FirstByRules g) q (itemOf x) (dotOf x) d → (b : Bool)
+          → endOf (entryAt (bare g) (itemOf x - length (g .rules))) (dotOf x) ≡ b → In (X * 1024 + v) (popIf b (dotOf x) d) → Some q X
       popping x d k false e n = elim n [ ]
       popping x d k true e n =
           let w = end-entry (itemOf x - length (g .rules)) (dotOf x) e in
           let i : itemOf x ≡ entryItem g t (itemOf x - length (g .rules)) = omega (arith, w .2) in
           at-symbol d (one (in-cons n)) (P (suc (length (w .1))))
-          (to-pop (itemOf x - length (g .rules)) (w .3) (held (subst (λ (z : ℕ). Lookahead g (FirstByRules g) q z (length (w .1)) d) i (subst (λ (z : ℕ). Lookahead g (FirstByRules g) q (itemOf x) z d) (sym (w .4)) k))))
+          (to-pop (itemOf x - length (g .rules)) (w .3) (held
+          (subst (λ (z : ℕ). Lookahead g (FirstByRules g) q z (length (w .1)) d) i
+          (subst (λ (z : ℕ). Lookahead g (FirstByRules g) q (itemOf x) z d) (sym (w .4)) k))))
         where
           one : (X * 1024 + v ≡ d * 1024 + (768 + suc (dotOf x))) ⊎ In (X * 1024 + v) [] → d ≡ X
           one (inl p) = omega (arith, p, low)
@@ -235,4 +260,5 @@ module _ (g : Grammar) (L : Limits g) (ks : List Kernel) (same : states g ≡ ks
           let k = looks-only g (L .formed) (L .few-entries) ks same ok nl fl F-is f ls done (y .0) (y .1) in
           let x = y .0 / 64 % 4096 in
           let d = y .0 % 64 in
-          item x d (subst (λ (z : ℕ). Lookahead g (FirstByRules g) z (itemOf x) (dotOf x) d) (y .2) k) (in-either (announceIf g (bare g) nl fl ks (isMarked g (bare g) nl fl ks x) (itemOf x) d) (y .3))
+          item x d (subst (λ (z : ℕ). Lookahead g (FirstByRules g) z (itemOf x) (dotOf x) d) (y .2) k)
+          (in-either (announceIf g (bare g) nl fl ks (isMarked g (bare g) nl fl ks x) (itemOf x) d) (y .3))

@@ -125,7 +125,8 @@ asked-in (a ∷ al) X = go (eqb (a / 1024) X) refl (asked-in al X)
 agree-at : (g : Grammar) (b : Table) (nl fl : List ℕ) (ks : List Kernel) (ls qs : List ℕ) (q : ℕ) → allAgree g b nl fl ks ls qs ≡ true → In q qs
     → agree (asks g b nl fl ks ls q) ≡ true
 agree-at g b nl fl ks ls (q ∷ qs) p e here = and-true (agree (asks g b nl fl ks ls q)) (allAgree g b nl fl ks ls qs) e .0
-agree-at g b nl fl ks ls (p ∷ qs) q e (there m) = agree-at g b nl fl ks ls qs q (and-true (agree (asks g b nl fl ks ls p)) (allAgree g b nl fl ks ls qs) e .1) m
+agree-at g b nl fl ks ls (p ∷ qs) q e (there m) =
+    agree-at g b nl fl ks ls qs q (and-true (agree (asks g b nl fl ks ls p)) (allAgree g b nl fl ks ls qs) e .1) m
 agree-at g b nl fl ks ls [] q e m = elim m [ ]
 
 -- ---- a number tells its action
@@ -240,7 +241,8 @@ module _ (g : Grammar) (W : grammar.WellFormed g) (n : ℕ) (passed : tableTest 
 
   pub asked-number : (q X : ℕ) (x : Action) → IsState q → Asks q X x → askedAt (asksOf q) X ≡ number q X x
   asked-number q X x h a =
-      let c = asked-computed g limits kernelList same (parts .ends) nullList (found .fl) (found .F-is) 100000 (found .ls) (found .done) (h .0) (h .1) a in
+      let c = asked-computed g limits kernelList same (parts .ends) nullList (found .fl) (found .F-is) 100000 (found .ls) (found .done) (h .0)
+      (h .1) a in
       let m = in-range 1 (length kernelList) q (h .0) (omega (arith, h .1, ap length same)) in
       let t = agree-at g (bare g) nullList (found .fl) kernelList (found .ls) (range 1 (length kernelList)) q (found .agreeing) m in
       agreed (asksOf q) X (number q X x) t (c .low) (c .stands)
@@ -260,7 +262,8 @@ module _ (g : Grammar) (W : grammar.WellFormed g) (n : ℕ) (passed : tableTest 
     where
       moves : (k : ℕ) (y : Action) → cellOf q X ≡ some y → nextState y ≡ some k → k ≡ gotoIn g (bare g) kernelList q X
       moves k y e h =
-          cell-moves g (FirstByRules g) (first? g) (terminalCodes g) (first-in g) q X k y e h .next-is ∙ goto-computed g W (parts .few) kernelList same (parts .ends) q X
+          cell-moves g (FirstByRules g) (first? g) (terminalCodes g) (first-in g) q X k y e h .next-is
+          ∙ goto-computed g W (parts .few) kernelList same (parts .ends) q X
 
       same-number : (y : Action) → cellOf q X ≡ some y → numberOf (some y) ≡ number q X (forget y)
       same-number (S k) e = ap (λ (z : ℕ). 256 + z) (moves k (S k) e refl)
@@ -268,7 +271,8 @@ module _ (g : Grammar) (W : grammar.WellFormed g) (n : ℕ) (passed : tableTest 
       same-number (A i) e = refl
       same-number (P k) e = refl
 
-      empty : cellOf q X ≡ none → (askedAt (asksOf q) X ≡ 0) ⊎ ((askedAt (asksOf q) X < 1024) × In (X * 1024 + askedAt (asksOf q) X) (asksOf q)) → 0 ≡ askedAt (asksOf q) X
+      empty : cellOf q X ≡ none → (askedAt (asksOf q) X ≡ 0) ⊎ ((askedAt (asksOf q) X < 1024) × In (X * 1024 + askedAt (asksOf q) X) (asksOf q))
+          → 0 ≡ askedAt (asksOf q) X
       empty e (inl z) = sym z
       empty e (inr z) =
           let a = computed-asked g limits kernelList same (parts .ends) nullList (found .fl) (found .F-is) 100000 (found .ls) (found .done) q X

@@ -36,5 +36,6 @@ module _ (g : Grammar) (n : ℕ) (W : WellFormed g) (passed : test g n ≡ true)
   writes room few l =
       let text = tableText (computed g n) in
       replies g W n passed room ∙ ap (λ (t : Table). textReply (tableText t) room) is-built
-      ∙ ap (λ (b : Bool). cond b (refused LimitExceeded 0) (cond (ltb room (length text)) (refused BufferTooSmall 0) (Accepted 0))) (le-ltb 65536 (length text) few)
+      ∙ ap (λ (b : Bool). cond b (refused LimitExceeded 0) (cond (ltb room (length text)) (refused BufferTooSmall 0) (Accepted 0)))
+      (le-ltb 65536 (length text) few)
       ∙ ap (λ (b : Bool). cond b (refused BufferTooSmall 0) (Accepted 0)) (le-ltb room (length text) l)

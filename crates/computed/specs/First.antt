@@ -64,7 +64,9 @@ in-all nl [] f = refl
 in-all nl (X ∷ β) f = and-both (member X nl) (allMember nl β) (in-member (f X here)) (in-all nl β (λ a m. f a (there m)))
 
 closed-at : (nl : List ℕ) (rs : List Rule) (r : Rule) → nullClosed nl rs ≡ true → In r rs → allMember nl (right r) ≡ true → In (r .left) nl
-closed-at nl (r ∷ rs) s e here a = go (or-true (not (allMember nl (right r))) (member (r .left) nl) (and-true (not (allMember nl (right r)) || member (r .left) nl) (nullClosed nl rs) e .0))
+closed-at nl (r ∷ rs) s e here a =
+    go (or-true (not (allMember nl (right r))) (member (r .left) nl)
+    (and-true (not (allMember nl (right r)) || member (r .left) nl) (nullClosed nl rs) e .0))
   where
     go : (not (allMember nl (right r)) ≡ true) ⊎ (member (r .left) nl ≡ true) → In (r .left) nl
     go (inl h) = let z : not true ≡ true = sym (ap not a) ∙ h in clash cc
@@ -109,7 +111,9 @@ codes-in X (y ∷ fl) c m = go (push-in (eqb (y / 64) X) (y % 64) (codesOf X fl)
     go (inr n) rec = let r = rec n in (r .0, there (r .1), r .2, r .3)
 
 in-codes : (X y c : ℕ) (fl : List ℕ) → In y fl → y / 64 ≡ X → y % 64 ≡ c → In c (codesOf X fl)
-in-codes X y c (z ∷ fl) here e f = subst (λ (w : ℕ). In w (pushIf (eqb (y / 64) X) (y % 64) (codesOf X fl))) f (push-here (eqb (y / 64) X) (y % 64) (codesOf X fl) (eq-eqb (y / 64) X e))
+in-codes X y c (z ∷ fl) here e f =
+    subst (λ (w : ℕ). In w (pushIf (eqb (y / 64) X) (y % 64) (codesOf X fl))) f
+    (push-here (eqb (y / 64) X) (y % 64) (codesOf X fl) (eq-eqb (y / 64) X e))
 in-codes X y c (z ∷ fl) (there m) e f = push-there (eqb (z / 64) X) (z % 64) (in-codes X y c fl m e f)
 in-codes X y c [] m e f = elim m [ ]
 
@@ -120,11 +124,15 @@ module _ (g : Grammar) (W : grammar.WellFormed g) where
     pub only : (X : ℕ) → In X nl → Nullable g X
     pub every : (X : ℕ) → Nullable g X → In X nl
 
-  round-only : (nl : List ℕ) (rs : List Rule) → ((r : Rule) → In r rs → In r (g .rules)) → ((X : ℕ) → In X nl → NullableByRules g X) → (X : ℕ) → In X (nullRound nl rs) → NullableByRules g X
+  round-only : (nl : List ℕ) (rs : List Rule) → ((r : Rule) → In r rs → In r (g .rules)) → ((X : ℕ) → In X nl → NullableByRules g X) → (X : ℕ)
+      → In X (nullRound nl rs) → NullableByRules g X
   round-only nl [] sub only X m = only X m
-  round-only nl (r ∷ rs) sub only X m = go (push-in (allMember nl (right r) && not (member (r .left) nl)) (r .left) (nullRound nl rs) X m) (round-only nl rs (λ s n. sub s (there n)) only X)
+  round-only nl (r ∷ rs) sub only X m =
+      go (push-in (allMember nl (right r) && not (member (r .left) nl)) (r .left) (nullRound nl rs) X m)
+      (round-only nl rs (λ s n. sub s (there n)) only X)
     where
-      go : ((allMember nl (right r) && not (member (r .left) nl) ≡ true) × (X ≡ r .left)) ⊎ In X (nullRound nl rs) → (In X (nullRound nl rs) → NullableByRules g X) → NullableByRules g X
+      go : ((allMember nl (right r) && not (member (r .left) nl) ≡ true) × (X ≡ r .left)) ⊎ In X (nullRound nl rs)
+          → (In X (nullRound nl rs) → NullableByRules g X) → NullableByRules g X
       go (inl h) rec =
           let i = in-at (sub r here) in
           let a = and-true (allMember nl (right r)) (not (member (r .left) nl)) (h .0) .0 in
@@ -155,7 +163,8 @@ module _ (g : Grammar) (W : grammar.WellFormed g) where
     reach-starts F [] X e h = clash cc
     reach-starts F (Y ∷ β) X e h = go (or-true (eqb Y X) (member Y nl && reaches nl β X) e) (λ k. reach-starts F β X k h)
       where
-        go : (eqb Y X ≡ true) ⊎ (member Y nl && reaches nl β X ≡ true) → (reaches nl β X ≡ true → Starts (Nullable g) F β) → F Y ⊎ (Nullable g Y × Starts (Nullable g) F β)
+        go : (eqb Y X ≡ true) ⊎ (member Y nl && reaches nl β X ≡ true) → (reaches nl β X ≡ true → Starts (Nullable g) F β)
+            → F Y ⊎ (Nullable g Y × Starts (Nullable g) F β)
         go (inl k) rec = inl (subst F (sym (eqb-true Y X k)) h)
         go (inr k) rec = let b = and-true (member Y nl) (reaches nl β X) k in inr (N .only Y (member-in Y nl (b .0)), rec (b .1))
 
@@ -164,21 +173,29 @@ module _ (g : Grammar) (W : grammar.WellFormed g) where
     starts-reach F [] h = absurd h
     starts-reach F (Y ∷ β) (inl f) = (Y, f, or-left (eqb Y Y) (member Y nl && reaches nl β Y) (eq-eqb Y Y refl))
     starts-reach F (Y ∷ β) (inr h) =
-        let r = starts-reach F β (h .1) in
-        (r .0, r .1, or-right (eqb Y (r .0)) (member Y nl && reaches nl β (r .0)) (and-both (member Y nl) (reaches nl β (r .0)) (in-member (N .every Y (h .0))) (r .2)))
+        let r = starts-reach F β (h .1) in (
+          r .0,
+          r .1,
+          or-right (eqb Y (r .0)) (member Y nl && reaches nl β (r .0))
+              (and-both (member Y nl) (reaches nl β (r .0)) (in-member (N .every Y (h .0))) (r .2)),
+        )
 
     pub record BeginsIs (fl : List ℕ) : Type 0 where
       pub only : (y : ℕ) → In y fl → BeginsByRules g (y / 64) (y % 64)
       pub every : (X c : ℕ) → BeginsByRules g X c → In (X * 64 + c) fl
 
-    next-only : (x : ℕ) (rs : List Rule) → ((r : Rule) → In r rs → In r (g .rules)) → BeginsByRules g (x / 64) (x % 64) → (y : ℕ) → In y (nextBegins nl rs x) → BeginsByRules g (y / 64) (y % 64)
+    next-only : (x : ℕ) (rs : List Rule) → ((r : Rule) → In r rs → In r (g .rules)) → BeginsByRules g (x / 64) (x % 64) → (y : ℕ)
+        → In y (nextBegins nl rs x) → BeginsByRules g (y / 64) (y % 64)
     next-only x [] sub b y m = elim m [ ]
-    next-only x (r ∷ rs) sub b y m = go (push-in (reaches nl (right r) (x / 64)) (r .left * 64 + x % 64) (nextBegins nl rs x) y m) (next-only x rs (λ s n. sub s (there n)) b y)
+    next-only x (r ∷ rs) sub b y m =
+        go (push-in (reaches nl (right r) (x / 64)) (r .left * 64 + x % 64) (nextBegins nl rs x) y m) (next-only x rs (λ s n. sub s (there n)) b y)
       where
-        go : ((reaches nl (right r) (x / 64) ≡ true) × (y ≡ r .left * 64 + x % 64)) ⊎ In y (nextBegins nl rs x) → (In y (nextBegins nl rs x) → BeginsByRules g (y / 64) (y % 64)) → BeginsByRules g (y / 64) (y % 64)
+        go : ((reaches nl (right r) (x / 64) ≡ true) × (y ≡ r .left * 64 + x % 64)) ⊎ In y (nextBegins nl rs x)
+            → (In y (nextBegins nl rs x) → BeginsByRules g (y / 64) (y % 64)) → BeginsByRules g (y / 64) (y % 64)
         go (inl h) rec =
             let i = in-at (sub r here) in
-            let s = start g (Nullable g) (Itself g (x % 64)) (suc (i .0)) (i .1) (reach-starts (λ X. BeginsByRules g X (x % 64)) (right r) (x / 64) (h .0) b) in
+            let s = start g (Nullable g) (Itself g (x % 64)) (suc (i .0)) (i .1)
+            (reach-starts (λ X. BeginsByRules g X (x % 64)) (right r) (x / 64) (h .0) b) in
             let q : y / 64 ≡ r .left = omega (arith, h .1) in
             let d : y % 64 ≡ x % 64 = omega (arith, h .1) in
             subst (λ (z : ℕ). BeginsByRules g z (y % 64)) (sym q) (subst (λ (z : ℕ). BeginsByRules g (r .left) z) (sym d) s)
@@ -191,8 +208,12 @@ module _ (g : Grammar) (W : grammar.WellFormed g) where
 
     pub begins-is : (f : ℕ) (fl : List ℕ) → work (nextBegins nl (g .rules)) f (terminalBegins (g .terminals)) [] ≡ some fl → BeginsIs fl
     begins-is f fl e = record {
-      only = work-only (nextBegins nl (g .rules)) Begun (λ x y b m. next-only x (g .rules) (λ r n. n) b y m) f (terminalBegins (g .terminals)) [] fl e seeds-begun (λ x m. elim m [ ]);
-      every = λ X c b. least-every (starting g (Nullable g)) (λ (x : ℕ). In (x * 64 + c) fl) (seeded c) (λ o ok ns. occurrence c (begins-terminal g b) (ruleOf o) (symbolOf o) (ruleAt g (ruleOf o)) refl ok (ns _ refl)) b;
+      only =
+          work-only (nextBegins nl (g .rules)) Begun (λ x y b m. next-only x (g .rules) (λ r n. n) b y m) f
+          (terminalBegins (g .terminals)) [] fl e seeds-begun (λ x m. elim m [ ]);
+      every =
+          λ X c b. least-every (starting g (Nullable g)) (λ (x : ℕ). In (x * 64 + c) fl) (seeded c)
+          (λ o ok ns. occurrence c (begins-terminal g b) (ruleOf o) (symbolOf o) (ruleAt g (ruleOf o)) refl ok (ns _ refl)) b;
     }
       where
         Begun : ℕ → Type 0
@@ -212,9 +233,11 @@ module _ (g : Grammar) (W : grammar.WellFormed g) where
         seeded : (c y : ℕ) → Itself g c y → In (y * 64 + c) fl
         seeded c y s =
             subst (λ (z : ℕ). In (z * 64 + c) fl) (sym (s .0))
-            (w .did (c * 64 + c) (image-in (λ (b : ℕ). b * 64 + b) c (range 1 (g .terminals)) (in-range 1 (g .terminals) c (s .1 .0) (omega (arith, s .1 .1)))))
+            (w .did (c * 64 + c) (image-in (λ (b : ℕ). b * 64 + b) c (range 1 (g .terminals))
+            (in-range 1 (g .terminals) c (s .1 .0) (omega (arith, s .1 .1)))))
 
-        by-rule : (c : ℕ) → IsTerminal g c → (i : ℕ) (r : Rule) → ruleAt g i ≡ some r → Starts (Nullable g) (λ X. In (X * 64 + c) fl) (right r) → In (r .left * 64 + c) fl
+        by-rule : (c : ℕ) → IsTerminal g c → (i : ℕ) (r : Rule) → ruleAt g i ≡ some r → Starts (Nullable g) (λ X. In (X * 64 + c) fl) (right r)
+            → In (r .left * 64 + c) fl
         by-rule c t zero r q s = clash cc
         by-rule c t (suc i) r q s =
             let h = starts-reach (λ X. In (X * 64 + c) fl) (right r) s in
@@ -224,7 +247,8 @@ module _ (g : Grammar) (W : grammar.WellFormed g) where
             let n = in-next x (g .rules) r (at-in (g .rules) i r q) (ap (reaches nl (right r)) a ∙ h .2) in
             w .closed x (r .left * 64 + c) (h .1) (subst (λ (z : ℕ). In (r .left * 64 + z) (nextBegins nl (g .rules) x)) d n)
 
-        occurrence : (c : ℕ) → IsTerminal g c → (i k : ℕ) (o : Option Rule) → ruleAt g i ≡ o → (k < length (rightOf o)) × Below (Nullable g) (rightOf o) k
+        occurrence : (c : ℕ) → IsTerminal g c → (i k : ℕ) (o : Option Rule) → ruleAt g i ≡ o
+            → (k < length (rightOf o)) × Below (Nullable g) (rightOf o) k
             → In (getD (rightOf o) k 0 * 64 + c) fl → In (leftOf o * 64 + c) fl
         occurrence c t i k none q ok b = absurd (omega (arith, ok .0))
         occurrence c t i k (some r) q ok b = by-rule c t i r q (place-starts (Nullable g) (λ X. In (X * 64 + c) fl) (right r) k (ok .0) (ok .1) b)
@@ -244,14 +268,17 @@ module _ (g : Grammar) (W : grammar.WellFormed g) where
           late n (inl s) = inl (inr (n, s))
           late n (inr h) = inr ((n, h .0), h .1)
 
-          on : (b : Bool) → member X nl ≡ b → In c (whereNull b (firstOf nl fl β d)) → (In c (firstOf nl fl β d) → FirstByRules g β d c) → FirstByRules g (X ∷ β) d c
+          on : (b : Bool) → member X nl ≡ b → In c (whereNull b (firstOf nl fl β d)) → (In c (firstOf nl fl β d) → FirstByRules g β d c)
+              → FirstByRules g (X ∷ β) d c
           on true e n rec = late (N .only X (member-in X nl e)) (rec n)
           on false e n rec = elim n [ ]
 
-          go : In c (codesOf X fl) ⊎ In c (whereNull (member X nl) (firstOf nl fl β d)) → (In c (firstOf nl fl β d) → FirstByRules g β d c) → FirstByRules g (X ∷ β) d c
+          go : In c (codesOf X fl) ⊎ In c (whereNull (member X nl) (firstOf nl fl β d)) → (In c (firstOf nl fl β d) → FirstByRules g β d c)
+              → FirstByRules g (X ∷ β) d c
           go (inl n) rec =
               let y = codes-in X fl c n in
-              inl (inl (subst (λ (z : ℕ). BeginsByRules g z c) (y .2) (subst (λ (z : ℕ). BeginsByRules g (y .0 / 64) z) (sym (y .3)) (B .only (y .0) (y .1)))))
+              inl (inl (subst (λ (z : ℕ). BeginsByRules g z c) (y .2)
+              (subst (λ (z : ℕ). BeginsByRules g (y .0 / 64) z) (sym (y .3)) (B .only (y .0) (y .1)))))
           go (inr n) rec = on (member X nl) refl n rec
 
       null-on : (X : ℕ) (l : List ℕ) {c : ℕ} → Nullable g X → In c l → In c (whereNull (member X nl) l)
@@ -261,7 +288,8 @@ module _ (g : Grammar) (W : grammar.WellFormed g) where
       first-start [] d c h = absurd h
       first-start (X ∷ β) d c (inl b) =
           let t = begins-terminal g b in
-          in-left (whereNull (member X nl) (firstOf nl fl β d)) (in-codes X (X * 64 + c) c fl (B .every X c b) (omega (arith, t .1, W .few-terminals)) (omega (arith, t .1, W .few-terminals)))
+          in-left (whereNull (member X nl) (firstOf nl fl β d))
+          (in-codes X (X * 64 + c) c fl (B .every X c b) (omega (arith, t .1, W .few-terminals)) (omega (arith, t .1, W .few-terminals)))
       first-start (X ∷ β) d c (inr h) = in-right (codesOf X fl) (null-on X (firstOf nl fl β d) (h .0) (first-start β d c (h .1)))
 
       first-null : (β : List ℕ) (d : ℕ) → AllIn (Nullable g) β → In d (firstOf nl fl β d)

@@ -95,17 +95,20 @@ module _ (g : Grammar) (b : Table) (nl fl : List ℕ) (ks : List Kernel) where
       → (δs : List (List ℕ)) × (γ : List ℕ) × (εs : List (List ℕ)) × (c : ℕ) × (γs ≡ δs ++ γ ∷ εs) × In c (firstOf nl fl (concat εs) d)
       × (z ≡ lookCode (entryIn γ) ((length (g .rules) + entryIn γ) * 16) c)
   groups-in [] d z m = elim m [ ]
-  groups-in (γ ∷ γs) d z m = go (in-either (pairUp (entryIn γ) (((length (g .rules) + entryIn γ) * 16) ∷ []) (firstOf nl fl (concat γs) d)) m) (groups-in γs d z)
+  groups-in (γ ∷ γs) d z m =
+      go (in-either (pairUp (entryIn γ) (((length (g .rules) + entryIn γ) * 16) ∷ []) (firstOf nl fl (concat γs) d)) m) (groups-in γs d z)
     where
       Made : List (List ℕ) → Type 0
       Made l = (δs : List (List ℕ)) × (γ : List ℕ) × (εs : List (List ℕ)) × (c : ℕ) × (l ≡ δs ++ γ ∷ εs) × In c (firstOf nl fl (concat εs) d)
           × (z ≡ lookCode (entryIn γ) ((length (g .rules) + entryIn γ) * 16) c)
 
-      one : (x : ℕ) → (x ≡ (length (g .rules) + entryIn γ) * 16) ⊎ In x [] → (c : ℕ) → In c (firstOf nl fl (concat γs) d) → z ≡ lookCode (entryIn γ) x c → Made (γ ∷ γs)
+      one : (x : ℕ) → (x ≡ (length (g .rules) + entryIn γ) * 16) ⊎ In x [] → (c : ℕ) → In c (firstOf nl fl (concat γs) d)
+          → z ≡ lookCode (entryIn γ) x c → Made (γ ∷ γs)
       one x (inl e) c n q = ([], γ, γs, c, refl, n, q ∙ ap (λ (k : ℕ). lookCode (entryIn γ) k c) e)
       one x (inr k) c n q = elim k [ ]
 
-      go : In z (pairUp (entryIn γ) (((length (g .rules) + entryIn γ) * 16) ∷ []) (firstOf nl fl (concat γs) d)) ⊎ In z (onGroups γs d) → (In z (onGroups γs d) → Made γs) → Made (γ ∷ γs)
+      go : In z (pairUp (entryIn γ) (((length (g .rules) + entryIn γ) * 16) ∷ []) (firstOf nl fl (concat γs) d)) ⊎ In z (onGroups γs d)
+          → (In z (onGroups γs d) → Made γs) → Made (γ ∷ γs)
       go (inl n) rec =
           let p = pair-in (entryIn γ) (((length (g .rules) + entryIn γ) * 16) ∷ []) (firstOf nl fl (concat γs) d) z n in
           one (p .0) (in-cons (p .2)) (p .1) (p .3) (p .4)
@@ -113,8 +116,11 @@ module _ (g : Grammar) (b : Table) (nl fl : List ℕ) (ks : List Kernel) where
 
   pub in-groups : (δs : List (List ℕ)) (γ : List ℕ) (εs : List (List ℕ)) (d c : ℕ) → In c (firstOf nl fl (concat εs) d)
       → In (lookCode (entryIn γ) ((length (g .rules) + entryIn γ) * 16) c) (onGroups (δs ++ γ ∷ εs) d)
-  in-groups [] γ εs d c m = in-left (onGroups εs d) (in-pair (entryIn γ) ((length (g .rules) + entryIn γ) * 16) c (((length (g .rules) + entryIn γ) * 16) ∷ []) (firstOf nl fl (concat εs) d) here m)
-  in-groups (δ ∷ δs) γ εs d c m = in-right (pairUp (entryIn δ) (((length (g .rules) + entryIn δ) * 16) ∷ []) (firstOf nl fl (concat (δs ++ γ ∷ εs)) d)) (in-groups δs γ εs d c m)
+  in-groups [] γ εs d c m =
+      in-left (onGroups εs d) (in-pair (entryIn γ) ((length (g .rules) + entryIn γ) * 16) c (((length (g .rules) + entryIn γ) * 16) ∷ [])
+      (firstOf nl fl (concat εs) d) here m)
+  in-groups (δ ∷ δs) γ εs d c m =
+      in-right (pairUp (entryIn δ) (((length (g .rules) + entryIn δ) * 16) ∷ []) (firstOf nl fl (concat (δs ++ γ ∷ εs)) d)) (in-groups δs γ εs d c m)
 
   -- ---- the recognition point
 
@@ -132,7 +138,8 @@ module _ (g : Grammar) (b : Table) (nl fl : List ℕ) (ks : List Kernel) where
   pub rule-mark : (i : ℕ) (r : Rule) → ruleAt g i ≡ some r → sameMark (recognitionPoint g b i) (length (r .before)) ≡ true
   rule-mark i r e =
       let t = le-leb i (length (g .rules)) (rule-range g i e .1) in
-      ap (λ (t : Bool). sameMark (cond t (markOf (ruleAt g i)) none) (length (r .before))) t ∙ ap (λ (o : Option Rule). sameMark (markOf o) (length (r .before))) e ∙ eq-eqb (length (r .before)) (length (r .before)) refl
+      ap (λ (t : Bool). sameMark (cond t (markOf (ruleAt g i)) none) (length (r .before))) t
+      ∙ ap (λ (o : Option Rule). sameMark (markOf o) (length (r .before))) e ∙ eq-eqb (length (r .before)) (length (r .before)) refl
 
 module _ (g : Grammar) (W : grammar.WellFormed g) (few : length (entryStrings g) ≤ 127) (ks : List Kernel) (same : states g ≡ ks) (ok : every (closes g (bare g)) ks ≡ true)
     (nl fl : List ℕ) (F-is : (β : List ℕ) (d c : ℕ) → In c (firstOf nl fl β d) ↔ FirstByRules g β d c) where
@@ -173,18 +180,22 @@ module _ (g : Grammar) (W : grammar.WellFormed g) (few : length (entryStrings g)
   step-says : (q x d y : ℕ) → d < 64 → Looked q (itemOf x) (dotOf x) d → In y (nextAt g (bare g) nl fl ks q x d) → Says y
   step-says q x d y low h m = either (in-either (onRest g (bare g) nl fl ks (rest g (bare g) x) q x d) m)
     where
-      by-rule : (X : ℕ) (β : List ℕ) → rest g (bare g) x ≡ X ∷ β → (j c : ℕ) → In j (rulesFor X 1 (g .rules)) → In c (firstOf nl fl β d) → y ≡ lookCode q j c → Says y
+      by-rule : (X : ℕ) (β : List ℕ) → rest g (bare g) x ≡ X ∷ β → (j c : ℕ) → In j (rulesFor X 1 (g .rules)) → In c (firstOf nl fl β d)
+          → y ≡ lookCode q j c → Says y
       by-rule X β e j c n f p =
           let r = rules-of g X j n in
           let F = F-is β d c .to f in
           let k = rule-range g (r .number) (r .stands) in
-          says y q j c (r .number) zero p (omega (arith, r .is, k .1, W .few-rules)) (first-low β d c low F) (omega (arith, r .is)) (omega (arith, r .is))
+          says y q j c (r .number) zero p (omega (arith, r .is, k .1, W .few-rules)) (first-low β d c low F) (omega (arith, r .is))
+          (omega (arith, r .is))
           (of-closure (r .number) h (rest-goes g (bare g) x X β e) (r .stands) (r .of) F)
 
-      moving : (X : ℕ) (β : List ℕ) → rest g (bare g) x ≡ X ∷ β → (y ≡ lookCode (gotoIn g (bare g) ks q X) (suc x) d) ⊎ In y (pairUp q (rulesFor X 1 (g .rules)) (firstOf nl fl β d)) → Says y
+      moving : (X : ℕ) (β : List ℕ) → rest g (bare g) x ≡ X ∷ β
+          → (y ≡ lookCode (gotoIn g (bare g) ks q X) (suc x) d) ⊎ In y (pairUp q (rulesFor X 1 (g .rules)) (firstOf nl fl β d)) → Says y
       moving X β e (inl p) =
           let b = movable g W few x X β e in
-          says y (goto g q X) (suc x) d (itemOf x) (suc (dotOf x)) (p ∙ ap (λ (z : ℕ). lookCode z (suc x) d) (sym (goto-computed g W few ks same ok q X))) (omega (arith, b .low, b .dot)) low
+          says y (goto g q X) (suc x) d (itemOf x) (suc (dotOf x))
+          (p ∙ ap (λ (z : ℕ). lookCode z (suc x) d) (sym (goto-computed g W few ks same ok q X))) (omega (arith, b .low, b .dot)) low
           (omega (arith, b .dot)) (omega (arith, b .dot)) (of-move h (rest-goes g (bare g) x X β e))
       moving X β e (inr n) = let p = pair-in q (rulesFor X 1 (g .rules)) (firstOf nl fl β d) y n in by-rule X β e (p .0) (p .1) (p .2) (p .3) (p .4)
 
@@ -200,8 +211,10 @@ module _ (g : Grammar) (W : grammar.WellFormed g) (few : length (entryStrings g)
           let s : r .0 .groups ≡ p .0 ++ p .1 ∷ p .2 = sym (ap groupsOf (r .1)) ∙ p .4 in
           let F = F-is (concat (p .2)) d (p .3) .to (p .5) in
           let v = entry (itemOf x) (p .0) (p .1) (p .2) (r .1) s in
-          says y (entryOf g (p .1)) ((length (g .rules) + entryOf g (p .1)) * 16) (p .3) (entryItem g (bare g) (entryOf g (p .1))) zero (p .6) (omega (arith, v .high, W .few-rules)) (first-low (concat (p .2)) d (p .3) low F)
-          (omega arith) (omega arith) (of-group (itemOf x) (p .0) (p .1) (p .2) (r .1) (subst (λ (z : ℕ). Looked q (itemOf x) z d) (sym (r .2)) h) s F)
+          says y (entryOf g (p .1)) ((length (g .rules) + entryOf g (p .1)) * 16) (p .3) (entryItem g (bare g) (entryOf g (p .1))) zero (p .6)
+          (omega (arith, v .high, W .few-rules)) (first-low (concat (p .2)) d (p .3) low F)
+          (omega arith) (omega arith) (of-group (itemOf x) (p .0) (p .1) (p .2) (r .1)
+          (subst (λ (z : ℕ). Looked q (itemOf x) z d) (sym (r .2)) h) s F)
 
       either : In y (onRest g (bare g) nl fl ks (rest g (bare g) x) q x d) ⊎ In y (atMark g (bare g) nl fl ks (isMarked g (bare g) nl fl ks x) (groupsOf (ruleAt g (itemOf x))) d) → Says y
       either (inl n) = on (rest g (bare g) x) refl n
@@ -209,11 +222,15 @@ module _ (g : Grammar) (W : grammar.WellFormed g) (few : length (entryStrings g)
 
   module _ (f : ℕ) (ls : List ℕ) (e : looks g (bare g) nl fl ks f ≡ some ls) where
     pub looks-only : (y : ℕ) → In y ls → Lookahead g (FirstByRules g) (y / 262144) (itemOf (y / 64 % 4096)) (dotOf (y / 64 % 4096)) (y % 64)
-    looks-only = work-only (nextLooks g (bare g) nl fl ks) Says (λ x y h m. step-says (x / 262144) (x / 64 % 4096) (x % 64) y (omega arith) h m) f (goalLook g (bare g) nl fl ks) [] ls e
+    looks-only =
+        work-only (nextLooks g (bare g) nl fl ks) Says (λ x y h m. step-says (x / 262144) (x / 64 % 4096) (x % 64) y (omega arith) h m) f
+        (goalLook g (bare g) nl fl ks) [] ls e
         (λ x m. goal x (in-cons m)) (λ x m. elim m [ ])
       where
         goal : (x : ℕ) → (x ≡ lookCode 1 ((length (g .rules) + 1) * 16) 0) ⊎ In x [] → Says x
-        goal x (inl p) = says x 1 ((length (g .rules) + 1) * 16) 0 (entryItem g (bare g) 1) zero p (omega (arith, W .few-rules)) (omega arith) (omega arith) (omega arith) of-goal
+        goal x (inl p) =
+            says x 1 ((length (g .rules) + 1) * 16) 0 (entryItem g (bare g) 1) zero p (omega (arith, W .few-rules)) (omega arith) (omega arith)
+            (omega arith) of-goal
         goal x (inr n) = elim n [ ]
 
     -- ---- and every lookahead is computed
@@ -248,20 +265,27 @@ module _ (g : Grammar) (W : grammar.WellFormed g) (few : length (entryStrings g)
         (in-left (atMark g (bare g) nl fl ks (isMarked g (bare g) nl fl ks (i * 16 + k)) (groupsOf (ruleAt g (itemOf (i * 16 + k)))) d)
         (subst (λ (a : List ℕ). In (lookCode q (j * 16) c) (onRest g (bare g) nl fl ks a q (i * 16 + k) d)) (sym t) (there n))) in
         let z : lookCode q (j * 16) c ≡ lookCode q (j * 16 + zero) c = omega arith in
-        record { dot = omega arith; item = omega (arith, rule-range g j p .1, W .few-rules); code = first-low β d c (v .code) F; stands = subst (λ (a : ℕ). In a ls) z m }
+        record {
+          dot = omega arith;
+          item = omega (arith, rule-range g j p .1, W .few-rules);
+          code = first-low β d c (v .code) F;
+          stands = subst (λ (a : ℕ). In a ls) z m;
+        }
     listed (of-move {q = q} {i = i} {k = k} {d = d} {X = X} {β = β} h go) =
         let v = listed h in
         let t = rest-at g W few go in
         let b = bounded g W (bare g) refl go in
         let m = onward q (i * 16 + k) d (lookCode (gotoIn g (bare g) ks q X) (suc (i * 16 + k)) d) (v .item) (v .code) (v .stands)
         (in-left (atMark g (bare g) nl fl ks (isMarked g (bare g) nl fl ks (i * 16 + k)) (groupsOf (ruleAt g (itemOf (i * 16 + k)))) d)
-        (subst (λ (a : List ℕ). In (lookCode (gotoIn g (bare g) ks q X) (suc (i * 16 + k)) d) (onRest g (bare g) nl fl ks a q (i * 16 + k) d)) (sym t) here)) in
+        (subst (λ (a : List ℕ). In (lookCode (gotoIn g (bare g) ks q X) (suc (i * 16 + k)) d) (onRest g (bare g) nl fl ks a q (i * 16 + k) d))
+        (sym t) here)) in
         let z : lookCode (gotoIn g (bare g) ks q X) (suc (i * 16 + k)) d ≡ lookCode (gotoIn g (bare g) ks q X) (i * 16 + suc k) d = omega arith in
         record {
           dot = omega (arith, b .dot);
           item = omega (arith, b .dot, b .item, few, W .few-rules);
           code = v .code;
-          stands = subst (λ (a : ℕ). In (lookCode a (i * 16 + suc k) d) ls) (sym (goto-computed g W few ks same ok q X)) (subst (λ (a : ℕ). In a ls) z m);
+          stands =
+              subst (λ (a : ℕ). In (lookCode a (i * 16 + suc k) d) ls) (sym (goto-computed g W few ks same ok q X)) (subst (λ (a : ℕ). In a ls) z m);
         }
     listed (of-group {q = q} {d = d} {c = c} i {r = r} δs γ εs p h s F) =
         let v = listed h in
@@ -271,9 +295,17 @@ module _ (g : Grammar) (W : grammar.WellFormed g) (few : length (entryStrings g)
         let b : dotOf x ≡ length (r .before) = dot-of i (length (r .before)) (v .dot) in
         let y = lookCode (entryOf g γ) ((length (g .rules) + entryOf g γ) * 16) c in
         let n : In y (onGroups g (bare g) nl fl ks (δs ++ γ ∷ εs) d) = in-groups g (bare g) nl fl ks δs γ εs d c (F-is (concat εs) d c .from F) in
-        let o : In y (onGroups g (bare g) nl fl ks (groupsOf (ruleAt g (itemOf x))) d) = subst (λ (l : List (List ℕ)). In y (onGroups g (bare g) nl fl ks l d)) (sym (ap (λ (z : ℕ). groupsOf (ruleAt g z)) a ∙ ap groupsOf p ∙ s)) n in
-        let t : isMarked g (bare g) nl fl ks x ≡ true = ap (λ (z : ℕ). sameMark (recognitionPoint g (bare g) z) (dotOf x)) a ∙ ap (sameMark (recognitionPoint g (bare g) i)) b ∙ rule-mark g (bare g) nl fl ks i r p in
+        let o : In y (onGroups g (bare g) nl fl ks (groupsOf (ruleAt g (itemOf x))) d) = subst
+        (λ (l : List (List ℕ)). In y (onGroups g (bare g) nl fl ks l d)) (sym (ap (λ (z : ℕ). groupsOf (ruleAt g z)) a ∙ ap groupsOf p ∙ s)) n in
+        let t : isMarked g (bare g) nl fl ks x ≡ true = ap (λ (z : ℕ). sameMark (recognitionPoint g (bare g) z) (dotOf x)) a
+        ∙ ap (sameMark (recognitionPoint g (bare g) i)) b ∙ rule-mark g (bare g) nl fl ks i r p in
         let m = onward q x d y (v .item) (v .code) (v .stands)
-        (in-right (onRest g (bare g) nl fl ks (rest g (bare g) x) q x d) (subst (λ (l : Bool). In y (atMark g (bare g) nl fl ks l (groupsOf (ruleAt g (itemOf x))) d)) (sym t) o)) in
+        (in-right (onRest g (bare g) nl fl ks (rest g (bare g) x) q x d)
+        (subst (λ (l : Bool). In y (atMark g (bare g) nl fl ks l (groupsOf (ruleAt g (itemOf x))) d)) (sym t) o)) in
         let z : y ≡ lookCode (entryOf g γ) (entryItem g (bare g) (entryOf g γ) * 16 + zero) c = omega arith in
-        record { dot = omega arith; item = omega (arith, u .high, W .few-rules); code = first-low (concat εs) d c (v .code) F; stands = subst (λ (a : ℕ). In a ls) z m }
+        record {
+          dot = omega arith;
+          item = omega (arith, u .high, W .few-rules);
+          code = first-low (concat εs) d c (v .code) F;
+          stands = subst (λ (a : ℕ). In a ls) z m;
+        }

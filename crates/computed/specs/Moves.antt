@@ -158,22 +158,26 @@ module _ (g : Grammar) (b : Table) where
   pub rest-goes : (x X : ℕ) (β : List ℕ) → rest x ≡ X ∷ β → Goes g b (itemOf x) (dotOf x) X β
   rest-goes x X β e = go (recognitionPoint g b (itemOf x)) refl e
     where
-      free : (m : ℕ) (t : Bool) → eqb m (dotOf x) ≡ t → unlessMarked t (drop (dotOf x) (symbolsOf g b (itemOf x))) ≡ X ∷ β → recognitionPoint g b (itemOf x) ≡ some m → Goes g b (itemOf x) (dotOf x) X β
+      free : (m : ℕ) (t : Bool) → eqb m (dotOf x) ≡ t → unlessMarked t (drop (dotOf x) (symbolsOf g b (itemOf x))) ≡ X ∷ β
+          → recognitionPoint g b (itemOf x) ≡ some m → Goes g b (itemOf x) (dotOf x) X β
       free m true q h p = clash cc
       free m false q h p = record { before = h; unmarked = λ k. let z : some m ≡ some (dotOf x) = sym p ∙ k in eqb-false m (dotOf x) q cc }
 
-      go : (o : Option ℕ) → recognitionPoint g b (itemOf x) ≡ o → unlessMarked (sameMark o (dotOf x)) (drop (dotOf x) (symbolsOf g b (itemOf x))) ≡ X ∷ β → Goes g b (itemOf x) (dotOf x) X β
+      go : (o : Option ℕ) → recognitionPoint g b (itemOf x) ≡ o
+          → unlessMarked (sameMark o (dotOf x)) (drop (dotOf x) (symbolsOf g b (itemOf x))) ≡ X ∷ β → Goes g b (itemOf x) (dotOf x) X β
       go none p h = record { before = h; unmarked = λ k. let z : none ≡ some (dotOf x) = sym p ∙ k in clash cc }
       go (some m) p h = free m (eqb m (dotOf x)) refl h p
 
   pub goes-rest : (x X : ℕ) (β : List ℕ) → Goes g b (itemOf x) (dotOf x) X β → rest x ≡ X ∷ β
   goes-rest x X β h = go (recognitionPoint g b (itemOf x)) refl ∙ h .before
     where
-      free : (m : ℕ) (t : Bool) → eqb m (dotOf x) ≡ t → recognitionPoint g b (itemOf x) ≡ some m → unlessMarked t (drop (dotOf x) (symbolsOf g b (itemOf x))) ≡ drop (dotOf x) (symbolsOf g b (itemOf x))
+      free : (m : ℕ) (t : Bool) → eqb m (dotOf x) ≡ t → recognitionPoint g b (itemOf x) ≡ some m
+          → unlessMarked t (drop (dotOf x) (symbolsOf g b (itemOf x))) ≡ drop (dotOf x) (symbolsOf g b (itemOf x))
       free m true q p = absurd (h .unmarked (p ∙ ap (λ (z : ℕ). some z) (eqb-true m (dotOf x) q)))
       free m false q p = refl
 
-      go : (o : Option ℕ) → recognitionPoint g b (itemOf x) ≡ o → unlessMarked (sameMark o (dotOf x)) (drop (dotOf x) (symbolsOf g b (itemOf x))) ≡ drop (dotOf x) (symbolsOf g b (itemOf x))
+      go : (o : Option ℕ) → recognitionPoint g b (itemOf x) ≡ o
+          → unlessMarked (sameMark o (dotOf x)) (drop (dotOf x) (symbolsOf g b (itemOf x))) ≡ drop (dotOf x) (symbolsOf g b (itemOf x))
       go none p = refl
       go (some m) p = free m (eqb m (dotOf x)) refl p
 
@@ -185,7 +189,8 @@ pub record RuleOf (g : Grammar) (X y : ℕ) : Type 0 where
   pub stands : ruleAt g number ≡ some by
   pub of : by .left ≡ X
 
-rules-at : (X j : ℕ) (rs : List Rule) (y : ℕ) → In y (rulesFor X j rs) → (n : ℕ) × (r : Rule) × (y ≡ (j + n) * 16) × (at rs n ≡ some r) × (r .left ≡ X)
+rules-at : (X j : ℕ) (rs : List Rule) (y : ℕ) → In y (rulesFor X j rs)
+    → (n : ℕ) × (r : Rule) × (y ≡ (j + n) * 16) × (at rs n ≡ some r) × (r .left ≡ X)
 rules-at X j [] y m = elim m [ ]
 rules-at X j (r ∷ rs) y m = go (push-in (eqb (r .left) X) (j * 16) (rulesFor X (suc j) rs) y m) (rules-at X (suc j) rs y)
   where
@@ -196,21 +201,24 @@ rules-at X j (r ∷ rs) y m = go (push-in (eqb (r .left) X) (j * 16) (rulesFor X
     go (inr n) rec = let k = rec n in (suc (k .0), k .1, omega (arith, k .2), k .3, k .4)
 
 pub rules-of : (g : Grammar) (X y : ℕ) → In y (rulesFor X 1 (g .rules)) → RuleOf g X y
-rules-of g X y m = let k = rules-at X 1 (g .rules) y m in record { number = suc (k .0); by = k .1; is = omega (arith, k .2); stands = k .3; of = k .4 }
+rules-of g X y m =
+    let k = rules-at X 1 (g .rules) y m in record { number = suc (k .0); by = k .1; is = omega (arith, k .2); stands = k .3; of = k .4 }
 
 at-rules : (X j : ℕ) (rs : List Rule) (n : ℕ) (r : Rule) → at rs n ≡ some r → r .left ≡ X → In ((j + n) * 16) (rulesFor X j rs)
 at-rules X j [] n r e l = clash cc
 at-rules X j (q ∷ rs) zero r e l =
     let z : q ≡ r = cc in
     let w : j * 16 ≡ (j + 0) * 16 = omega arith in
-    subst (λ (k : ℕ). In k (rulesFor X j (q ∷ rs))) w (push-here (eqb (q .left) X) (j * 16) (rulesFor X (suc j) rs) (eq-eqb (q .left) X (ap (λ (s : Rule). s .left) z ∙ l)))
+    subst (λ (k : ℕ). In k (rulesFor X j (q ∷ rs))) w (push-here (eqb (q .left) X) (j * 16) (rulesFor X (suc j) rs)
+    (eq-eqb (q .left) X (ap (λ (s : Rule). s .left) z ∙ l)))
 at-rules X j (q ∷ rs) (suc n) r e l =
     let w : (suc j + n) * 16 ≡ (j + suc n) * 16 = omega arith in
     subst (λ (k : ℕ). In k (rulesFor X j (q ∷ rs))) w (push-there (eqb (q .left) X) (j * 16) (at-rules X (suc j) rs n r e l))
 
 pub of-rules : (g : Grammar) (X j : ℕ) (r : Rule) → ruleAt g j ≡ some r → r .left ≡ X → In (j * 16) (rulesFor X 1 (g .rules))
 of-rules g X zero r e l = clash cc
-of-rules g X (suc n) r e l = let w : (1 + n) * 16 ≡ suc n * 16 = omega arith in subst (λ (k : ℕ). In k (rulesFor X 1 (g .rules))) w (at-rules X 1 (g .rules) n r e l)
+of-rules g X (suc n) r e l =
+    let w : (1 + n) * 16 ≡ suc n * 16 = omega arith in subst (λ (k : ℕ). In k (rulesFor X 1 (g .rules))) w (at-rules X 1 (g .rules) n r e l)
 
 -- ---- computed moves
 
@@ -265,7 +273,9 @@ insert-late true x z l m = insert-there x z l m
 insert-late false x z l m = m
 
 pub in-from : (ms : List ℕ) (X y : ℕ) → In y ms → y / 4096 ≡ X → In (suc (y % 4096)) (moveFrom ms X)
-in-from (w ∷ ms) X y here e = subst (λ (t : Bool). In (suc (y % 4096)) (insertIf t (suc (y % 4096)) (moveFrom ms X))) (sym (eq-eqb (y / 4096) X e)) (insert-here (suc (y % 4096)) (moveFrom ms X))
+in-from (w ∷ ms) X y here e =
+    subst (λ (t : Bool). In (suc (y % 4096)) (insertIf t (suc (y % 4096)) (moveFrom ms X))) (sym (eq-eqb (y / 4096) X e))
+    (insert-here (suc (y % 4096)) (moveFrom ms X))
 in-from (w ∷ ms) X y (there m) e = insert-late (eqb (w / 4096) X) (suc (w % 4096)) (suc (y % 4096)) (moveFrom ms X) (in-from ms X y m e)
 in-from [] X y m e = elim m [ ]
 

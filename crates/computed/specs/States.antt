@@ -47,7 +47,8 @@ module _ (g : Grammar) (W : grammar.WellFormed g) (few : length (entryStrings g)
   pub rest-at : {i n X : ℕ} {β : List ℕ} → Goes g (bare g) i n X β → rest g (bare g) (i * 16 + n) ≡ X ∷ β
   rest-at {i = i} {n = n} {X = X} {β = β} h =
       let d : n < 16 = omega (arith, bounded g W (bare g) refl h .dot) in
-      goes-rest g (bare g) (i * 16 + n) X β (subst (λ (z : ℕ). Goes g (bare g) z (dotOf (i * 16 + n)) X β) (sym (item-of i n d)) (subst (λ (z : ℕ). Goes g (bare g) i z X β) (sym (dot-of i n d)) h))
+      goes-rest g (bare g) (i * 16 + n) X β (subst (λ (z : ℕ). Goes g (bare g) z (dotOf (i * 16 + n)) X β) (sym (item-of i n d))
+      (subst (λ (z : ℕ). Goes g (bare g) i z X β) (sym (dot-of i n d)) h))
 
   module _ (k c : Kernel) (e : closure g (bare g) k ≡ some c) where
     w : Whole (nextItems g (bare g)) k [] c
@@ -99,8 +100,10 @@ module _ (g : Grammar) (W : grammar.WellFormed g) (few : length (entryStrings g)
             let t : z ≡ suc x = omega (arith, y .3, v .5, b .low) in
             let i : itemOf x ≡ itemOf z = omega (arith, t, b .dot) in
             let d : suc (dotOf x) ≡ dotOf z = omega (arith, t, b .dot) in
-            let n : MovedBy g (alone g k) 1 (v .1) (itemOf x) (suc (dotOf x)) = moved (closed-only x (v .3)) (goes-over g (bare g) (alone g k) refl (rest-goes g (bare g) x (v .1) (v .2) (v .4))) in
-            subst (λ (Y : ℕ). MovedBy g (alone g k) 1 Y (itemOf z) (dotOf z)) (sym s) (subst (λ (a : ℕ). MovedBy g (alone g k) 1 (v .1) a (dotOf z)) i (subst (λ (a : ℕ). MovedBy g (alone g k) 1 (v .1) (itemOf x) a) d n))
+            let n : MovedBy g (alone g k) 1 (v .1) (itemOf x) (suc (dotOf x)) = moved (closed-only x (v .3))
+            (goes-over g (bare g) (alone g k) refl (rest-goes g (bare g) x (v .1) (v .2) (v .4))) in
+            subst (λ (Y : ℕ). MovedBy g (alone g k) 1 Y (itemOf z) (dotOf z)) (sym s)
+            (subst (λ (a : ℕ). MovedBy g (alone g k) 1 (v .1) a (dotOf z)) i (subst (λ (a : ℕ). MovedBy g (alone g k) 1 (v .1) (itemOf x) a) d n))
 
         all : (i n : ℕ) → MovedBy g (alone g k) 1 X i n → In (i * 16 + n) (moveFrom (moversOf g (bare g) c) X)
         all i n (moved {k = d} {β = β} h go) =
@@ -123,19 +126,22 @@ module _ (g : Grammar) (W : grammar.WellFormed g) (few : length (entryStrings g)
 
   discover-extends : (f q : ℕ) (ks : List Kernel) → Extends ks (discover g (bare g) f q ks)
   discover-extends zero q ks = stays ks
-  discover-extends (suc f) q ks = go (ltb q (length ks)) (discover-extends f (suc q) (leave moveFrom (movers g (bare g) (getD ks q [])) (range 1 127) ks))
+  discover-extends (suc f) q ks =
+      go (ltb q (length ks)) (discover-extends f (suc q) (leave moveFrom (movers g (bare g) (getD ks q [])) (range 1 127) ks))
     where
       go : (t : Bool) → Extends (leave moveFrom (movers g (bare g) (getD ks q [])) (range 1 127) ks) (discover g (bare g) f (suc q) (leave moveFrom (movers g (bare g) (getD ks q [])) (range 1 127) ks))
           → Extends ks (cond t (discover g (bare g) f (suc q) (leave moveFrom (movers g (bare g) (getD ks q [])) (range 1 127) ks)) ks)
       go true x = extends-trans (leave-extends moveFrom (range 1 127) (movers g (bare g) (getD ks q [])) ks) x
       go false x = stays ks
 
-  discovered : (f n q : ℕ) (ks : List Kernel) → f ≤ n → every (closes g (bare g)) (discover g (bare g) f q ks) ≡ true → length (discover g (bare g) f q ks) ≤ q + f
+  discovered : (f n q : ℕ) (ks : List Kernel) → f ≤ n → every (closes g (bare g)) (discover g (bare g) f q ks) ≡ true
+      → length (discover g (bare g) f q ks) ≤ q + f
       → explore (move g) n q ks ≡ discover g (bare g) f q ks
   discovered zero n q ks l ok h = explore-done (move g) n q ks (omega (arith, h))
   discovered (suc f) zero q ks l ok h = absurd (omega (arith, l))
   discovered (suc f) (suc n) q ks l ok h =
-      go (ltb q (length ks)) refl ok h (discovered f n (suc q) (leave moveFrom (movers g (bare g) (getD ks q [])) (range 1 127) ks) (omega (arith, l)))
+      go (ltb q (length ks)) refl ok h (discovered f n (suc q) (leave moveFrom (movers g (bare g) (getD ks q [])) (range 1 127) ks)
+      (omega (arith, l)))
     where
       left : List Kernel
       left = leave moveFrom (movers g (bare g) (getD ks q [])) (range 1 127) ks
@@ -145,13 +151,15 @@ module _ (g : Grammar) (W : grammar.WellFormed g) (few : length (entryStrings g)
           → explore (move g) n (suc q) left ≡ discover g (bare g) f (suc q) left
 
       go : (t : Bool) → ltb q (length ks) ≡ t → every (closes g (bare g)) (cond t (discover g (bare g) f (suc q) left) ks) ≡ true
-          → length (cond t (discover g (bare g) f (suc q) left) ks) ≤ q + suc f → Rec → explore (move g) (suc n) q ks ≡ cond t (discover g (bare g) f (suc q) left) ks
+          → length (cond t (discover g (bare g) f (suc q) left) ks) ≤ q + suc f → Rec
+          → explore (move g) (suc n) q ks ≡ cond t (discover g (bare g) f (suc q) left) ks
       go true t ok h rec =
           let lt = ltb-true q (length ks) t in
           let x = extends-trans (leave-extends moveFrom (range 1 127) (movers g (bare g) (getD ks q [])) ks) (discover-extends f (suc q) left) in
           let c = every-in (closes g (bare g)) (discover g (bare g) f (suc q) left) ok (still-in x (in-getD ks q lt)) in
           explore-more (move g) n q ks lt
-          ∙ ap (explore (move g) n (suc q)) (leave-over (move g) moveFrom (getD ks q []) (movers g (bare g) (getD ks q [])) (range 1 127) ks (λ X m. move-computed (getD ks q []) c X))
+          ∙ ap (explore (move g) n (suc q)) (leave-over (move g) moveFrom (getD ks q []) (movers g (bare g) (getD ks q [])) (range 1 127) ks
+          (λ X m. move-computed (getD ks q []) c X))
           ∙ rec ok (omega (arith, h))
       go false t ok h rec = explore-done (move g) (suc n) q ks (ltb-false q (length ks) t)
 
@@ -179,4 +187,5 @@ module _ (g : Grammar) (W : grammar.WellFormed g) (few : length (entryStrings g)
 
     pub goto-computed : (q X : ℕ) → goto g q X ≡ gotoIn g (bare g) ks q X
     unfolding goto
-    goto-computed q X = ap suc (ap (λ (k : Kernel). find k (states g)) (moves-computed q X) ∙ ap (find (moveFrom (movers g (bare g) (kernelIn ks q)) X)) same)
+    goto-computed q X =
+        ap suc (ap (λ (k : Kernel). find k (states g)) (moves-computed q X) ∙ ap (find (moveFrom (movers g (bare g) (kernelIn ks q)) X)) same)

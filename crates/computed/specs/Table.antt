@@ -62,7 +62,9 @@ codes-in (y ∷ ls) q x d m = go (isAt q x y) refl m (codes-in ls q x d)
     late r = (r .0, there (r .1), r .2, r .3, r .4)
 
     one : isAt q x y ≡ true → (d ≡ y % 64) ⊎ In d (codesIn ls q x) → (In d (codesIn ls q x) → Made ls) → Made (y ∷ ls)
-    one e (inl k) rec = let b = and-true (eqb (y / 262144) q) (eqb (y / 64 % 4096) x) e in (y, here, eqb-true (y / 262144) q (b .0), eqb-true (y / 64 % 4096) x (b .1), k)
+    one e (inl k) rec =
+        let b = and-true (eqb (y / 262144) q) (eqb (y / 64 % 4096) x) e in
+        (y, here, eqb-true (y / 262144) q (b .0), eqb-true (y / 64 % 4096) x (b .1), k)
     one e (inr n) rec = late (rec n)
 
     go : (b : Bool) → isAt q x y ≡ b → In d (insertIf b (y % 64) (codesIn ls q x)) → (In d (codesIn ls q x) → Made ls) → Made (y ∷ ls)
@@ -71,7 +73,8 @@ codes-in (y ∷ ls) q x d m = go (isAt q x y) refl m (codes-in ls q x d)
 
 in-codes : (ls : List ℕ) (q x y : ℕ) → In y ls → y / 262144 ≡ q → y / 64 % 4096 ≡ x → In (y % 64) (codesIn ls q x)
 in-codes (z ∷ ls) q x y here e f =
-    subst (λ (b : Bool). In (y % 64) (insertIf b (y % 64) (codesIn ls q x))) (sym (and-both (eqb (y / 262144) q) (eqb (y / 64 % 4096) x) (eq-eqb (y / 262144) q e) (eq-eqb (y / 64 % 4096) x f)))
+    subst (λ (b : Bool). In (y % 64) (insertIf b (y % 64) (codesIn ls q x)))
+    (sym (and-both (eqb (y / 262144) q) (eqb (y / 64 % 4096) x) (eq-eqb (y / 262144) q e) (eq-eqb (y / 64 % 4096) x f)))
     (insert-here (y % 64) (codesIn ls q x))
 in-codes (z ∷ ls) q x y (there m) e f = insert-late (isAt q x z) (z % 64) (y % 64) (codesIn ls q x) (in-codes ls q x y m e f)
 in-codes [] q x y m e f = elim m [ ]
@@ -166,7 +169,8 @@ module _ (g : Grammar) (W : grammar.WellFormed g) (n : ℕ) (passed : tableTest 
 
   codes-same : (q x : ℕ) → codes g (FirstByRules g) (first? g) (terminalCodes g) (first-in g) q x ≡ codesIn ls q x
   codes-same q x =
-      codes-is g (FirstByRules g) (first? g) (terminalCodes g) (first-in g) (limits g W n passed) (codes-low g) q x (codesIn ls q x) (codes-rise ls q x) only all
+      codes-is g (FirstByRules g) (first? g) (terminalCodes g) (first-in g) (limits g W n passed) (codes-low g) q x (codesIn ls q x)
+      (codes-rise ls q x) only all
     where
       only : (d : ℕ) → In d (codesIn ls q x) → Lookahead g (FirstByRules g) q (itemOf x) (dotOf x) d
       only d m =
@@ -238,10 +242,12 @@ module _ (g : Grammar) (W : grammar.WellFormed g) (n : ℕ) (passed : tableTest 
   on-same q [] l k s e = e
   on-same q (X ∷ xs) l k s e = ap₂ (λ (o : Option Action) (m : List ActionLine). lineIf q X o m) (cell-same q X s) (on-same q xs l k s e)
 
-  of-same : (qs : List ℕ) → ((q : ℕ) → In q qs → (1 ≤ q) × (q ≤ length (states g))) → actionsOf (cellOf g W n passed) qs ≡ cellLines g (bare g) nl fl ks ls qs
+  of-same : (qs : List ℕ) → ((q : ℕ) → In q qs → (1 ≤ q) × (q ≤ length (states g)))
+      → actionsOf (cellOf g W n passed) qs ≡ cellLines g (bare g) nl fl ks ls qs
   of-same [] h = refl
   of-same (q ∷ qs) h =
-      on-same q (range 0 128) (actionsOf (cellOf g W n passed) qs) (cellLines g (bare g) nl fl ks ls qs) (h q here) (of-same qs (λ p m. h p (there m)))
+      on-same q (range 0 128) (actionsOf (cellOf g W n passed) qs) (cellLines g (bare g) nl fl ks ls qs) (h q here)
+      (of-same qs (λ p m. h p (there m)))
 
   -- ---- the table
 
@@ -256,7 +262,8 @@ module _ (g : Grammar) (W : grammar.WellFormed g) (n : ℕ) (passed : tableTest 
   table-computed =
       ap₂ (λ (k : List KernelLine) (l : List ActionLine). made (length (states g)) k l) (all-same 1 (states g))
       (of-same (range 1 (length (states g))) (λ q m. inside q m))
-      ∙ ap (λ (l : List Kernel). made (length l) (allIn g ls 1 l) (cellLines g (bare g) nl fl ks ls (range 1 (length l)))) (same g W n passed) ∙ sym found-table
+      ∙ ap (λ (l : List Kernel). made (length l) (allIn g ls 1 l) (cellLines g (bare g) nl fl ks ls (range 1 (length l)))) (same g W n passed)
+      ∙ sym found-table
     where
       inside : (q : ℕ) → In q (range 1 (length (states g))) → (1 ≤ q) × (q ≤ length (states g))
       inside q m = let r = range-in 1 (length (states g)) q m in (r .0, omega (arith, r .1))
