@@ -1,0 +1,5 @@
+pub mod Books
+pub mod Laws
+pub mod Computing
+pub mod Built
+pub mod Starred
