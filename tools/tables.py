@@ -2,7 +2,10 @@
 
 For the scripts that make cases and books to measure; slow and plain on purpose.
 """
+import sys
 from collections import defaultdict, namedtuple
+
+sys.set_int_max_str_digits(0)  # a number may be as long as its book
 
 Rule = namedtuple('Rule', 'left unit before groups')
 Grammar = namedtuple('Grammar', 't n goal rules')
@@ -30,13 +33,13 @@ def lines_of(book):
 
 
 def fields_of(line):
-    """The fields of a line, numbers as int (65536 for any that is too large), or None where it breaks its form."""
+    """The fields of a line, numbers as int, or None where it breaks its form."""
     if line is None:
         return None
     out = []
     for f in line.split(b','):
         if f.isdigit():
-            out.append(min(int(f.lstrip(b'0')[:6] or b'0'), MOST + 1))
+            out.append(int(f))
         elif len(f) == 1 and (f in b'^/' or b'A' <= f <= b'Z'):
             out.append(f.decode())
         else:
@@ -152,8 +155,7 @@ def read_table(book, g):
     while (lines.peek()[1] or ['?'])[0] == 'K':
         at, f = lines.take()
         codes = f[4:]
-        need(at, 1, len(f) > 4 and numbers(f[1:]) and all(a < b or a > MOST for a, b in zip(codes, codes[1:])) and all(a <= MOST or b > MOST for a, b in zip(codes, codes[1:]))
-             and tuple(f[1:4]) not in kernels)
+        need(at, 1, len(f) > 4 and numbers(f[1:]) and all(a < b for a, b in zip(codes, codes[1:])) and tuple(f[1:4]) not in kernels)
         need(at, 2, max(f[1:]) <= MOST and len(kernels) < 1023)
         need(at, 3, state(f[1]) and 1 <= f[2] <= r + count and f[3] <= len(string_of(g, t, f[2])) and max(codes) <= g.t)
         kernels[tuple(f[1:4])] = set(codes)

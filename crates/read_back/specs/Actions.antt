@@ -5,7 +5,7 @@ use mathlib.Core.Path.{_≡_, refl, sym, ap, subst, _∙_}
 use mathlib.Core.Bool.{true}
 use mathlib.Core.List.{List, [], _∷_, _++_, map, append-nil}
 use mathlib.Core.Option.{none}
-use borrow.Author.Tests.{le-leb}
+use borrow.Author.Tests.{le-leb, ne-eqb}
 use lib.ListN.{length, length-append}
 use Rattle.language.specs.Grammar.{Grammar, concat}
 use Rattle.language.specs.Sentence.{In, here, there}
@@ -18,7 +18,7 @@ use Rattle.table_lines.specs.declared.Judgement.the-variants.{Fine}
 use Rattle.table_lines.specs.Line.{allAtMost, whole, lineAt}
 use Rattle.table_lines.specs.Block.{takes, read}
 use Rattle.table_kernels.specs.Kernels.{noKernel, kernelNext}
-use Rattle.table_kernels.proofs.NextLaws.{kernel-broken, kernel-other}
+use Rattle.table_kernels.proofs.NextLaws.{kernel-broken}
 use Rattle.table_actions.specs.Actions.{isAction, actionOf, actionDeclared, judgeAction, actionNext, actionsFrom}
 use Rattle.table_actions.proofs.CellLaws.{same-no}
 use Rattle.table_actions.proofs.NextLaws.{action-end, action-taken}
@@ -69,6 +69,12 @@ letter-is (A i) = (omega arith, omega arith, λ e. omega (arith, e))
 letter-is (P n) = (omega arith, omega arith, λ e. omega (arith, e))
 
 -- ---- the tests of an action line
+
+-- a line with another letter is no kernel line
+other-line : (s : List ℕ) (t states items : ℕ) (lens : ℕ → ℕ) (at : ℕ) (l : List KernelLine) {letter : ℕ} {ns : List ℕ} {next : ℕ}
+    → lineAt s at ≡ whole letter ns next → (letter ≡ 75 → ⊥) → kernelNext s t states items lens at l ≡ noKernel at l
+unfolding kernelNext
+other-line s t states items lens at l {letter} e f = simp (e, ne-eqb letter 75 f)
 
 no-action : (l : List ActionLine) (q X : ℕ) (x : Action) → ((y : ActionLine) → In y l → SameCell y (L q X x) → ⊥) → actionFor l q X ≡ none
 no-action [] q X x f = refl
@@ -150,5 +156,5 @@ module _ (g : Grammar) (t : Table) (W : grammar.WellFormed g) (R : Readable g t)
       go : (xs : List ActionLine) → t .actions ≡ xs → Rest s at (actionText xs) → kernelNext s (g .terminals) states items lens at l ≡ noKernel at l
       go [] e r = kernel-broken s (g .terminals) states items lens at l (no-line s at r)
       go (L q X x ∷ xs) e r =
-          kernel-other s (g .terminals) states items lens at l
+          other-line s (g .terminals) states items lens at l
           (action-read q X x (subst (In (L q X x)) (sym e) here) (actionText xs) r (rest-past s (actionBytes q X x) r)) (letter-is x .2)

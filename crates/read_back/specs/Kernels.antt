@@ -2,7 +2,7 @@
 use Prim.Native.Nat.{ℕ, suc, _+_, _≤_}
 use native.Mathlib.Omega.{arith}
 use mathlib.Core.Path.{_≡_, refl, sym, ap, subst, _∙_}
-use mathlib.Core.Bool.{true, false, or-true}
+use mathlib.Core.Bool.{true, false}
 use mathlib.Core.List.{List, [], _∷_, _++_, map}
 use borrow.Author.Tests.{le-leb, lt-ltb}
 use lib.ListN.{length, length-append}
@@ -35,7 +35,7 @@ no-triple (K p j m τ ∷ l) q i k σ f = simp (same-no p j m q i k (f (K p j m 
 
 rising-from : (u : ℕ) (l : List ℕ) → RisingFrom (suc u) l → risingFrom u l ≡ true
 rising-from u [] r = refl
-rising-from u (v ∷ l) r = simp (lt-ltb u v (omega (arith, r .0)), or-true, rising-from v l (r .1))
+rising-from u (v ∷ l) r = simp (lt-ltb u v (omega (arith, r .0)), rising-from v l (r .1))
 
 rising-is : (l : List ℕ) → RisingFrom 0 l → rising l ≡ true
 rising-is [] r = refl

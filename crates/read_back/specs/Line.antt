@@ -13,6 +13,8 @@ use Rattle.text.specs.declared.End.the-variants.{Past}
 use Rattle.text.specs.declared.Field.the-variants as field
 use Rattle.text.specs.Field.{classOf, endOf, digitsFrom, fieldOf, fieldAt}
 use Rattle.text.proofs.ClassLaws.{class-letter}
+use Rattle.digits.specs.Exact.{exactAt}
+use Rattle.digits.proofs.CapLaws.{field-exact}
 use Rattle.table_lines.specs.Line.{whole, broken, numbersFrom, lineAt, allAtMost}
 use Rattle.table_lines.proofs.ListLaws.{both-true}
 use Rattle.lalr.specs.Text.{digits, fields, line}
@@ -95,7 +97,9 @@ module _ (s : List ℕ) where
   numbers-read letter (suc k) (v ∷ vs) l ns at {end} h a r q =
       let b = both-true (leb v 65535) (allAtMost 65535 vs) a in
       let p = number-past v vs l r in
-      simp (number-read v vs l at (leb-true v 65535 (b .0)) r)
+      let f = number-read v vs l at (leb-true v 65535 (b .0)) r in
+      let x : exactAt s at ≡ v = omega (arith, field-exact s (record { at = at; ended = false }) f, leb-true v 65535 (b .0)) in
+      simp (f, x)
       (numbers-read letter k vs l (ns ++ v ∷ []) (at + length (digits v) + 1) (omega (arith, h, r .place, p .place)) (b .1) p q
       ∙ ap (λ (z : List ℕ). whole letter z end) (append-snoc ns v vs))
 

@@ -6,3 +6,4 @@ pub mod ReadLaws
 pub mod LineLaws
 pub mod FormLaws
 pub mod MarkLaws
+pub mod BudgetLaws

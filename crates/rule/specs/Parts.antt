@@ -40,7 +40,8 @@ partsFrom zero s c = broken
 partsFrom (suc k) s c =
     cond (c .ended) (parts [] (c .at)) (onPart (fieldAt s c) (λ p d. after (p ∷ []) (partsFrom k s d)) broken)
 
--- a line has no more fields than the book has bytes
+-- a line has no more fields than the book has bytes, so no line is broken for want of a budget: `budget-suffices`
+-- (proofs/BudgetLaws.antt)
 abbrev pub partsAt : List ℕ → Cursor → Rest
 partsAt s c = partsFrom (suc (length s)) s c
 

@@ -1,8 +1,9 @@
 -- What comes of a book, block by block. h is the heading of the grammar g.
 use Prim.Native.Nat.{ℕ, zero, suc, _+_, _≤_}
-use mathlib.Core.Path.{_≡_, refl, ap, subst}
+use mathlib.Core.Path.{_≡_, refl, sym, ap, ap₂, subst, _∙_}
 use mathlib.Core.List.{List, [], _∷_, _++_}
 use mathlib.Core.Bool.{Bool, true, false, cond, _&&_}
+use native.Mathlib.Decide.{decLe}
 use native.Mathlib.Omega.{arith}
 use lib.Dec.{eqb}
 use lib.ListN.{length, getD, length-append}
@@ -12,17 +13,19 @@ use Rattle.header.specs.declared.Heading.{Heading}
 use Rattle.grammar.specs.Memory.{headingOf}
 use Rattle.leftcorner.specs.Table.{EntryLine, KernelLine, ActionLine}
 use Rattle.table_lines.specs.Block.{Outcome, takes, stops, refuses, Lines, read, refused, onOutcome, linesFrom}
-use Rattle.table_lines.specs.Line.{TextLine, lineAt, onLine}
+use Rattle.table_lines.specs.Line.{TextLine, lineAt, onLine, cap, caps, capped}
 use Rattle.table_lines.specs.Line as line
 use Rattle.table_lines.proofs.ListLaws.{both-true}
+use Rattle.table_lines.proofs.CapLaws.{caps-length, caps-at, line-caps}
 use Rattle.range.specs.Range.{within}
-use Rattle.range.proofs.RangeLaws.{within-true}
+use Rattle.range.proofs.RangeLaws.{within-true, false-within}
 use Rattle.reply.specs.declared.Kind.the-variants as kind
 use Rattle.table_entries.specs.Entries.{entriesFrom}
 use Rattle.table_kernels.specs.Kernels.{kernelsFrom}
 use Rattle.table_actions.specs.Actions.{actionsFrom}
+use Rattle.table.specs.declared.Head.{Head}
 use Rattle.table.specs.declared.Head.the-variants as head
-use Rattle.table.specs.Book.{headAt, headOf, whole, rejected, lengthsOf, tableWith, actionsOf, kernelsOf, entriesOf, tableOf}
+use Rattle.table.specs.Book.{headAt, headFrom, headOf, whole, rejected, lengthsOf, tableWith, actionsOf, kernelsOf, entriesOf, tableOf}
 
 -- a block has no more lines than it may have
 pub lines-few : {A : Type 0} (next : ℕ → List A → Outcome A) (k at : ℕ) (l : List A) {m : List A} {end : ℕ} → linesFrom k next at l ≡ read m end → length m ≤ length l + k
@@ -116,3 +119,32 @@ head-within s {states} {entries} {first} e = go (lineAt s 0) e
         → ((1 ≤ states) × (states ≤ 255)) × ((1 ≤ entries) × (entries ≤ 127))
     go (line.whole letter ns next) e = figures letter ns next (eqb letter 84 && eqb (length ns) 2) (within 1 (getD ns 0 0) 255 && within 1 (getD ns 1 0) 127) refl e
     go line.broken e = let z : _≡_ {A = ℕ} 0 1 = cc in absurd (omega arith)
+
+-- ---- the first line comes to the same by its numbers as memory keeps them
+within-caps : (v most : ℕ) → most ≤ 65535 → within 1 (cap v) most ≡ within 1 v most
+within-caps v most h = go (decLe v 65535)
+  where
+    go : Dec (v ≤ 65535) → within 1 (cap v) most ≡ within 1 v most
+    go (yes k) = let c : cap v ≡ v = omega (arith, k) in ap (λ (n : ℕ). within 1 n most) c
+    go (no k) = false-within 1 (cap v) most (λ p q. omega arith) ∙ sym (false-within 1 v most (λ p q. omega arith))
+
+pub head-capped : (s : List ℕ) → headOf s ≡ headFrom (capped (lineAt s 0))
+unfolding headOf
+head-capped s = line-caps (λ letter ns next. headFrom (line.whole letter ns next)) (headAt kind.Malformed) same (lineAt s 0)
+  where
+    figures : (a b next : ℕ) (x y : Bool) → within 1 a 255 ≡ x → within 1 b 127 ≡ y
+        → cond (x && y) (head.Read (cap a) (cap b) next) (headAt kind.LimitExceeded) ≡ cond (x && y) (head.Read a b next) (headAt kind.LimitExceeded)
+    figures a b next true true p q =
+        let w = within-true 1 a 255 p in
+        let v = within-true 1 b 127 q in
+        let c : cap a ≡ a = omega (arith, w .1) in
+        let d : cap b ≡ b = omega (arith, v .1) in
+        ap₂ (λ (m n : ℕ). head.Read m n next) c d
+    figures a b next true false p q = refl
+    figures a b next false y p q = refl
+
+    same : (letter : ℕ) (ns : List ℕ) (next : ℕ) → headFrom (line.whole letter (caps ns) next) ≡ headFrom (line.whole letter ns next)
+    same letter ns next =
+        rw (caps-length ns, caps-at ns 0, caps-at ns 1, within-caps (getD ns 0 0) 255 (omega arith), within-caps (getD ns 1 0) 127 (omega arith))
+        (ap (λ (h : Head). cond (eqb letter 84 && eqb (length ns) 2) h (headAt kind.Malformed))
+        (figures (getD ns 0 0) (getD ns 1 0) next (within 1 (getD ns 0 0) 255) (within 1 (getD ns 1 0) 127) refl refl))

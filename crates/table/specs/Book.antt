@@ -12,7 +12,7 @@ use Rattle.reply.specs.declared.Kind.the-variants as kind
 use Rattle.reply.specs.declared.Refusal.{Refusal}
 use Rattle.grammar.specs.Book.{onAccepted, grammarOf}
 use Rattle.leftcorner.specs.Table.{EntryLine, KernelLine, ActionLine, Table, symbolsOf}
-use Rattle.table_lines.specs.Line.{lineAt, onLine}
+use Rattle.table_lines.specs.Line.{TextLine, lineAt, onLine}
 use Rattle.table_lines.specs.Block.{Lines, read, refused}
 use Rattle.table_entries.specs.Entries.{entriesFrom}
 use Rattle.table_kernels.specs.Kernels.{kernelsFrom}
@@ -24,13 +24,16 @@ use Rattle.table.specs.declared.Head.the-variants as head
 abbrev pub headAt : Kind → Head
 headAt k = head.Refused (record { kind = k; place = 0 })
 
-unfoldable pub headOf : List ℕ → Head
-headOf s =
-    onLine (lineAt s 0) (λ letter ns next.
+abbrev pub headFrom : TextLine → Head
+headFrom x =
+    onLine x (λ letter ns next.
     cond (eqb letter 84 && eqb (length ns) 2)
     (cond (within 1 (getD ns 0 0) 255 && within 1 (getD ns 1 0) 127) (head.Read (getD ns 0 0) (getD ns 1 0) next) (headAt kind.LimitExceeded))
     (headAt kind.Malformed))
     (headAt kind.Malformed)
+
+unfoldable pub headOf : List ℕ → Head
+headOf s = headFrom (lineAt s 0)
 
 abbrev pub onHead : {A : Type 0} → Head → (ℕ → ℕ → ℕ → A) → (Refusal → A) → A
 onHead (head.Read states entries next) f y = f states entries next

@@ -1,6 +1,6 @@
 -- What comes of a place where an action line may stand; and what a line that is taken tells.
 use Prim.Native.Nat.{ℕ, _+_, _≤_, _<_}
-use mathlib.Core.Path.{_≡_, refl}
+use mathlib.Core.Path.{_≡_, refl, _∙_}
 use mathlib.Core.List.{List, [], _∷_}
 use mathlib.Core.Bool.{Bool, true, false, cond, _&&_}
 use mathlib.Core.Option.{Option, some, none}
@@ -15,12 +15,13 @@ use Rattle.reply.specs.declared.Kind.the-variants as kind
 use Rattle.symbol.specs.Symbol.{isTerminal, isNonterminal}
 use Rattle.leftcorner.specs.Table.{Action, S, N, A, P, ActionLine, L, actionFor}
 use Rattle.table_lines.specs.declared.Judgement.the-variants.{Fine, Faulty}
-use Rattle.table_lines.specs.Line.{whole, broken, lineAt, allAtMost}
+use Rattle.table_lines.specs.Line.{whole, broken, lineAt, allAtMost, capped}
 use Rattle.table_lines.specs.Block.{takes, stops, fault}
 use Rattle.table_lines.proofs.BlockLaws.{judge-fine}
 use Rattle.table_lines.proofs.ListLaws.{both-true}
 use Rattle.table_actions.specs.Actions.{isAction, actionOf, actionDeclared, isNone, judgeAction, actionNext}
-use Rattle.table_actions.specs.Memory.{Formed}
+use Rattle.table_actions.specs.Memory.{Formed, AllFormed}
+use Rattle.table_actions.proofs.CapLaws.{action-capped}
 
 module _ (s : List ℕ) (t n rules states at : ℕ) (l : List ActionLine) where
   pub action-end : length s ≤ at → actionNext s t n rules states at l ≡ stops
@@ -32,15 +33,19 @@ module _ (s : List ℕ) (t n rules states at : ℕ) (l : List ActionLine) where
     unfolding actionNext
     action-broken e = simp (lt-leb (length s) at h, e)
 
-    module _ {letter : ℕ} {ns : List ℕ} {next : ℕ} (e : lineAt s at ≡ whole letter ns next) where
-      pub action-faulty : {why : Kind} → judgeAction t n rules states l letter ns ≡ Faulty why → actionNext s t n rules states at l ≡ fault why at
-      unfolding actionNext
-      action-faulty j = simp (lt-leb (length s) at h, e, j)
+    pub action-taken : {letter : ℕ} {ns : List ℕ} {next : ℕ} → lineAt s at ≡ whole letter ns next → judgeAction t n rules states l letter ns ≡ Fine
+        → actionNext s t n rules states at l ≡ takes (L (getD ns 0 0) (getD ns 1 0) (actionOf letter (getD ns 2 0))) next
+    unfolding actionNext
+    action-taken e j = simp (lt-leb (length s) at h, e, j)
 
-      pub action-taken : judgeAction t n rules states l letter ns ≡ Fine
+    -- by the numbers as memory keeps them
+    module _ (formed : AllFormed l) {letter : ℕ} {ns : List ℕ} {next : ℕ} (e : capped (lineAt s at) ≡ whole letter ns next) where
+      pub action-refused : {why : Kind} → judgeAction t n rules states l letter ns ≡ Faulty why → actionNext s t n rules states at l ≡ fault why at
+      action-refused j = action-capped s t n rules states at l formed ∙ simp (lt-leb (length s) at h, e, j)
+
+      pub action-kept : judgeAction t n rules states l letter ns ≡ Fine
           → actionNext s t n rules states at l ≡ takes (L (getD ns 0 0) (getD ns 1 0) (actionOf letter (getD ns 2 0))) next
-      unfolding actionNext
-      action-taken j = simp (lt-leb (length s) at h, e, j)
+      action-kept j = action-capped s t n rules states at l formed ∙ simp (lt-leb (length s) at h, e, j)
 
 -- ---- a line that is fine
 pub record ActionFine (t n rules states : ℕ) (l : List ActionLine) (letter : ℕ) (ns : List ℕ) : Type 0 where

@@ -2,4 +2,5 @@ pub mod StringLaws
 pub mod RowLaws
 pub mod JudgeLaws
 pub mod MemoryLaws
+pub mod CapLaws
 pub mod NextLaws

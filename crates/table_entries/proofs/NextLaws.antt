@@ -17,26 +17,31 @@ use Rattle.symbol.specs.Symbol.{isTerminal, isNonterminal, isDeclared}
 use Rattle.leftcorner.specs.Table.{EntryLine, E, entryFrom}
 use Rattle.items.proofs.LayoutLaws.{Fits}
 use Rattle.table_lines.specs.declared.Judgement.the-variants.{Fine, Faulty}
-use Rattle.table_lines.specs.Line.{TextLine, whole, broken, lineAt, allAtMost}
+use Rattle.table_lines.specs.Line.{TextLine, whole, broken, lineAt, allAtMost, capped}
 use Rattle.table_lines.specs.Block.{Outcome, takes, fault}
 use Rattle.table_lines.proofs.BlockLaws.{judge-fine}
 use Rattle.table_lines.proofs.ListLaws.{both-true}
 use Rattle.table_entries.specs.Entries.{allDeclared, judgeEntry, entryNext}
 use Rattle.table_entries.proofs.StringLaws.{symbol-at}
+use Rattle.table_entries.proofs.CapLaws.{Small, entry-capped}
 
 module _ (s : List ℕ) (t n states at : ℕ) (l : List EntryLine) where
   pub entry-broken : lineAt s at ≡ broken → entryNext s t n states at l ≡ fault kind.Malformed at
   unfolding entryNext
   entry-broken e = simp e
 
-  module _ {letter : ℕ} {ns : List ℕ} {next : ℕ} (e : lineAt s at ≡ whole letter ns next) where
-    pub entry-faulty : {k : Kind} → judgeEntry t n states l letter ns ≡ Faulty k → entryNext s t n states at l ≡ fault k at
-    unfolding entryNext
-    entry-faulty j = simp (e, j)
+  pub entry-taken : {letter : ℕ} {ns : List ℕ} {next : ℕ} → lineAt s at ≡ whole letter ns next → judgeEntry t n states l letter ns ≡ Fine
+      → entryNext s t n states at l ≡ takes (E (getD ns 0 0) (drop 1 ns)) next
+  unfolding entryNext
+  entry-taken e j = simp (e, j)
 
-    pub entry-taken : judgeEntry t n states l letter ns ≡ Fine → entryNext s t n states at l ≡ takes (E (getD ns 0 0) (drop 1 ns)) next
-    unfolding entryNext
-    entry-taken j = simp (e, j)
+  -- by the numbers as memory keeps them
+  module _ (small : Small l) {letter : ℕ} {ns : List ℕ} {next : ℕ} (e : capped (lineAt s at) ≡ whole letter ns next) where
+    pub entry-refused : {k : Kind} → judgeEntry t n states l letter ns ≡ Faulty k → entryNext s t n states at l ≡ fault k at
+    entry-refused j = entry-capped s t n states at l small ∙ simp (e, j)
+
+    pub entry-kept : judgeEntry t n states l letter ns ≡ Fine → entryNext s t n states at l ≡ takes (E (getD ns 0 0) (drop 1 ns)) next
+    entry-kept j = entry-capped s t n states at l small ∙ simp (e, j)
 
 -- ---- a line that is fine
 pub record EntryFine (t n states : ℕ) (l : List EntryLine) (ns : List ℕ) : Type 0 where

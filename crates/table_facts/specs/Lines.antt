@@ -1,7 +1,7 @@
 -- A line that is taken is a whole line of the book, judged fine, and ends past its beginning.
 use Prim.Native.Nat.{ℕ, zero, suc, _≤_, _<_}
 use mathlib.Core.Path.{_≡_, refl, ap, subst, _∙_}
-use mathlib.Core.List.{List, [], _∷_, _++_}
+use mathlib.Core.List.{List, []}
 use mathlib.Core.Bool.{false}
 use native.Mathlib.Omega.{arith}
 use lib.ListN.{length}
@@ -29,7 +29,7 @@ module _ (s : List ℕ) (at : ℕ) where
   numbers-end (suc k) letter c ns b =
       all-cond Ends (c .ended) (λ e. b)
       (λ e. all-number Ends (fieldAt s c)
-      (λ v d f. let o = onward s c (field.Number v d) f in numbers-end k letter d (ns ++ v ∷ []) (omega (arith, b .0, o .0), o .1)) tt)
+      (λ v d f. let o = onward s c (field.Number v d) f in numbers-end k letter d _ (omega (arith, b .0, o .0), o .1)) tt)
 
   -- past its beginning, and in the book
   pub line-ends : {letter : ℕ} {ns : List ℕ} {next : ℕ} → lineAt s at ≡ whole letter ns next → (at < next) × (next ≤ length s)

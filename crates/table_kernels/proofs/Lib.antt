@@ -1,4 +1,5 @@
 pub mod TripleLaws
 pub mod MemoryLaws
+pub mod CapLaws
 pub mod NextLaws
 pub mod ReadLaws

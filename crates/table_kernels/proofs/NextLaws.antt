@@ -16,14 +16,16 @@ use Rattle.leftcorner.specs.Table.{KernelLine, K}
 use Rattle.table_lines.specs.declared.Judgement.the-variants.{Fine, Faulty}
 use Rattle.table_lines.specs.declared.Step.{Step}
 use Rattle.table_lines.specs.declared.Step.the-variants as step
-use Rattle.table_lines.specs.Line.{TextLine, whole, broken, lineAt, allAtMost, rising}
+use Rattle.table_lines.specs.Line.{TextLine, whole, broken, lineAt, allAtMost, rising, capped}
 use Rattle.table_lines.specs.declared.Block.{Block}
 use Rattle.table_lines.specs.Block.{Outcome, takes, stops, refuses, fault, stepOf, Comes, stopped, turned, Lines, Reads, all-read, turned-away}
 use Rattle.table_lines.proofs.BlockLaws.{judge-fine}
 use Rattle.table_lines.proofs.ListLaws.{both-true}
 use Rattle.table_lines.proofs.TallyLaws.{rising-short}
-use Rattle.table_kernels.specs.Kernels.{hasTriple, judgeKernel, noKernel, kernelNext}
-use Rattle.table_kernels.specs.Memory.{KernelImage, KernelMemory}
+use Rattle.table_lines.proofs.HeldLaws.{numbersOf}
+use Rattle.table_kernels.specs.Kernels.{hasTriple, judgeWith, judgeKernel, noKernel, kernelNext}
+use Rattle.table_kernels.specs.Memory.{Low, KernelImage, KernelMemory}
+use Rattle.table_kernels.proofs.CapLaws.{kernel-capped}
 
 pub none-first : (at : ℕ) (l : List KernelLine) → length l ≡ 0 → step.Refused (record { kind = kind.Malformed; place = at }) ≡ stepOf (noKernel at l)
 none-first at [] e = refl
@@ -43,20 +45,23 @@ module _ (s : List ℕ) (t states items : ℕ) (lens : ℕ → ℕ) (at : ℕ) (
   unfolding kernelNext
   kernel-broken e = simp e
 
-  module _ {letter : ℕ} {ns : List ℕ} {next : ℕ} (e : lineAt s at ≡ whole letter ns next) where
+  pub kernel-taken : {letter : ℕ} {ns : List ℕ} {next : ℕ} → lineAt s at ≡ whole letter ns next → letter ≡ 75 → judgeKernel t states items lens l ns ≡ Fine
+      → kernelNext s t states items lens at l ≡ takes (K (getD ns 0 0) (getD ns 1 0) (getD ns 2 0) (drop 3 ns)) next
+  unfolding kernelNext
+  kernel-taken {letter} e k j = simp (e, eq-eqb letter 75 k, j)
+
+  -- by the numbers as memory keeps them
+  module _ (low : Low l) {letter : ℕ} {ns : List ℕ} {next : ℕ} {rise : Bool} (e : capped (lineAt s at) ≡ whole letter ns next) (q : rise ≡ rising (drop 3 (numbersOf (lineAt s at)))) where
     pub kernel-other : (letter ≡ 75 → ⊥) → kernelNext s t states items lens at l ≡ noKernel at l
-    unfolding kernelNext
-    kernel-other f = simp (e, ne-eqb letter 75 f)
+    kernel-other f = kernel-capped s t states items lens at l low e q ∙ simp (ne-eqb letter 75 f)
 
     module _ (k : letter ≡ 75) where
-      pub kernel-faulty : {why : Kind} → judgeKernel t states items lens l ns ≡ Faulty why → kernelNext s t states items lens at l ≡ fault why at
-      unfolding kernelNext
-      kernel-faulty j = simp (e, eq-eqb letter 75 k, j)
+      pub kernel-refused : {why : Kind} → judgeWith rise t states items lens l ns ≡ Faulty why → kernelNext s t states items lens at l ≡ fault why at
+      kernel-refused j = kernel-capped s t states items lens at l low e q ∙ simp (eq-eqb letter 75 k, j)
 
-      pub kernel-taken : judgeKernel t states items lens l ns ≡ Fine
+      pub kernel-kept : judgeWith rise t states items lens l ns ≡ Fine
           → kernelNext s t states items lens at l ≡ takes (K (getD ns 0 0) (getD ns 1 0) (getD ns 2 0) (drop 3 ns)) next
-      unfolding kernelNext
-      kernel-taken j = simp (e, eq-eqb letter 75 k, j)
+      kernel-kept j = kernel-capped s t states items lens at l low e q ∙ simp (eq-eqb letter 75 k, j)
 
 -- ---- a line that is fine
 pub record KernelFine (t states items : ℕ) (lens : ℕ → ℕ) (l : List KernelLine) (ns : List ℕ) : Type 0 where
@@ -69,21 +74,21 @@ pub record KernelFine (t states items : ℕ) (lens : ℕ → ℕ) (l : List Kern
   pub dot-in : getD ns 2 0 ≤ lens (getD ns 1 0)
   pub codes-in : allAtMost t (drop 3 ns) ≡ true
 
-pub kernel-fine : (t states items : ℕ) (lens : ℕ → ℕ) (l : List KernelLine) (ns : List ℕ) → judgeKernel t states items lens l ns ≡ Fine → KernelFine t states items lens l ns
-unfolding judgeKernel
-kernel-fine t states items lens l ns e =
-    let j = judge-fine (leb 4 (length ns) && (rising (drop 3 ns) && not (hasTriple l (getD ns 0 0) (getD ns 1 0) (getD ns 2 0))))
+pub with-fine : (rise : Bool) (t states items : ℕ) (lens : ℕ → ℕ) (l : List KernelLine) (ns : List ℕ) → judgeWith rise t states items lens l ns ≡ Fine
+    → (allAtMost 65535 ns ≡ true → rise ≡ rising (drop 3 ns)) → KernelFine t states items lens l ns
+with-fine rise t states items lens l ns e q =
+    let j = judge-fine (leb 4 (length ns) && (rise && not (hasTriple l (getD ns 0 0) (getD ns 1 0) (getD ns 2 0))))
     (allAtMost 65535 ns && ltb (length l) 1023)
     (within 1 (getD ns 0 0) states && (within 1 (getD ns 1 0) items && (leb (getD ns 2 0) (lens (getD ns 1 0)) && allAtMost t (drop 3 ns)))) e in
-    let f = both-true (leb 4 (length ns)) (rising (drop 3 ns) && not (hasTriple l (getD ns 0 0) (getD ns 1 0) (getD ns 2 0))) (j .0) in
-    let g = both-true (rising (drop 3 ns)) (not (hasTriple l (getD ns 0 0) (getD ns 1 0) (getD ns 2 0))) (f .1) in
+    let f = both-true (leb 4 (length ns)) (rise && not (hasTriple l (getD ns 0 0) (getD ns 1 0) (getD ns 2 0))) (j .0) in
+    let g = both-true rise (not (hasTriple l (getD ns 0 0) (getD ns 1 0) (getD ns 2 0))) (f .1) in
     let w = both-true (allAtMost 65535 ns) (ltb (length l) 1023) (j .1) in
     let a = both-true (within 1 (getD ns 0 0) states) (within 1 (getD ns 1 0) items && (leb (getD ns 2 0) (lens (getD ns 1 0)) && allAtMost t (drop 3 ns))) (j .2) in
     let b = both-true (within 1 (getD ns 1 0) items) (leb (getD ns 2 0) (lens (getD ns 1 0)) && allAtMost t (drop 3 ns)) (a .1) in
     let c = both-true (leb (getD ns 2 0) (lens (getD ns 1 0))) (allAtMost t (drop 3 ns)) (b .1) in
     record {
       long = leb-true 4 (length ns) (f .0);
-      rises = g .0;
+      rises = sym (q (w .0)) ∙ g .0;
       new = not-true (hasTriple l (getD ns 0 0) (getD ns 1 0) (getD ns 2 0)) (g .1);
       few = ltb-true (length l) 1023 (w .1);
       state-in = within-true 1 (getD ns 0 0) states (a .0);
@@ -92,6 +97,10 @@ kernel-fine t states items lens l ns e =
       codes-in = c .1;
     }
 
+pub kernel-fine : (t states items : ℕ) (lens : ℕ → ℕ) (l : List KernelLine) (ns : List ℕ) → judgeKernel t states items lens l ns ≡ Fine → KernelFine t states items lens l ns
+unfolding judgeKernel
+kernel-fine t states items lens l ns e = with-fine (rising (drop 3 ns)) t states items lens l ns e (λ a. refl)
+
 pub at-most : (m : ℕ) (l : List ℕ) → allAtMost m l ≡ true → (k : ℕ) → getD l k 0 ≤ m
 at-most m [] e k = omega arith
 at-most m (v ∷ l) e zero = leb-true v m (both-true (leb v m) (allAtMost m l) e .0)
@@ -99,7 +108,7 @@ at-most m (v ∷ l) e (suc k) = at-most m l (both-true (leb v m) (allAtMost m l)
 
 -- its numbers are few, since its codes rise to t at most
 pub fine-short : {t states items : ℕ} {lens : ℕ → ℕ} {l : List KernelLine} {ns : List ℕ} → t ≤ 63 → KernelFine t states items lens l ns → length ns ≤ 67
-fine-short {t = t} {ns = ns} h f = omega (arith, rising-short (drop 3 ns) t (f .rises) (omega (arith, h)) (f .codes-in), length-drop 3 ns, h)
+fine-short {t = t} {ns = ns} h f = omega (arith, rising-short (drop 3 ns) t (f .rises) (f .codes-in), length-drop 3 ns, h)
 
 -- and its codes are below 64
 pub code-low : {t states items : ℕ} {lens : ℕ → ℕ} {l : List KernelLine} {ns : List ℕ} → t ≤ 63 → KernelFine t states items lens l ns → (k : ℕ) → 3 ≤ k → getD ns k 0 < 64

@@ -17,13 +17,16 @@ abbrev pub hasTriple : List KernelLine → ℕ → ℕ → ℕ → Bool
 hasTriple [] q i k = false
 hasTriple (K p j m σ ∷ l) q i k = (eqb p q && (eqb j i && eqb m k)) || hasTriple l q i k
 
--- the numbers of a line K: state, item, dot, codes. `items` is the number of items and `lens` the lengths of their strings.
--- "kernel lines | 1 | 1,023": a 1,024th is oversize.
-unfoldable pub judgeKernel : ℕ → ℕ → ℕ → (ℕ → ℕ) → List KernelLine → List ℕ → Judgement
-judgeKernel t states items lens earlier ns =
-    judge (leb 4 (length ns) && (rising (drop 3 ns) && not (hasTriple earlier (getD ns 0 0) (getD ns 1 0) (getD ns 2 0))))
+-- the numbers of a line K: state, item, dot, codes; `rise` tells whether the codes do. `items` is the number of items and `lens` the
+-- lengths of their strings. "kernel lines | 1 | 1,023": a 1,024th is oversize.
+abbrev pub judgeWith : Bool → ℕ → ℕ → ℕ → (ℕ → ℕ) → List KernelLine → List ℕ → Judgement
+judgeWith rise t states items lens earlier ns =
+    judge (leb 4 (length ns) && (rise && not (hasTriple earlier (getD ns 0 0) (getD ns 1 0) (getD ns 2 0))))
     (allAtMost 65535 ns && ltb (length earlier) 1023)
     (within 1 (getD ns 0 0) states && (within 1 (getD ns 1 0) items && (leb (getD ns 2 0) (lens (getD ns 1 0)) && allAtMost t (drop 3 ns))))
+
+unfoldable pub judgeKernel : ℕ → ℕ → ℕ → (ℕ → ℕ) → List KernelLine → List ℕ → Judgement
+judgeKernel t states items lens earlier ns = judgeWith (rising (drop 3 ns)) t states items lens earlier ns
 
 -- no kernel line stands at `at`: the block ends, and it has a line at least
 abbrev pub noKernel : ℕ → List KernelLine → Outcome KernelLine

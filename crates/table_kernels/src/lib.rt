@@ -15,7 +15,7 @@ ghost use lib.ListN.{length, getD, take, drop, set};
 ghost use Rattle.items.specs.Layout.{Shaped, lengthAt};
 ghost use Rattle.leftcorner.specs.Table.{KernelLine};
 ghost use Rattle.table_lines.specs.Block.{Held, stepOf, Comes, Reads};
-ghost use Rattle.table_kernels.specs.Kernels.{hasTriple, judgeKernel, noKernel, kernelNext, kernelsFrom};
+ghost use Rattle.table_kernels.specs.Kernels.{hasTriple, judgeWith, noKernel, kernelNext, kernelsFrom};
 ghost use Rattle.table_kernels.specs.Memory.{Marked, HoldsKernels, flagged, KernelImage, KernelMemory};
 
 // Whether a line with this state, item and dot was read: one look at the mark that each such line has.
@@ -50,7 +50,7 @@ fn judge_kernel(
 ) -> Judgement
     requires { ⌜ (length (now numbers) ≡ 67) × (length (now marks) ≡ 1048576) ⌝ }
     requires { ⌜ Shaped (now m) items ⌝ }
-    ensures { λ r. ⌜ ((l : List KernelLine) (ns : List ℕ) → length l ≡ lines → Marked (now (marks .entry)) l → Held ns p (now (numbers .entry)) → r ≡ judgeKernel t states items (lengthAt (now (m .entry))) l ns) ⌝ }
+    ensures { λ r. ⌜ ((l : List KernelLine) (ns : List ℕ) → length l ≡ lines → Marked (now (marks .entry)) l → Held ns p (now (numbers .entry)) → r ≡ judgeWith (p .rising) t states items (lengthAt (now (m .entry))) l ns) ⌝ }
 {
     if p.count < 4 {
         return Judgement::Faulty(Kind::Malformed);

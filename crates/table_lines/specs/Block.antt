@@ -2,8 +2,8 @@
 use Prim.Native.Nat.{ℕ, zero, suc, _<_}
 use mathlib.Core.Path.{_≡_}
 use mathlib.Core.List.{List, [], _∷_, _++_}
-use mathlib.Core.Bool.{Bool, cond}
-use lib.ListN.{length, getD}
+use mathlib.Core.Bool.{Bool, true, cond}
+use lib.ListN.{length, getD, drop}
 use Rattle.reply.specs.declared.Kind.{Kind}
 use Rattle.reply.specs.declared.Kind.the-variants as kind
 use Rattle.reply.specs.declared.Refusal.{Refusal}
@@ -14,7 +14,8 @@ use Rattle.table_lines.specs.declared.Step.the-variants as step
 use Rattle.table_lines.specs.declared.Block.{Block}
 use Rattle.table_lines.specs.declared.Block.the-variants as block
 use Rattle.table_lines.specs.declared.Tally.{Tally}
-use Rattle.table_lines.specs.Tally.{tally}
+use Rattle.table_lines.specs.Line.{allAtMost, rising}
+use Rattle.table_lines.specs.Tally.{largestOf, lastFrom}
 
 -- by its form (1), its figures' limits (2) and what it names (3)
 abbrev pub judge : Bool → Bool → Bool → Judgement
@@ -54,13 +55,15 @@ unfoldable pub linesFrom : {A : Type 0} → ℕ → (ℕ → List A → Outcome 
 linesFrom zero next at l = read l at
 linesFrom (suc k) next at l = onOutcome (next at l) (λ x past. linesFrom k next past (l ++ x ∷ [])) (read l at) refused
 
--- ---- what the code holds of a line's numbers: the first of them in memory m, and the tally of all
+-- ---- what the code holds of a line's numbers as memory keeps them: the first of them in memory m, and the tally of all
 pub record Numbers (ns : List ℕ) (count : ℕ) (m : List ℕ) : Type 0 where
   pub count-is : count ≡ length ns
   pub number-is : (k : ℕ) → k < length ns → k < length m → getD m k 0 ≡ getD ns k 0
 
 pub record Held (ns : List ℕ) (p : Tally) (m : List ℕ) : Type 0 where
-  pub tally-is : p ≡ tally ns
+  pub largest-is : p .largest ≡ largestOf ns
+  pub last-is : p .last ≡ lastFrom 0 ns
+  pub rises : allAtMost 65535 ns ≡ true → p .rising ≡ rising (drop 3 ns)
   pub numbers : Numbers ns (p .count) m
 
 -- what the code's step is, by what should come of the place after the lines l; M is what memory then is, by the lines taken

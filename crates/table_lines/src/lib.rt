@@ -5,13 +5,14 @@ use reply::Refusal;
 use text::Cursor;
 use text::Field;
 ghost use mathlib.Core.Path.{_≡_};
-ghost use Prim.Native.Nat.{_<_, max};
+ghost use Prim.Native.Nat.{_≤_, _<_, max};
 ghost use lib.ListN.{length, set};
-ghost use Rattle.table_lines.specs.Line.{lineAt, numbersFrom, Stores};
+ghost use Rattle.digits.specs.Exact.{exactAt};
+ghost use Rattle.table_lines.specs.Line.{lineAt, numbersFrom, cap, Stores};
 ghost use Rattle.table_lines.specs.Tally.{lineOf, addNumber, keepsRising, noNumber};
 
 // What is kept of a line's numbers beside the numbers themselves: how many there are, the largest, the last, and
-// whether those from the fourth on rise.
+// whether those from the fourth on rise. Every number above 65,535 is kept as 65,536; whether they rise is exact.
 pub struct Tally {
     pub count: usize,
     pub largest: usize,
@@ -54,31 +55,36 @@ fn larger(a: usize, b: usize) -> usize
     a
 }
 
-// Whether the numbers from the fourth on still rise with v. Two numbers above 65,535 count as rising.
-fn keeps_rising(p: Tally, v: usize) -> bool
-    ensures { λ r. ⌜ r ≡ keepsRising p v ⌝ }
+// Whether the numbers from the fourth on still rise with the number at `at`, kept as v, where the last stands at
+// `prior`. Digits are compared only where both are above 65,535.
+fn keeps_rising(s: &[u8], p: Tally, prior: usize, at: usize, v: usize) -> bool
+    requires { ⌜ (4 ≤ p .count → p .last ≡ cap (exactAt (now s) prior)) × (v ≡ cap (exactAt (now s) at)) ⌝ }
+    ensures { λ r. ⌜ r ≡ keepsRising (now (s .entry)) p prior at ⌝ }
 {
     if p.count < 4 {
         return p.rising;
     }
-    if 65535 < v {
+    if p.last < v {
         return p.rising;
     }
-    if v <= p.last {
+    if v < 65536 {
+        return false;
+    }
+    if !digits::is_below(s, prior, at) {
         return false;
     }
     p.rising
 }
 
-fn add_number(p: Tally, v: usize) -> Tally
+fn add_number(p: Tally, v: usize, rising: bool) -> Tally
     requires { ⌜ p .count < 65536 ⌝ }
-    ensures { λ r. ⌜ r ≡ addNumber p v ⌝ }
+    ensures { λ r. ⌜ r ≡ addNumber p v rising ⌝ }
 {
     Tally {
         count: p.count + 1,
         largest: larger(p.largest, v),
         last: v,
-        rising: keeps_rising(p, v),
+        rising,
     }
 }
 
@@ -108,6 +114,7 @@ fn read_numbers(s: &[u8], letter: u8, first: Cursor, numbers: &mut [usize]) -> L
     ensures { λ r. ⌜ Stores (numbersFrom (length (now (s .entry))) (now (s .entry)) letter first noNumber) (now (numbers .entry)) (now (numbers .exit)) ⌝ }
 {
     let mut c = first;
+    let mut prior = 0;
     let mut p = Tally {
         count: 0,
         largest: 0,
@@ -125,7 +132,9 @@ fn read_numbers(s: &[u8], letter: u8, first: Cursor, numbers: &mut [usize]) -> L
             return Line::Broken;
         };
         store_number(numbers, p.count, v);
-        p = add_number(p, v);
+        let rising = keeps_rising(s, p, prior, c.at, v);
+        p = add_number(p, v, rising);
+        prior = c.at;
         c = d;
     }
     Line::Broken

@@ -1,5 +1,5 @@
 -- `table::read_head` meets its contract. Assumes nothing.
-use Rattle.table.specs.Book.{headOf}
+use Rattle.table.proofs.ReadLaws.{head-capped}
 use Rattle.table_lines.proofs.HeldLaws.{Whole, whole-read, broken-read, held-count, held-at}
 use Rattle.table_lines.specs.Line.{lineAt}
 use borrow.Author.Tests.{eq-eqb, ne-eqb, not-true, not-false}
@@ -34,23 +34,20 @@ refuse-head-requires : tie.Need-refuse-head-requires
 refuse-head-requires c κs = search needs
 
 returns : tie.Need-returns
-unfolding headOf
-returns c = c .refuse-head .ensures ∙ simp (broken-read (lineAt (now (c .before .before .before .before .before .before .before .args .s)) 0) (sym (c .before .enum-told .given .1) ∙ c .before .before .before .before .read-line .ensures .0))
+returns c = rw head-capped (c .refuse-head .ensures ∙ simp (broken-read (lineAt (now (c .before .before .before .before .before .before .before .args .s)) 0) (sym (c .before .enum-told .given .1) ∙ c .before .before .before .before .read-line .ensures .0)))
 
 refuse-head-requires-2 : tie.Need-refuse-head-requires-2
 refuse-head-requires-2 c κs = search needs
 
 returns-2 : tie.Need-returns-2
-unfolding headOf
-returns-2 c = let w = line-read (c .before .before) in c .refuse-head2 .ensures ∙ simp (w .line-is, ne-eqb _ 84 (c .before .if1 .taken))
+returns-2 c = let w = line-read (c .before .before) in rw head-capped (c .refuse-head2 .ensures ∙ simp (w .line-is, ne-eqb _ 84 (c .before .if1 .taken)))
 
 refuse-head-requires-3 : tie.Need-refuse-head-requires-3
 refuse-head-requires-3 c κs = search needs
 
 returns-3 : tie.Need-returns-3
-unfolding headOf
 returns-3 c = let w = line-read (c .before .before .before .before) in
-    c .refuse-head3 .ensures ∙ simp (w .line-is, eq-eqb _ 84 (c .before .before .before .if1 .left), ne-eqb (length (w .numbers)) 2 (λ z. c .before .if2 .taken (held-count (w .held) ∙ z)))
+    rw head-capped (c .refuse-head3 .ensures ∙ simp (w .line-is, eq-eqb _ 84 (c .before .before .before .if1 .left), ne-eqb (length (w .numbers)) 2 (λ z. c .before .if2 .taken (held-count (w .held) ∙ z))))
 
 array-read-states : tie.Need-array-read-states
 array-read-states c = search needs
@@ -65,17 +62,16 @@ refuse-head-requires-4 : tie.Need-refuse-head-requires-4
 refuse-head-requires-4 c κs = search needs
 
 returns-4 : tie.Need-returns-4
-unfolding headOf
 returns-4 c = let w = line-read (c .before .before .before .before .before .before) in
     let e = sym (held-count (w .held)) ∙ c .before .before .before .if2 .left in
-    c .refuse-head4 .ensures
+    rw head-capped (c .refuse-head4 .ensures
     ∙ simp (
       w .line-is,
       eq-eqb _ 84 (c .before .before .before .before .before .if1 .left),
       eq-eqb (length (w .numbers)) 2 e,
       held-at (w .held) 0 (omega (arith, e)) (search needs),
       sym (c .before .before .in-range .ensures) ∙ not-true _ (c .before .if3 .taken),
-    )
+    ))
 
 in-range-requires-2 : tie.Need-in-range-requires-2
 in-range-requires-2 c κs = search needs
@@ -84,10 +80,9 @@ refuse-head-requires-5 : tie.Need-refuse-head-requires-5
 refuse-head-requires-5 c κs = search needs
 
 returns-5 : tie.Need-returns-5
-unfolding headOf
 returns-5 c = let w = line-read (c .before .before .before .before .before .before .before .before) in
     let e = sym (held-count (w .held)) ∙ c .before .before .before .before .before .if2 .left in
-    c .refuse-head5 .ensures
+    rw head-capped (c .refuse-head5 .ensures
     ∙ simp (
       w .line-is,
       eq-eqb _ 84 (c .before .before .before .before .before .before .before .if1 .left),
@@ -96,13 +91,12 @@ returns-5 c = let w = line-read (c .before .before .before .before .before .befo
       held-at (w .held) 1 (omega (arith, e)) (search needs),
       sym (c .before .before .before .before .in-range .ensures) ∙ not-false _ (c .before .before .before .if3 .left),
       sym (c .before .before .in-range2 .ensures) ∙ not-true _ (c .before .if4 .taken),
-    )
+    ))
 
 returns-6 : tie.Need-returns-6
-unfolding headOf
 returns-6 c = let w = line-read (c .before .before .before .before .before .before .before) in
     let e = sym (held-count (w .held)) ∙ c .before .before .before .before .if2 .left in
-    simp (
+    rw head-capped (simp (
       w .line-is,
       eq-eqb _ 84 (c .before .before .before .before .before .before .if1 .left),
       eq-eqb (length (w .numbers)) 2 e,
@@ -110,7 +104,7 @@ returns-6 c = let w = line-read (c .before .before .before .before .before .befo
       held-at (w .held) 1 (omega (arith, e)) (search needs),
       sym (c .before .before .before .in-range .ensures) ∙ not-false _ (c .before .before .if3 .left),
       sym (c .before .in-range2 .ensures) ∙ not-false _ (c .if4 .left),
-    )
+    ))
 
 pub read-head-spec : {M : Type 1} → statement M
 read-head-spec =

@@ -1,6 +1,6 @@
 -- `table_actions::read_action` meets its contract. Assumes nothing.
 use Rattle.table_actions.proofs.MemoryLaws.{action-more}
-use Rattle.table_actions.proofs.NextLaws.{action-end, action-broken, action-faulty, action-taken, ActionFine, action-fine, fine-formed}
+use Rattle.table_actions.proofs.NextLaws.{action-end, action-broken, action-refused, action-kept, ActionFine, action-fine, fine-formed}
 use Rattle.table_lines.proofs.HeldLaws.{Whole, whole-read, broken-read, held-at}
 use Rattle.table_lines.specs.Block.{taken, stopped, turned}
 use Rattle.table_lines.specs.Line.{lineAt}
@@ -62,7 +62,7 @@ same-length-2 c = search needs
 returns-3 : tie.Need-returns-3
 returns-3 c = λ e a b d f l h.
     let w = line-read (c .before .before .before .before .before .before .before) in
-    rw (action-faulty _ _ _ _ _ _ l (c .before .before .before .before .before .before .before .before .before .before .before .before .before .if1 .left) (w .line-is) (sym (c .before .before .before .judge-action .ensures _ _ _ _ l (w .numbers) (h .cells) (w .held)) ∙ c .before .judgement .given .1)) turned
+    rw (action-refused _ _ _ _ _ _ l (c .before .before .before .before .before .before .before .before .before .before .before .before .before .if1 .left) (h .cells .formed) (w .line-is) (sym (c .before .before .before .judge-action .ensures _ _ _ _ l (w .numbers) (h .cells) (w .held)) ∙ c .before .judgement .given .1)) turned
 
 enum-told-2 : tie.Need-enum-told-2
 enum-told-2 c = search needs
@@ -106,7 +106,7 @@ returns-4 c = λ e a b d g l h.
     let n0 = sym (held-at (w .held) 0 (omega (arith, f .three)) (search needs)) in
     let n1 = sym (held-at (w .held) 1 (omega (arith, f .three)) (search needs)) in
     let n2 = sym (held-at (w .held) 2 (omega (arith, f .three)) (search needs)) in
-    rw (action-taken _ _ _ _ _ _ l (c .before .before .before .before .before .before .before .before .before .before .before .before .before .before .before .before .before .before .before .before .before .before .before .before .before .if1 .left) (w .line-is) j)
+    rw (action-kept _ _ _ _ _ _ l (c .before .before .before .before .before .before .before .before .before .before .before .before .before .before .before .before .before .before .before .before .before .before .before .before .before .if1 .left) (h .cells .formed) (w .line-is) j)
     (taken (action-more h _ _ _ _ _ _ _ (f .new) (fine-formed _ _ _ _ (p .1) (p .2) (p .3) (p .4) (w .numbers) f) (rw (n0, n1, n2) at (c .before .before .before .before .before .before .before .before .store-action .ensures))))
 
 pub read-action-spec : {M : Type 1} → statement M

@@ -1,7 +1,8 @@
 -- `table_entries::read_entry` meets its contract. Assumes nothing.
 use Rattle.table_lines.specs.Block.{taken, turned}
 use Rattle.table_entries.proofs.MemoryLaws.{memory-more}
-use Rattle.table_entries.proofs.NextLaws.{entry-broken, entry-faulty, entry-taken, EntryFine, entry-fine, fine-fits, fine-low}
+use Rattle.table_entries.proofs.NextLaws.{entry-broken, entry-refused, entry-kept, EntryFine, entry-fine, fine-fits, fine-low}
+use Rattle.table_entries.proofs.CapLaws.{rows-small}
 use Rattle.table_lines.proofs.HeldLaws.{Whole, whole-read, broken-read, held-count, held-at, numbers-take}
 use Rattle.table_lines.specs.Line.{lineAt}
 use lib.Seq.{sets}
@@ -58,7 +59,7 @@ same-length c = search needs
 returns-2 : tie.Need-returns-2
 returns-2 c = λ m a b l q h.
     let w = line-read (c .before .before .before .before .before .before) in
-    rw (entry-faulty _ _ _ _ _ l (w .line-is) (sym (c .before .before .before .judge-entry .ensures l (w .numbers) q (h .rows) (w .held)) ∙ c .before .judgement .given .1)) turned
+    rw (entry-refused _ _ _ _ _ l (rows-small (h .rows) (h .shaped)) (w .line-is) (sym (c .before .before .before .judge-entry .ensures l (w .numbers) q (h .rows) (w .held)) ∙ c .before .judgement .given .1)) turned
 
 enum-told-2 : tie.Need-enum-told-2
 enum-told-2 c = search needs
@@ -118,7 +119,7 @@ returns-3 c = λ m a b l q h.
     let fine = sym j ∙ c .before .before .before .before .before .before .before .before .before .before .before .before .before .enum-told2 .given .1 in
     let f = entry-fine _ _ _ l _ (w .numbers) fine in
     let first = sym (held-at (w .held) 0 (omega (arith, f .long)) (search needs)) in
-    rw (entry-taken _ _ _ _ _ l (w .line-is) fine)
+    rw (entry-kept _ _ _ _ _ l (rows-small (h .rows) (h .shaped)) (w .line-is) fine)
     (taken (memory-more h _ _ (fine-fits _ _ (p .0 .1) (p .0 .2) f) (omega (arith, p .1 .0, q))
     (c .before .before .before .before .before .before .before .before .before .before .store-row .ensures
     ∙ (ap (λ (z : List ℕ). sets (now (g .items)) ((g .rules + g .entries + 1) * 64) (entryRow (drop 1 z))) (numbers-take (w .held .numbers) (omega (arith, held-count (w .held), f .short)))

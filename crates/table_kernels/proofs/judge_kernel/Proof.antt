@@ -1,10 +1,10 @@
 -- `table_kernels::judge_kernel` meets its contract. Assumes nothing.
-use Rattle.table_lines.proofs.HeldLaws.{held-count, held-largest, held-at, held-rising, held-last}
-use Rattle.table_kernels.specs.Kernels.{judgeKernel}
+use Rattle.table_lines.proofs.HeldLaws.{held-count, held-largest, held-at, held-last}
 use Rattle.range.proofs.RangeLaws.{within-true}
 use lib.Dec.{leb}
+use mathlib.Core.Bool.{true, false}
 use borrow.Author.Tests.{le-leb, lt-leb, le-ltb, lt-ltb, not-true, not-false}
-use mathlib.Core.Path.{sym, ap, _∙_}
+use mathlib.Core.Path.{_≡_, sym, ap, _∙_}
 use Prim.Native.Nat.{_-_}
 use native.Mathlib.Omega.{arith}
 use lib.ListN.{length, getD}
@@ -12,13 +12,18 @@ use borrow.Author.Needs.{needs}
 use Rattle.table_kernels.proofs.judge_kernel.Statement.{statement}
 use Rattle.table_kernels.proofs.judge_kernel.Tie as tie
 
+-- the codes rise, or not
+rises : (c : tie.Else2) → c .before .before .before .before .before .before .args .p .rising ≡ true
+rises c = not-false _ (c .if2 .left)
+
+falls : (c : tie.Then2) → c .before .before .before .before .before .before .args .p .rising ≡ false
+falls c = not-true _ (c .if2 .taken)
+
 returns : tie.Need-returns
-unfolding judgeKernel
 returns c = λ l ns q m h. simp (lt-leb 4 (length ns) (omega (arith, held-count h, c .if1 .taken)))
 
 returns-2 : tie.Need-returns-2
-unfolding judgeKernel
-returns-2 c = λ l ns q m h. simp (le-leb 4 (length ns) (omega (arith, held-count h, c .before .if1 .left)), sym (held-rising h) ∙ not-true _ (c .if2 .taken))
+returns-2 c = λ l ns q m h. simp (le-leb 4 (length ns) (omega (arith, held-count h, c .before .if1 .left)), falls c)
 
 shared-slice-read-item : tie.Need-shared-slice-read-item
 shared-slice-read-item c = search needs
@@ -33,16 +38,13 @@ is-second-requires : tie.Need-is-second-requires
 is-second-requires c κs = search needs
 
 returns-3 : tie.Need-returns-3
-unfolding judgeKernel
-returns-3 c = λ l ns q m h. simp (held-at h 0 (omega (arith, held-count h, c .before .before .before .before .before .before .if1 .left)) (search needs), held-at h 1 (omega (arith, held-count h, c .before .before .before .before .before .before .if1 .left)) (search needs), held-at h 2 (omega (arith, held-count h, c .before .before .before .before .before .before .if1 .left)) (search needs), le-leb 4 (length ns) (omega (arith, held-count h, c .before .before .before .before .before .before .if1 .left)), sym (held-rising h) ∙ not-false _ (c .before .before .before .before .before .if2 .left), sym (c .before .is-second .ensures l m) ∙ c .if3 .taken)
+returns-3 c = λ l ns q m h. simp (held-at h 0 (omega (arith, held-count h, c .before .before .before .before .before .before .if1 .left)) (search needs), held-at h 1 (omega (arith, held-count h, c .before .before .before .before .before .before .if1 .left)) (search needs), held-at h 2 (omega (arith, held-count h, c .before .before .before .before .before .before .if1 .left)) (search needs), le-leb 4 (length ns) (omega (arith, held-count h, c .before .before .before .before .before .before .if1 .left)), rises (c .before .before .before .before .before), sym (c .before .is-second .ensures l m) ∙ c .if3 .taken)
 
 returns-4 : tie.Need-returns-4
-unfolding judgeKernel
-returns-4 c = λ l ns q m h. simp (held-at h 0 (omega (arith, held-count h, c .before .before .before .before .before .before .before .before .if1 .left)) (search needs), held-at h 1 (omega (arith, held-count h, c .before .before .before .before .before .before .before .before .if1 .left)) (search needs), held-at h 2 (omega (arith, held-count h, c .before .before .before .before .before .before .before .before .if1 .left)) (search needs), le-leb 4 (length ns) (omega (arith, held-count h, c .before .before .before .before .before .before .before .before .if1 .left)), sym (held-rising h) ∙ not-false _ (c .before .before .before .before .before .before .before .if2 .left), sym (c .before .before .before .is-second .ensures l m) ∙ c .before .before .if3 .left, sym (held-largest h 65535) ∙ lt-leb _ _ (c .if4 .taken))
+returns-4 c = λ l ns q m h. simp (held-at h 0 (omega (arith, held-count h, c .before .before .before .before .before .before .before .before .if1 .left)) (search needs), held-at h 1 (omega (arith, held-count h, c .before .before .before .before .before .before .before .before .if1 .left)) (search needs), held-at h 2 (omega (arith, held-count h, c .before .before .before .before .before .before .before .before .if1 .left)) (search needs), le-leb 4 (length ns) (omega (arith, held-count h, c .before .before .before .before .before .before .before .before .if1 .left)), rises (c .before .before .before .before .before .before .before), sym (c .before .before .before .is-second .ensures l m) ∙ c .before .before .if3 .left, sym (held-largest h 65535) ∙ lt-leb _ _ (c .if4 .taken))
 
 returns-5 : tie.Need-returns-5
-unfolding judgeKernel
-returns-5 c = λ l ns q m h. simp (held-at h 0 (omega (arith, held-count h, c .before .before .before .before .before .before .before .before .before .if1 .left)) (search needs), held-at h 1 (omega (arith, held-count h, c .before .before .before .before .before .before .before .before .before .if1 .left)) (search needs), held-at h 2 (omega (arith, held-count h, c .before .before .before .before .before .before .before .before .before .if1 .left)) (search needs), le-leb 4 (length ns) (omega (arith, held-count h, c .before .before .before .before .before .before .before .before .before .if1 .left)), sym (held-rising h) ∙ not-false _ (c .before .before .before .before .before .before .before .before .if2 .left), sym (c .before .before .before .before .is-second .ensures l m) ∙ c .before .before .before .if3 .left, sym (held-largest h 65535) ∙ le-leb _ _ (c .before .if4 .left), le-ltb (length l) 1023 (omega (arith, q, c .if5 .taken)))
+returns-5 c = λ l ns q m h. simp (held-at h 0 (omega (arith, held-count h, c .before .before .before .before .before .before .before .before .before .if1 .left)) (search needs), held-at h 1 (omega (arith, held-count h, c .before .before .before .before .before .before .before .before .before .if1 .left)) (search needs), held-at h 2 (omega (arith, held-count h, c .before .before .before .before .before .before .before .before .before .if1 .left)) (search needs), le-leb 4 (length ns) (omega (arith, held-count h, c .before .before .before .before .before .before .before .before .before .if1 .left)), rises (c .before .before .before .before .before .before .before .before), sym (c .before .before .before .before .is-second .ensures l m) ∙ c .before .before .before .if3 .left, sym (held-largest h 65535) ∙ le-leb _ _ (c .before .if4 .left), le-ltb (length l) 1023 (omega (arith, q, c .if5 .taken)))
 
 shared-slice-read-in-range : tie.Need-shared-slice-read-in-range
 shared-slice-read-in-range c = search needs
@@ -51,30 +53,25 @@ in-range-requires : tie.Need-in-range-requires
 in-range-requires c κs = search needs
 
 returns-6 : tie.Need-returns-6
-unfolding judgeKernel
-returns-6 c = λ l ns q m h. simp (held-at h 0 (omega (arith, held-count h, c .before .before .before .before .before .before .before .before .before .before .before .before .if1 .left)) (search needs), held-at h 1 (omega (arith, held-count h, c .before .before .before .before .before .before .before .before .before .before .before .before .if1 .left)) (search needs), held-at h 2 (omega (arith, held-count h, c .before .before .before .before .before .before .before .before .before .before .before .before .if1 .left)) (search needs), le-leb 4 (length ns) (omega (arith, held-count h, c .before .before .before .before .before .before .before .before .before .before .before .before .if1 .left)), sym (held-rising h) ∙ not-false _ (c .before .before .before .before .before .before .before .before .before .before .before .if2 .left), sym (c .before .before .before .before .before .before .before .is-second .ensures l m) ∙ c .before .before .before .before .before .before .if3 .left, sym (held-largest h 65535) ∙ le-leb _ _ (c .before .before .before .before .if4 .left), lt-ltb (length l) 1023 (omega (arith, q, c .before .before .before .if5 .left)), sym (c .before .in-range .ensures) ∙ not-true _ (c .if6 .taken))
+returns-6 c = λ l ns q m h. simp (held-at h 0 (omega (arith, held-count h, c .before .before .before .before .before .before .before .before .before .before .before .before .if1 .left)) (search needs), held-at h 1 (omega (arith, held-count h, c .before .before .before .before .before .before .before .before .before .before .before .before .if1 .left)) (search needs), held-at h 2 (omega (arith, held-count h, c .before .before .before .before .before .before .before .before .before .before .before .before .if1 .left)) (search needs), le-leb 4 (length ns) (omega (arith, held-count h, c .before .before .before .before .before .before .before .before .before .before .before .before .if1 .left)), rises (c .before .before .before .before .before .before .before .before .before .before .before), sym (c .before .before .before .before .before .before .before .is-second .ensures l m) ∙ c .before .before .before .before .before .before .if3 .left, sym (held-largest h 65535) ∙ le-leb _ _ (c .before .before .before .before .if4 .left), lt-ltb (length l) 1023 (omega (arith, q, c .before .before .before .if5 .left)), sym (c .before .in-range .ensures) ∙ not-true _ (c .if6 .taken))
 
 in-range-requires-2 : tie.Need-in-range-requires-2
 in-range-requires-2 c κs = search needs
 
 returns-7 : tie.Need-returns-7
-unfolding judgeKernel
-returns-7 c = λ l ns q m h. simp (held-at h 0 (omega (arith, held-count h, c .before .before .before .before .before .before .before .before .before .before .before .before .before .before .if1 .left)) (search needs), held-at h 1 (omega (arith, held-count h, c .before .before .before .before .before .before .before .before .before .before .before .before .before .before .if1 .left)) (search needs), held-at h 2 (omega (arith, held-count h, c .before .before .before .before .before .before .before .before .before .before .before .before .before .before .if1 .left)) (search needs), le-leb 4 (length ns) (omega (arith, held-count h, c .before .before .before .before .before .before .before .before .before .before .before .before .before .before .if1 .left)), sym (held-rising h) ∙ not-false _ (c .before .before .before .before .before .before .before .before .before .before .before .before .before .if2 .left), sym (c .before .before .before .before .before .before .before .before .before .is-second .ensures l m) ∙ c .before .before .before .before .before .before .before .before .if3 .left, sym (held-largest h 65535) ∙ le-leb _ _ (c .before .before .before .before .before .before .if4 .left), lt-ltb (length l) 1023 (omega (arith, q, c .before .before .before .before .before .if5 .left)), sym (c .before .before .before .in-range .ensures) ∙ not-false _ (c .before .before .if6 .left), sym (c .before .in-range2 .ensures) ∙ not-true _ (c .if7 .taken))
+returns-7 c = λ l ns q m h. simp (held-at h 0 (omega (arith, held-count h, c .before .before .before .before .before .before .before .before .before .before .before .before .before .before .if1 .left)) (search needs), held-at h 1 (omega (arith, held-count h, c .before .before .before .before .before .before .before .before .before .before .before .before .before .before .if1 .left)) (search needs), held-at h 2 (omega (arith, held-count h, c .before .before .before .before .before .before .before .before .before .before .before .before .before .before .if1 .left)) (search needs), le-leb 4 (length ns) (omega (arith, held-count h, c .before .before .before .before .before .before .before .before .before .before .before .before .before .before .if1 .left)), rises (c .before .before .before .before .before .before .before .before .before .before .before .before .before), sym (c .before .before .before .before .before .before .before .before .before .is-second .ensures l m) ∙ c .before .before .before .before .before .before .before .before .if3 .left, sym (held-largest h 65535) ∙ le-leb _ _ (c .before .before .before .before .before .before .if4 .left), lt-ltb (length l) 1023 (omega (arith, q, c .before .before .before .before .before .if5 .left)), sym (c .before .before .before .in-range .ensures) ∙ not-false _ (c .before .before .if6 .left), sym (c .before .in-range2 .ensures) ∙ not-true _ (c .if7 .taken))
 
 length-of-requires : tie.Need-length-of-requires
 length-of-requires c κs = (c .before .before .before .before .before .before .before .before .before .before .before .before .before .before .before .before .before .before .before .pre .1, omega (arith, within-true _ _ _ (sym (c .before .in-range2 .ensures) ∙ not-false _ (c .if7 .left))))
 
 returns-8 : tie.Need-returns-8
-unfolding judgeKernel
-returns-8 c = λ l ns q m h. simp (held-at h 0 (omega (arith, held-count h, c .before .before .before .before .before .before .before .before .before .before .before .before .before .before .before .before .if1 .left)) (search needs), held-at h 1 (omega (arith, held-count h, c .before .before .before .before .before .before .before .before .before .before .before .before .before .before .before .before .if1 .left)) (search needs), held-at h 2 (omega (arith, held-count h, c .before .before .before .before .before .before .before .before .before .before .before .before .before .before .before .before .if1 .left)) (search needs), le-leb 4 (length ns) (omega (arith, held-count h, c .before .before .before .before .before .before .before .before .before .before .before .before .before .before .before .before .if1 .left)), sym (held-rising h) ∙ not-false _ (c .before .before .before .before .before .before .before .before .before .before .before .before .before .before .before .if2 .left), sym (c .before .before .before .before .before .before .before .before .before .before .before .is-second .ensures l m) ∙ c .before .before .before .before .before .before .before .before .before .before .if3 .left, sym (held-largest h 65535) ∙ le-leb _ _ (c .before .before .before .before .before .before .before .before .if4 .left), lt-ltb (length l) 1023 (omega (arith, q, c .before .before .before .before .before .before .before .if5 .left)), sym (c .before .before .before .before .before .in-range .ensures) ∙ not-false _ (c .before .before .before .before .if6 .left), sym (c .before .before .before .in-range2 .ensures) ∙ not-false _ (c .before .before .if7 .left), ap (leb (getD (c .before .before .before .before .before .before .before .before .before .before .before .before .before .before .before .before .before .before .before .before .before .args .numbers .now) 2 0)) (sym (c .before .length-of .ensures .0)) ∙ lt-leb _ _ (c .if8 .taken))
+returns-8 c = λ l ns q m h. simp (held-at h 0 (omega (arith, held-count h, c .before .before .before .before .before .before .before .before .before .before .before .before .before .before .before .before .if1 .left)) (search needs), held-at h 1 (omega (arith, held-count h, c .before .before .before .before .before .before .before .before .before .before .before .before .before .before .before .before .if1 .left)) (search needs), held-at h 2 (omega (arith, held-count h, c .before .before .before .before .before .before .before .before .before .before .before .before .before .before .before .before .if1 .left)) (search needs), le-leb 4 (length ns) (omega (arith, held-count h, c .before .before .before .before .before .before .before .before .before .before .before .before .before .before .before .before .if1 .left)), rises (c .before .before .before .before .before .before .before .before .before .before .before .before .before .before .before), sym (c .before .before .before .before .before .before .before .before .before .before .before .is-second .ensures l m) ∙ c .before .before .before .before .before .before .before .before .before .before .if3 .left, sym (held-largest h 65535) ∙ le-leb _ _ (c .before .before .before .before .before .before .before .before .if4 .left), lt-ltb (length l) 1023 (omega (arith, q, c .before .before .before .before .before .before .before .if5 .left)), sym (c .before .before .before .before .before .in-range .ensures) ∙ not-false _ (c .before .before .before .before .if6 .left), sym (c .before .before .before .in-range2 .ensures) ∙ not-false _ (c .before .before .if7 .left), ap (leb (getD (c .before .before .before .before .before .before .before .before .before .before .before .before .before .before .before .before .before .before .before .before .before .args .numbers .now) 2 0)) (sym (c .before .length-of .ensures .0)) ∙ lt-leb _ _ (c .if8 .taken))
 
 returns-9 : tie.Need-returns-9
-unfolding judgeKernel
-returns-9 c = λ l ns q m h. simp (held-at h 0 (omega (arith, held-count h, c .before .before .before .before .before .before .before .before .before .before .before .before .before .before .before .before .before .before .if1 .left)) (search needs), held-at h 1 (omega (arith, held-count h, c .before .before .before .before .before .before .before .before .before .before .before .before .before .before .before .before .before .before .if1 .left)) (search needs), held-at h 2 (omega (arith, held-count h, c .before .before .before .before .before .before .before .before .before .before .before .before .before .before .before .before .before .before .if1 .left)) (search needs), le-leb 4 (length ns) (omega (arith, held-count h, c .before .before .before .before .before .before .before .before .before .before .before .before .before .before .before .before .before .before .if1 .left)), sym (held-rising h) ∙ not-false _ (c .before .before .before .before .before .before .before .before .before .before .before .before .before .before .before .before .before .if2 .left), sym (c .before .before .before .before .before .before .before .before .before .before .before .before .before .is-second .ensures l m) ∙ c .before .before .before .before .before .before .before .before .before .before .before .before .if3 .left, sym (held-largest h 65535) ∙ le-leb _ _ (c .before .before .before .before .before .before .before .before .before .before .if4 .left), lt-ltb (length l) 1023 (omega (arith, q, c .before .before .before .before .before .before .before .before .before .if5 .left)), sym (c .before .before .before .before .before .before .before .in-range .ensures) ∙ not-false _ (c .before .before .before .before .before .before .if6 .left), sym (c .before .before .before .before .before .in-range2 .ensures) ∙ not-false _ (c .before .before .before .before .if7 .left), ap (leb (getD (c .before .before .before .before .before .before .before .before .before .before .before .before .before .before .before .before .before .before .before .before .before .before .before .args .numbers .now) 2 0)) (sym (c .before .before .before .length-of .ensures .0)) ∙ le-leb _ _ (c .before .before .if8 .left), sym (held-last h (omega (arith, held-count h, c .before .before .before .before .before .before .before .before .before .before .before .before .before .before .before .before .before .before .if1 .left)) (sym (held-rising h) ∙ not-false _ (c .before .before .before .before .before .before .before .before .before .before .before .before .before .before .before .before .before .if2 .left)) (sym (held-largest h 65535) ∙ le-leb _ _ (c .before .before .before .before .before .before .before .before .before .before .if4 .left)) _) ∙ lt-leb _ _ (c .if9 .taken))
+returns-9 c = λ l ns q m h. simp (held-at h 0 (omega (arith, held-count h, c .before .before .before .before .before .before .before .before .before .before .before .before .before .before .before .before .before .before .if1 .left)) (search needs), held-at h 1 (omega (arith, held-count h, c .before .before .before .before .before .before .before .before .before .before .before .before .before .before .before .before .before .before .if1 .left)) (search needs), held-at h 2 (omega (arith, held-count h, c .before .before .before .before .before .before .before .before .before .before .before .before .before .before .before .before .before .before .if1 .left)) (search needs), le-leb 4 (length ns) (omega (arith, held-count h, c .before .before .before .before .before .before .before .before .before .before .before .before .before .before .before .before .before .before .if1 .left)), rises (c .before .before .before .before .before .before .before .before .before .before .before .before .before .before .before .before .before), sym (c .before .before .before .before .before .before .before .before .before .before .before .before .before .is-second .ensures l m) ∙ c .before .before .before .before .before .before .before .before .before .before .before .before .if3 .left, sym (held-largest h 65535) ∙ le-leb _ _ (c .before .before .before .before .before .before .before .before .before .before .if4 .left), lt-ltb (length l) 1023 (omega (arith, q, c .before .before .before .before .before .before .before .before .before .if5 .left)), sym (c .before .before .before .before .before .before .before .in-range .ensures) ∙ not-false _ (c .before .before .before .before .before .before .if6 .left), sym (c .before .before .before .before .before .in-range2 .ensures) ∙ not-false _ (c .before .before .before .before .if7 .left), ap (leb (getD (c .before .before .before .before .before .before .before .before .before .before .before .before .before .before .before .before .before .before .before .before .before .before .before .args .numbers .now) 2 0)) (sym (c .before .before .before .length-of .ensures .0)) ∙ le-leb _ _ (c .before .before .if8 .left), sym (held-last h (omega (arith, held-count h, c .before .before .before .before .before .before .before .before .before .before .before .before .before .before .before .before .before .before .if1 .left)) (rises (c .before .before .before .before .before .before .before .before .before .before .before .before .before .before .before .before .before)) (sym (held-largest h 65535) ∙ le-leb _ _ (c .before .before .before .before .before .before .before .before .before .before .if4 .left)) _) ∙ lt-leb _ _ (c .if9 .taken))
 
 returns-10 : tie.Need-returns-10
-unfolding judgeKernel
-returns-10 c = λ l ns q m h. simp (held-at h 0 (omega (arith, held-count h, c .before .before .before .before .before .before .before .before .before .before .before .before .before .before .before .before .before .before .if1 .left)) (search needs), held-at h 1 (omega (arith, held-count h, c .before .before .before .before .before .before .before .before .before .before .before .before .before .before .before .before .before .before .if1 .left)) (search needs), held-at h 2 (omega (arith, held-count h, c .before .before .before .before .before .before .before .before .before .before .before .before .before .before .before .before .before .before .if1 .left)) (search needs), le-leb 4 (length ns) (omega (arith, held-count h, c .before .before .before .before .before .before .before .before .before .before .before .before .before .before .before .before .before .before .if1 .left)), sym (held-rising h) ∙ not-false _ (c .before .before .before .before .before .before .before .before .before .before .before .before .before .before .before .before .before .if2 .left), sym (c .before .before .before .before .before .before .before .before .before .before .before .before .before .is-second .ensures l m) ∙ c .before .before .before .before .before .before .before .before .before .before .before .before .if3 .left, sym (held-largest h 65535) ∙ le-leb _ _ (c .before .before .before .before .before .before .before .before .before .before .if4 .left), lt-ltb (length l) 1023 (omega (arith, q, c .before .before .before .before .before .before .before .before .before .if5 .left)), sym (c .before .before .before .before .before .before .before .in-range .ensures) ∙ not-false _ (c .before .before .before .before .before .before .if6 .left), sym (c .before .before .before .before .before .in-range2 .ensures) ∙ not-false _ (c .before .before .before .before .if7 .left), ap (leb (getD (c .before .before .before .before .before .before .before .before .before .before .before .before .before .before .before .before .before .before .before .before .before .before .before .args .numbers .now) 2 0)) (sym (c .before .before .before .length-of .ensures .0)) ∙ le-leb _ _ (c .before .before .if8 .left), sym (held-last h (omega (arith, held-count h, c .before .before .before .before .before .before .before .before .before .before .before .before .before .before .before .before .before .before .if1 .left)) (sym (held-rising h) ∙ not-false _ (c .before .before .before .before .before .before .before .before .before .before .before .before .before .before .before .before .before .if2 .left)) (sym (held-largest h 65535) ∙ le-leb _ _ (c .before .before .before .before .before .before .before .before .before .before .if4 .left)) _) ∙ le-leb _ _ (c .if9 .left))
+returns-10 c = λ l ns q m h. simp (held-at h 0 (omega (arith, held-count h, c .before .before .before .before .before .before .before .before .before .before .before .before .before .before .before .before .before .before .if1 .left)) (search needs), held-at h 1 (omega (arith, held-count h, c .before .before .before .before .before .before .before .before .before .before .before .before .before .before .before .before .before .before .if1 .left)) (search needs), held-at h 2 (omega (arith, held-count h, c .before .before .before .before .before .before .before .before .before .before .before .before .before .before .before .before .before .before .if1 .left)) (search needs), le-leb 4 (length ns) (omega (arith, held-count h, c .before .before .before .before .before .before .before .before .before .before .before .before .before .before .before .before .before .before .if1 .left)), rises (c .before .before .before .before .before .before .before .before .before .before .before .before .before .before .before .before .before), sym (c .before .before .before .before .before .before .before .before .before .before .before .before .before .is-second .ensures l m) ∙ c .before .before .before .before .before .before .before .before .before .before .before .before .if3 .left, sym (held-largest h 65535) ∙ le-leb _ _ (c .before .before .before .before .before .before .before .before .before .before .if4 .left), lt-ltb (length l) 1023 (omega (arith, q, c .before .before .before .before .before .before .before .before .before .if5 .left)), sym (c .before .before .before .before .before .before .before .in-range .ensures) ∙ not-false _ (c .before .before .before .before .before .before .if6 .left), sym (c .before .before .before .before .before .in-range2 .ensures) ∙ not-false _ (c .before .before .before .before .if7 .left), ap (leb (getD (c .before .before .before .before .before .before .before .before .before .before .before .before .before .before .before .before .before .before .before .before .before .before .before .args .numbers .now) 2 0)) (sym (c .before .before .before .length-of .ensures .0)) ∙ le-leb _ _ (c .before .before .if8 .left), sym (held-last h (omega (arith, held-count h, c .before .before .before .before .before .before .before .before .before .before .before .before .before .before .before .before .before .before .if1 .left)) (rises (c .before .before .before .before .before .before .before .before .before .before .before .before .before .before .before .before .before)) (sym (held-largest h 65535) ∙ le-leb _ _ (c .before .before .before .before .before .before .before .before .before .before .if4 .left)) _) ∙ le-leb _ _ (c .if9 .left))
 
 pub judge-kernel-spec : {M : Type 1} → statement M
 judge-kernel-spec =

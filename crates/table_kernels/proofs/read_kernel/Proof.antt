@@ -1,5 +1,5 @@
 -- `table_kernels::read_kernel` meets its contract. Assumes nothing.
-use Rattle.table_kernels.proofs.NextLaws.{code-low, none-comes, kernel-broken, kernel-other, kernel-faulty, kernel-taken, KernelFine, kernel-fine, at-most, fine-short}
+use Rattle.table_kernels.proofs.NextLaws.{code-low, none-comes, kernel-broken, kernel-other, kernel-refused, kernel-kept, KernelFine, with-fine, at-most, fine-short}
 use Rattle.table_kernels.proofs.MemoryLaws.{kernel-more, figures-by, mark-by, flags-by}
 use Rattle.table_lines.proofs.HeldLaws.{Whole, whole-read, broken-read, held-count, held-at, numbers-take}
 use Rattle.table_lines.specs.Block.{taken, turned}
@@ -25,7 +25,7 @@ fine-at : (c : tie.After-enum-told2) → let a = c .before .before .before .befo
     KernelFine (a .t) (a .states) (a .items) (lengthAt (now (a .m))) (c .before .before .before .before .before .before .before .before .before .before .before .before .before .before .before .before .before .pre .1 .1 .lines) (line-read (c .before .before .before .before .before .before) .numbers)
 fine-at c = let k = c .before .before .before .before .before .before .before .before .before .before .before .before .before .before .before .before .before .pre .1 .1 in
     let w = line-read (c .before .before .before .before .before .before) in
-    kernel-fine _ _ _ _ (k .lines) (w .numbers) (sym (c .before .before .judge-kernel .ensures (k .lines) (w .numbers) (k .count-is) (k .marked) (w .held)) ∙ c .enum-told2 .given .1)
+    with-fine _ _ _ _ _ (k .lines) (w .numbers) (sym (c .before .before .judge-kernel .ensures (k .lines) (w .numbers) (k .count-is) (k .marked) (w .held)) ∙ c .enum-told2 .given .1) (w .held .rises)
 
 -- so its figures are small
 low-at : (c : tie.After-enum-told2) → let m = c .before .before .before .before .before .before .before .before .before .before .read-line .last .1 .1 .0 in
@@ -61,7 +61,9 @@ no-kernel-requires-2 : tie.Need-no-kernel-requires-2
 no-kernel-requires-2 c κs = search needs
 
 returns-2 : tie.Need-returns-2
-returns-2 c = λ a b l q h. rw (kernel-other _ _ _ _ _ _ l (line-read (c .before .before) .line-is) (c .before .if1 .taken)) (none-comes _ l _ (c .no-kernel2 .ensures l q) h)
+returns-2 c = λ a b l q h.
+    let w = line-read (c .before .before) in
+    rw (kernel-other _ _ _ _ _ _ l (h .marked .low) (w .line-is) (w .rises) (c .before .if1 .taken)) (none-comes _ l _ (c .no-kernel2 .ensures l q) h)
 
 slice-aggregate-judge-kernel : tie.Need-slice-aggregate-judge-kernel
 slice-aggregate-judge-kernel c = search needs
@@ -78,7 +80,7 @@ same-length c = search needs
 returns-3 : tie.Need-returns-3
 returns-3 c = λ a b l q h.
     let w = line-read (c .before .before .before .before .before .before .before) in
-    rw (kernel-faulty _ _ _ _ _ _ l (w .line-is) (c .before .before .before .before .before .before .if1 .left) (sym (c .before .before .before .judge-kernel .ensures l (w .numbers) q (h .marked) (w .held)) ∙ c .before .judgement .given .1)) turned
+    rw (kernel-refused _ _ _ _ _ _ l (h .marked .low) (w .line-is) (w .rises) (c .before .before .before .before .before .before .if1 .left) (sym (c .before .before .before .judge-kernel .ensures l (w .numbers) q (h .marked) (w .held)) ∙ c .before .judgement .given .1)) turned
 
 enum-told-2 : tie.Need-enum-told-2
 enum-told-2 c = search needs
@@ -139,11 +141,11 @@ returns-4 c = λ a b l q h.
     let p = c .before .before .before .before .before .before .before .before .before .before .before .before .before .before .before .before .before .before .before .before .before .before .before .before .before .before .before .before .before .before .pre in
     let g = c .before .before .before .before .before .before .before .before .before .before .before .before .before .before .before .before .before .before .before .before .before .before .before .before .before .before .before .before .before .before .args in
     let j = sym (c .before .before .before .before .before .before .before .before .before .before .before .before .before .before .before .judge-kernel .ensures l (w .numbers) q (h .marked) (w .held)) ∙ c .before .before .before .before .before .before .before .before .before .before .before .before .before .enum-told2 .given .1 in
-    let f = kernel-fine _ _ _ _ l (w .numbers) j in
+    let f = with-fine _ (g .t) (g .states) (g .items) (lengthAt (now (g .m))) l (w .numbers) j (w .held .rises) in
     let n0 = sym (held-at (w .held) 0 (omega (arith, f .long)) (search needs)) in
     let n1 = sym (held-at (w .held) 1 (omega (arith, f .long)) (search needs)) in
     let n2 = sym (held-at (w .held) 2 (omega (arith, f .long)) (search needs)) in
-    rw (kernel-taken _ _ _ _ _ _ l (w .line-is) (c .before .before .before .before .before .before .before .before .before .before .before .before .before .before .before .before .before .before .if1 .left) j)
+    rw (kernel-kept _ _ _ _ _ _ l (h .marked .low) (w .line-is) (w .rises) (c .before .before .before .before .before .before .before .before .before .before .before .before .before .before .before .before .before .before .if1 .left) j)
     (taken (kernel-more h _ _ _ (drop 3 (w .numbers)) (omega (arith, f .state-in .1, p .0 .2)) (omega (arith, f .item-in .1, p .0 .3)) (omega (arith, f .dot-in, p .1 .0 .lengths _ (f .item-in .1)))
     (λ k. omega (arith, at-most _ (drop 3 (w .numbers)) (f .codes-in) k, p .0 .1))
     (c .before .before .before .before .before .before .before .before .before .before .before .store-figures .ensures ∙ figures-by (now (g .kernels)) (sym q) n0 n1 n2)

@@ -1,7 +1,11 @@
 -- `table_lines::keeps_rising` meets its contract. Assumes nothing.
+use mathlib.Core.Path.{sym, _∙_}
+use native.Mathlib.Omega.{arith}
+use borrow.Author.Needs.{needs}
+use borrow.Author.Tests.{le-ltb, lt-ltb, not-true, not-false}
+use denote.Ref.{now}
+use Rattle.digits.specs.Exact.{exactAt}
 use Rattle.table_lines.specs.Tally.{keepsRising}
-use borrow.Author.Tests.{le-ltb, lt-ltb}
-use Prim.Native.Nat.{_-_}
 use Rattle.table_lines.proofs.keeps_rising.Statement.{statement}
 use Rattle.table_lines.proofs.keeps_rising.Tie as tie
 
@@ -11,15 +15,34 @@ returns c = simp (lt-ltb _ _ (c .if1 .taken))
 
 returns-2 : tie.Need-returns-2
 unfolding keepsRising
-returns-2 c = simp (le-ltb _ _ (c .before .if1 .left), lt-ltb _ _ (c .if2 .taken))
+returns-2 c =
+    let a = c .before .before .before .before .before .args in
+    let p = c .before .before .before .before .before .pre in
+    simp (
+      le-ltb _ _ (c .before .before .if1 .left),
+      lt-ltb (exactAt (now (a .s)) (a .prior)) (exactAt (now (a .s)) (a .at)) (omega (arith, p .0 (c .before .before .if1 .left), p .1, c .if2 .taken)),
+    )
 
 returns-3 : tie.Need-returns-3
 unfolding keepsRising
-returns-3 c = simp (le-ltb _ _ (c .before .before .before .if1 .left), le-ltb _ _ (c .before .before .if2 .left), le-ltb _ _ (c .if3 .taken))
+returns-3 c =
+    let a = c .before .before .before .before .before .before .args in
+    let p = c .before .before .before .before .before .before .pre in
+    simp (
+      le-ltb _ _ (c .before .before .before .if1 .left),
+      le-ltb (exactAt (now (a .s)) (a .prior)) (exactAt (now (a .s)) (a .at)) (omega (arith, p .0 (c .before .before .before .if1 .left), p .1, c .before .if2 .left, c .if3 .taken)),
+    )
+
+is-below-requires : tie.Need-is-below-requires
+is-below-requires c κs = search needs
 
 returns-4 : tie.Need-returns-4
 unfolding keepsRising
-returns-4 c = simp (le-ltb _ _ (c .before .before .before .if1 .left), le-ltb _ _ (c .before .before .if2 .left), lt-ltb _ _ (c .if3 .left))
+returns-4 c = simp (le-ltb _ _ (c .before .before .before .before .before .if1 .left), sym (c .before .is-below .ensures) ∙ not-true _ (c .if4 .taken))
+
+returns-5 : tie.Need-returns-5
+unfolding keepsRising
+returns-5 c = simp (le-ltb _ _ (c .before .before .before .before .before .if1 .left), sym (c .before .is-below .ensures) ∙ not-false _ (c .if4 .left))
 
 pub keeps-rising-spec : {M : Type 1} → statement M
-keeps-rising-spec = tie.close (tie.spec returns returns-2 returns-3 returns-4)
+keeps-rising-spec = tie.close (tie.spec returns returns-2 returns-3 is-below-requires returns-4 returns-5)

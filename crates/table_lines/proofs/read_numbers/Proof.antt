@@ -1,8 +1,9 @@
 -- `table_lines::read_numbers` meets its contract. Assumes nothing.
 use mathlib.Core.List.{[]}
 use Rattle.text.proofs.ElseLaws.{else-number}
+use Rattle.digits.proofs.CapLaws.{field-exact}
 use Rattle.table_lines.proofs.TallyLaws.{tally-none, count-add}
-use Rattle.table_lines.proofs.LineLaws.{Going, going-start, going-none, going-over, going-broken, going-on}
+use Rattle.table_lines.proofs.LineLaws.{Going, going-start, going-last, going-none, going-over, going-broken, going-on}
 use Rattle.table_lines.specs.declared.Tally.{Tally}
 use Rattle.table_lines.specs.Line.{TextLine, numbersFrom}
 use mathlib.Core.Path.{_≡_, sym, ap, _∙_}
@@ -14,14 +15,14 @@ use Rattle.table_lines.proofs.read_numbers.Statement.{statement}
 use Rattle.table_lines.proofs.read_numbers.Tie as tie
 
 abbrev Inv-loop : tie.InvT-loop
-Inv-loop s letter numbers₀ c₀ p₀ left₀ numbers c p left =
-    (length numbers ≡ length numbers₀) × (p .count + left ≤ length s) × Going (numbersFrom left₀ s letter c₀ []) s letter numbers₀ left c p numbers
+Inv-loop s letter numbers₀ c₀ prior₀ p₀ left₀ numbers c prior p left =
+    (length numbers ≡ length numbers₀) × (p .count + left ≤ length s) × Going (numbersFrom left₀ s letter c₀ []) s letter numbers₀ left c prior p numbers
 
 abbrev μ-loop : tie.MeasureT-loop
-μ-loop s letter numbers₀ c₀ p₀ left₀ numbers c p left = left
+μ-loop s letter numbers₀ c₀ prior₀ p₀ left₀ numbers c prior p left = left
 
 loop-holds : tie.Need-loop-holds Inv-loop μ-loop
-loop-holds c = (search needs, search needs, going-start _ _ _ _ _ _ tally-none)
+loop-holds c = (search needs, search needs, going-start _ _ _ _ _ _ _ tally-none)
 
 same-length : tie.Need-same-length Inv-loop μ-loop
 same-length c = search needs
@@ -47,6 +48,10 @@ returns-2 c = let k = c .before .before in going-broken (k .before .before .loop
 store-number-requires : tie.Need-store-number-requires Inv-loop μ-loop
 store-number-requires c κs = search needs
 
+keeps-rising-requires : tie.Need-keeps-rising-requires Inv-loop μ-loop
+keeps-rising-requires c κs = let r = c .before .before .before .before .before .before .before in
+    (going-last (r .before .before .before .loop .inv .2), field-exact _ _ (sym (r .read-field .ensures) ∙ c .before .before .before .before .before .v .given .1))
+
 add-number-requires : tie.Need-add-number-requires Inv-loop μ-loop
 add-number-requires c κs = search needs
 
@@ -54,11 +59,13 @@ loop-less : tie.Need-loop-less Inv-loop μ-loop
 loop-less c = search needs
 
 loop-again : tie.Need-loop-again Inv-loop μ-loop
-loop-again c = let r = c .before .before .before .before .before .before .before .before in
-    let l = r .before .before .before .loop in (
+loop-again c = let r = c .before .before .before .before .before .before .before .before .before in
+    let l = r .before .before .before .loop in
+    let v = c .before .before .before .before .before .before .before .v .given in (
       search needs,
-      omega (arith, ap (λ (q : Tally). q .count) (c .add-number .ensures), count-add (l .p) (c .before .before .before .before .before .before .v .given .0 .0)),
-      going-on (l .inv .2) (r .before .before .loop-test .taken) (r .before .if1 .left) (sym (r .read-field .ensures) ∙ c .before .before .before .before .before .before .v .given .1) (c .add-number .ensures) (c .before .before .before .store-number .ensures),
+      omega (arith, ap (λ (q : Tally). q .count) (c .add-number .ensures), count-add (l .p) (v .0 .0) (c .before .keeps-rising .result)),
+      going-on (l .inv .2) (r .before .before .loop-test .taken) (r .before .if1 .left) (sym (r .read-field .ensures) ∙ v .1) (c .before .keeps-rising .ensures) (c .add-number .ensures)
+          (c .before .before .before .before .store-number .ensures),
     )
 
 same-length-3 : tie.Need-same-length-3 Inv-loop μ-loop
@@ -82,6 +89,7 @@ read-numbers-spec =
     same-length-2
     returns-2
     store-number-requires
+    keeps-rising-requires
     add-number-requires
     loop-less
     loop-again

@@ -1,0 +1,107 @@
+-- How a number goes on at the next byte.
+use Prim.Native.Nat.{ℕ, _+_, _-_, _*_, _≤_, _<_}
+use mathlib.Core.Path.{_≡_, refl, sym, ap, _∙_}
+use mathlib.Core.List.{List, [], _∷_}
+use mathlib.Core.Bool.{Bool, true, false, cond, _||_}
+use native.Mathlib.Decide.{decLt}
+use native.Mathlib.Omega.{arith}
+use lib.Dec.{eqb}
+use lib.ListN.{length, getD, drop}
+use Rattle.range.specs.Range.{within}
+use Rattle.range.proofs.RangeLaws.{false-within}
+use Rattle.text.specs.declared.Class.{Class}
+use Rattle.text.specs.declared.Class.the-variants as class
+use Rattle.text.specs.Field.{classOf, onDigit}
+use Rattle.text.proofs.Bytes.{here, past}
+use Rattle.text.proofs.ClassLaws.{class-digit}
+use Rattle.digits.specs.Exact.{exactFrom, exactAt}
+use Rattle.digits.specs.Compare.{digitOf, digitAt, Leads}
+
+no-digit : (b : ℕ) → (48 ≤ b → b ≤ 57 → ⊥) → {A : Type 0} (x y : A) → onDigit (classOf b) x y ≡ y
+unfolding classOf
+no-digit b f x y = rw (false-within 48 b 57 f) (go (within 65 b 90) (eqb b 47 || eqb b 94))
+  where
+    go : (t u : Bool) → onDigit (cond t class.Letter (cond u class.Mark class.Other)) x y ≡ y
+    go true u = refl
+    go false true = refl
+    go false false = refl
+
+digit-high : (b : ℕ) → classOf b ≡ class.Digit → b ≤ 57
+digit-high b e = go (decLt 57 b)
+  where
+    go : Dec (57 < b) → b ≤ 57
+    go (yes h) = absurd (omega (arith, sym (ap (λ (k : Class). onDigit {A = ℕ} k 0 1) e) ∙ no-digit b (λ p q. omega arith) {A = ℕ} 0 1))
+    go (no f) = omega arith
+
+-- a number only grows
+pub exact-grows : (l : List ℕ) (v : ℕ) → v ≤ exactFrom v l
+unfolding exactFrom
+exact-grows [] v = omega arith
+exact-grows (b ∷ l) v = go (classOf b) (exact-grows l (v * 10 + (b - 48)))
+  where
+    go : (k : Class) → v * 10 + (b - 48) ≤ exactFrom (v * 10 + (b - 48)) l → v ≤ onDigit k (exactFrom (v * 10 + (b - 48)) l) v
+    go class.Digit h = omega (arith, h)
+    go class.Letter h = omega arith
+    go class.Mark h = omega arith
+    go class.Other h = omega arith
+
+module _ (s : List ℕ) (i : ℕ) where
+  pub digit-past : length s ≤ i → digitAt s i ≡ 10
+  unfolding digitAt
+  digit-past h = simp (past s i h)
+
+  module _ (h : i < length s) where
+    pub digit-none : (48 ≤ getD s i 0 → getD s i 0 ≤ 57 → ⊥) → digitAt s i ≡ 10
+    unfolding digitAt
+    digit-none f = rw (here s i h) (no-digit (getD s i 0) f (getD s i 0 - 48) 10)
+
+    pub digit-here : 48 ≤ getD s i 0 → getD s i 0 ≤ 57 → digitAt s i ≡ getD s i 0 - 48
+    unfolding digitAt
+    digit-here a b = simp (here s i h, class-digit (getD s i 0) a b)
+
+  -- a digit stands in the book
+  digit-inside : digitAt s i < 10 → i < length s
+  digit-inside d = go (decLt i (length s))
+    where
+      go : Dec (i < length s) → i < length s
+      go (yes h) = h
+      go (no f) = absurd (omega (arith, d, digit-past (omega arith)))
+
+  pub digit-in : {d : ℕ} → d ≡ digitAt s i → d ≤ 9 → i < length s
+  digit-in e h = digit-inside (omega (arith, e, h))
+
+  pub exact-more : (v : ℕ) → digitAt s i < 10 → exactFrom v (drop i s) ≡ exactFrom (v * 10 + digitAt s i) (drop (i + 1) s)
+  unfolding exactFrom digitAt
+  exact-more v d = let e = here s i (digit-inside d) in rw e (go (classOf (getD s i 0)) (rw e at d))
+    where
+      go : (k : Class) → onDigit k (getD s i 0 - 48) 10 < 10
+          → onDigit k (exactFrom (v * 10 + (getD s i 0 - 48)) (drop (i + 1) s)) v ≡ exactFrom (v * 10 + onDigit k (getD s i 0 - 48) 10) (drop (i + 1) s)
+      go class.Digit d = refl
+      go class.Letter d = absurd (omega arith)
+      go class.Mark d = absurd (omega arith)
+      go class.Other d = absurd (omega arith)
+
+  pub exact-ended : (v : ℕ) → 10 ≤ digitAt s i → exactFrom v (drop i s) ≡ v
+  unfolding exactFrom digitAt
+  exact-ended v d = go (drop i s) d
+    where
+      go : (l : List ℕ) → 10 ≤ digitOf l → exactFrom v l ≡ v
+      go [] d = refl
+      go (b ∷ l) d = by (classOf b) refl d
+        where
+          by : (k : Class) → classOf b ≡ k → 10 ≤ onDigit k (b - 48) 10 → onDigit k (exactFrom (v * 10 + (b - 48)) l) v ≡ v
+          by class.Digit e d = absurd (omega (arith, d, digit-high b e))
+          by class.Letter e d = refl
+          by class.Mark e d = refl
+          by class.Other e d = refl
+
+-- ---- leading zeros
+pub leads-on : (s : List ℕ) (i : ℕ) → digitAt s i ≡ 0 → exactAt s i ≡ exactAt s (i + 1)
+unfolding exactAt
+leads-on s i e = let z : 0 * 10 + digitAt s i ≡ 0 = omega (arith, e) in exact-more s i 0 (omega (arith, e)) ∙ ap (λ (d : ℕ). exactFrom d (drop (i + 1) s)) z
+
+pub leads-here : {s : List ℕ} {at i d : ℕ} → exactAt s at ≡ exactAt s i → d ≡ digitAt s i → (d ≡ 0 → ⊥) → Leads s at i
+leads-here {s} {at} {i} e q f = record { same = e; first = omega (arith, q, f) }
+
+pub leads-past : {s : List ℕ} {at i : ℕ} → exactAt s at ≡ exactAt s i → length s ≤ i → Leads s at i
+leads-past {s} {at} {i} e h = record { same = e; first = omega (arith, digit-past s i h) }

@@ -1,0 +1,85 @@
+-- `digits::is_below` meets its contract. Assumes nothing.
+use mathlib.Core.Path.{_≡_, sym, _∙_}
+use Prim.Native.Nat.{_-_, _<_}
+use native.Mathlib.Omega.{arith}
+use borrow.Author.Needs.{needs}
+use denote.Ref.{now}
+use lib.ListN.{length}
+use Rattle.digits.proofs.ExactLaws.{digit-in}
+use Rattle.digits.proofs.OrderLaws.{Met, met-start, met-more, met-longer, met-ended}
+use Rattle.digits.proofs.is_below.Statement.{statement}
+use Rattle.digits.proofs.is_below.Tie as tie
+
+abbrev Inv-loop : tie.InvT-loop
+Inv-loop s a b i₀ j₀ o₀ i j o = Met s a b i j o
+
+abbrev μ-loop : tie.MeasureT-loop
+μ-loop s a b i₀ j₀ o₀ i j o = length s - i
+
+-- both digits stand in the book
+inside : (c : tie.After-order-with Inv-loop μ-loop) → let n = length (now (c .before .before .before .before .before .before .before .before .before .args .s)) in (c .before .before .before .before .before .loop .i < n) × (c .before .before .before .before .before .loop .j < n)
+inside c = (
+  digit-in _ _ (c .before .before .before .before .digit-at .ensures) (c .before .before .if1 .left),
+  digit-in _ _ (c .before .before .before .digit-at2 .ensures) (c .before .if2 .left),
+)
+
+skip-zeros-requires : tie.Need-skip-zeros-requires Inv-loop μ-loop
+skip-zeros-requires c κs = search needs
+
+skip-zeros-requires-2 : tie.Need-skip-zeros-requires-2 Inv-loop μ-loop
+skip-zeros-requires-2 c κs = search needs
+
+loop-holds : tie.Need-loop-holds Inv-loop μ-loop
+loop-holds c = met-start (c .before .skip-zeros .ensures) (c .skip-zeros2 .ensures)
+
+digit-at-requires : tie.Need-digit-at-requires Inv-loop μ-loop
+digit-at-requires c κs = search needs
+
+digit-at-requires-2 : tie.Need-digit-at-requires-2 Inv-loop μ-loop
+digit-at-requires-2 c κs = search needs
+
+ends-below-requires : tie.Need-ends-below-requires Inv-loop μ-loop
+ends-below-requires c κs = search needs
+
+returns : tie.Need-returns Inv-loop μ-loop
+returns c = c .ends-below .ensures ∙ met-ended (c .before .before .before .before .loop .inv) (c .before .before .before .digit-at .ensures) (c .before .before .digit-at2 .ensures) (c .before .if1 .taken)
+
+returns-2 : tie.Need-returns-2 Inv-loop μ-loop
+returns-2 c = met-longer (c .before .before .before .before .loop .inv) (c .before .before .before .digit-at .ensures) (c .before .before .digit-at2 .ensures) (c .before .if1 .left) (c .if2 .taken)
+
+order-with-requires : tie.Need-order-with-requires Inv-loop μ-loop
+order-with-requires c κs = search needs
+
+add-i : tie.Need-add-i Inv-loop μ-loop
+add-i c = record { fits = omega (arith, inside c .0) }
+
+add-j : tie.Need-add-j Inv-loop μ-loop
+add-j c = record { fits = omega (arith, inside c .1) }
+
+loop-less : tie.Need-loop-less Inv-loop μ-loop
+loop-less c = omega (arith, inside c .0)
+
+loop-again : tie.Need-loop-again Inv-loop μ-loop
+loop-again c =
+    rw (c .order-with .ensures)
+    (met-more (c .before .before .before .before .before .loop .inv) (c .before .before .before .before .digit-at .ensures) (c .before .before .before .digit-at2 .ensures) (c .before .before .if1 .left) (c .before .if2 .left))
+
+pub is-below-spec : {M : Type 1} → statement M
+is-below-spec =
+    tie.close
+    (tie.spec
+    Inv-loop
+    μ-loop
+    skip-zeros-requires
+    skip-zeros-requires-2
+    loop-holds
+    digit-at-requires
+    digit-at-requires-2
+    ends-below-requires
+    returns
+    returns-2
+    order-with-requires
+    add-i
+    add-j
+    loop-less
+    loop-again)
