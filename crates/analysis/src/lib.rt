@@ -1,5 +1,6 @@
 // Nullable symbols and first sets of a grammar in memory, and first of the rest of an item.
 // Inner: for the checker and the builder.
+use symbol::CODES;
 ghost use mathlib.Core.Path.{_≡_};
 ghost use Prim.Native.Nat.{_+_, _<_, _≤_};
 ghost use lib.ListN.{length, replicate};
@@ -20,10 +21,10 @@ fn merge_row(flags: &mut [u8], from: usize, to: usize) -> usize
 {
     let mut added: usize = 0;
     let mut c = 0;
-    while c < 64 {
-        if flags[from * 64 + c] != 0 {
-            if flags[to * 64 + c] == 0 {
-                flags[to * 64 + c] = 1;
+    while c < CODES {
+        if flags[from * CODES + c] != 0 {
+            if flags[to * CODES + c] == 0 {
+                flags[to * CODES + c] = 1;
                 added += 1;
             }
         }
@@ -81,7 +82,7 @@ fn flag_diagonal(t: usize, first: &mut [u8])
 {
     let mut c = 1;
     while c <= t {
-        first[c * 64 + c] = 1;
+        first[c * CODES + c] = 1;
         c += 1;
     }
 }
@@ -151,7 +152,7 @@ pub fn rest_first(
     let mut j = k;
     while j < n {
         let x = items::symbol_of(m, items, i, j);
-        add_codes(fst, x * 64, codes, flags, at);
+        add_codes(fst, x * CODES, codes, flags, at);
         if nul[x] == 0 {
             return false;
         }

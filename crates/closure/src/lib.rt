@@ -1,5 +1,7 @@
 // The closure of a state, computed from tables in memory.
 // Inner: for the checker and the builder.
+use symbol::CODES;
+use symbol::Symbol;
 ghost use mathlib.Core.Path.{_≡_};
 ghost use Prim.Native.Nat.{ℕ, _+_, _*_, _<_, _≤_};
 ghost use lib.ListN.{length};
@@ -54,7 +56,7 @@ pub fn prepare_rules(
     reply::clear(through);
     let mut i = 1;
     while i <= rules {
-        if analysis::rest_first(m, items, i, 1, codes, nul, fst, starts, i * 64) {
+        if analysis::rest_first(m, items, i, 1, codes, nul, fst, starts, i * CODES) {
             through[i] = 1;
         }
         i += 1;
@@ -86,18 +88,18 @@ fn add_item(
         return;
     }
     let x = items::symbol_of(m, items, i, k);
-    if x < 64 {
+    if x < Symbol::FIRST_NONTERMINAL {
         return;
     }
-    let b = x - 64;
+    let b = x - Symbol::FIRST_NONTERMINAL;
     present[b] = 1;
     if !analysis::any_code(lookaheads, start, codes) {
         return;
     }
-    if !analysis::rest_first(m, items, i, k + 1, codes, nul, fst, follow, b * 64) {
+    if !analysis::rest_first(m, items, i, k + 1, codes, nul, fst, follow, b * CODES) {
         return;
     }
-    analysis::add_codes(lookaheads, start, codes, follow, b * 64);
+    analysis::add_codes(lookaheads, start, codes, follow, b * CODES);
 }
 
 // What the kernel lines of state q add to its closure.
@@ -136,7 +138,7 @@ fn add_kernel(
             i,
             k,
             lookaheads,
-            l * 64,
+            l * CODES,
             codes,
             nul,
             fst,
@@ -155,10 +157,10 @@ fn left_in(m: &[u8], items: usize, i: usize, present: &[u8]) -> bool
     ensures { λ b. ⌜ Decides (LeftIn (now (m .entry)) i (now (present .entry))) b ⌝ }
 {
     let x = items::left_of(m, items, i);
-    if x < 64 {
+    if x < Symbol::FIRST_NONTERMINAL {
         return false;
     }
-    if present[x - 64] == 0 {
+    if present[x - Symbol::FIRST_NONTERMINAL] == 0 {
         return false;
     }
     true
@@ -171,13 +173,13 @@ fn first_nonterminal(m: &[u8], items: usize, i: usize) -> usize
     ensures { λ r. ⌜ FirstIs (now (m .entry)) i r ⌝ }
 {
     if !stands_before(m, items, i, 0) {
-        return 64;
+        return CODES;
     }
     let x = items::symbol_of(m, items, i, 0);
-    if x < 64 {
-        return 64;
+    if x < Symbol::FIRST_NONTERMINAL {
+        return CODES;
     }
-    x - 64
+    x - Symbol::FIRST_NONTERMINAL
 }
 
 // Flags what the rules of flagged nonterminals begin with, until a pass adds nothing.
@@ -196,7 +198,7 @@ pub fn close_present(m: &[u8], items: usize, rules: usize, present: &mut [u8])
                 continue 'rules;
             }
             let b = first_nonterminal(m, items, i);
-            if b >= 64 {
+            if b >= CODES {
                 i += 1;
                 continue 'rules;
             }
@@ -218,13 +220,13 @@ fn fires(starts: &[u8], through: &[u8], follow: &[u8], i: usize, a: usize, c: us
     requires { ⌜ (i ≤ 127) × (a < 64) × (c < 64) ⌝ }
     ensures { λ r. ⌜ Decides (Fires (now (starts .entry)) (now (through .entry)) (now (follow .entry)) i a c) r ⌝ }
 {
-    if starts[i * 64 + c] != 0 {
+    if starts[i * CODES + c] != 0 {
         return true;
     }
     if through[i] == 0 {
         return false;
     }
-    if follow[a * 64 + c] == 0 {
+    if follow[a * CODES + c] == 0 {
         return false;
     }
     true
@@ -257,20 +259,20 @@ fn close_follow(
                 continue 'rules;
             }
             let b = first_nonterminal(m, items, i);
-            if b >= 64 {
+            if b >= CODES {
                 i += 1;
                 continue 'rules;
             }
-            let a = items::left_of(m, items, i) - 64;
-            if !analysis::any_code(follow, a * 64, codes) {
+            let a = items::left_of(m, items, i) - Symbol::FIRST_NONTERMINAL;
+            if !analysis::any_code(follow, a * CODES, codes) {
                 i += 1;
                 continue 'rules;
             }
             let mut c = 0;
             'codes: while c < codes {
-                if follow[b * 64 + c] == 0 {
+                if follow[b * CODES + c] == 0 {
                     if fires(starts, through, follow, i, a, c) {
-                        follow[b * 64 + c] = 1;
+                        follow[b * CODES + c] = 1;
                         added += 1;
                     }
                 }

@@ -96,7 +96,7 @@ book-formed : (s : List ℕ) → Formed (bookOf s)
 unfolding bookOf Formed
 book-formed s = all-cond Formed (ltb 65536 (length s)) (λ x. tt) (λ x. header-formed s (headerOf s) refl)
 
--- "t 1 to 63, n 1 to 64, 1 to 127 rules", the goal and every left side a nonterminal, at most 15 declared symbols a right side,
+-- t 1 to 63, n 1 to 64, 1 to 127 rules, the goal and every left side a nonterminal, at most 15 declared symbols a right side,
 -- no empty group
 pub accepted-formed : (s : List ℕ) (g : Grammar) → bookOf s ≡ accepted g → WellFormed g
 unfolding Formed

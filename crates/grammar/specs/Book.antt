@@ -60,8 +60,7 @@ linesOf s (header.Refused x) = rejected x
 unfoldable pub bookOf : List ℕ → Book
 bookOf s = cond (ltb 65536 (length s)) (rejectedAt kind.LimitExceeded 0) (linesOf s (headerOf s))
 
--- ---- "5 | a nonterminal derives no string of terminals | its code, lowest", then "6 | a nonterminal is not reached from the
--- goal | its code, lowest"
+-- ---- 5, "a nonterminal derives no string of terminals", then 6, "a nonterminal is not reached from the goal": at "its code, lowest"
 abbrev pub onFound : {A : Type 0} → Found → (ℕ → A) → A → A
 onFound (Found.At X) f y = f X
 onFound Found.Nothing f y = y

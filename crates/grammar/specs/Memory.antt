@@ -32,7 +32,7 @@ abbrev pub replyOf : Book → GrammarReply
 replyOf (accepted g) = reply.Read (headingOf g)
 replyOf (rejected x) = reply.Refused x
 
--- "11 | a lent slice is shorter than the whole result", after everything else. The table has 128 rows of 64 bytes, whatever the
+-- 11, "a lent slice is shorter than the whole result", after everything else. The table has 128 rows of 64 bytes, whatever the
 -- number of rules.
 abbrev pub within : ℕ → Book → Book
 within size (accepted g) = cond (ltb size 8192) (rejectedAt kind.BufferTooSmall 0) (accepted g)

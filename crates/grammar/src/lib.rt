@@ -45,7 +45,7 @@ fn read_rules(s: &[u8], first: usize, t: usize, n: usize, count: usize, m: &mut 
     let mut at = first;
     let mut i = 0;
     while i < count {
-        let line = read_rule(s, at, t, n, m, i * 64 + 64);
+        let line = read_rule(s, at, t, n, m, i * items::ROW + items::ROW);
         let next = match line {
             RuleLine::Read(next) => next,
             RuleLine::Refused(why) => {

@@ -15,8 +15,8 @@ use Rattle.header.specs.declared.HeaderLine.the-variants as line
 abbrev pub refusedHeader : Kind → HeaderLine
 refusedHeader k = line.Refused (record { kind = k; place = 0 })
 
--- "2 | a figure leaves the table above": t 1 to 63, n 1 to 64, rules 1 to 127, a number at most 65,535; then
--- "3 | a symbol [..] undeclared or of the wrong kind for its field": the goal is a nonterminal
+-- 2, "a figure leaves the table above": t 1 to 63, n 1 to 64, rules 1 to 127, a number at most 65,535; then
+-- 3, "a symbol [..] undeclared or of the wrong kind for its field": the goal is a nonterminal
 unfoldable pub figuresOf : ℕ → ℕ → ℕ → ℕ → ℕ → HeaderLine
 figuresOf t n rules goal next =
     cond (within 1 t 63 && (within 1 n 64 && (within 1 rules 127 && leb goal 65535)))
@@ -25,7 +25,7 @@ figuresOf t n rules goal next =
     (refusedHeader kind.Undeclared))
     (refusedHeader kind.LimitExceeded)
 
--- the letter G, 71, then four numbers, then the line's end, before any figure is looked at; else "1 | a line breaks its form"
+-- the letter G, 71, then four numbers, then the line's end, before any figure is looked at; else 1, "a line breaks its form"
 unfoldable pub headerOf : List ℕ → HeaderLine
 headerOf s =
     onLetter (fieldAt s (record { at = 0; ended = false })) (λ k c.

@@ -4,6 +4,9 @@ ghost use mathlib.Core.Path.{_≡_};
 ghost use Prim.Native.Nat.{_+_, _*_, _<_, _≤_};
 ghost use Rattle.items.specs.Layout.{Shaped, leftAt, lengthAt, markAt, unitAt, symbolAt, startAt};
 
+// The bytes of a row.
+pub const ROW: usize = 64;
+
 fn wide(x: u8) -> usize
     ensures { λ r. ⌜ (r ≡ x) × (r < 256) ⌝ }
 {
@@ -16,7 +19,7 @@ pub fn left_of(m: &[u8], items: usize, i: usize) -> usize
     requires { ⌜ i ≤ items ⌝ }
     ensures { λ r. ⌜ (r ≡ leftAt (now (m .entry)) i) × (r < 128) ⌝ }
 {
-    wide(m[i * 64])
+    wide(m[i * ROW])
 }
 
 // The number of symbols of item i.
@@ -25,7 +28,7 @@ pub fn length_of(m: &[u8], items: usize, i: usize) -> usize
     requires { ⌜ i ≤ items ⌝ }
     ensures { λ r. ⌜ (r ≡ lengthAt (now (m .entry)) i) × (r ≤ 15) ⌝ }
 {
-    wide(m[i * 64 + 1])
+    wide(m[i * ROW + 1])
 }
 
 // The dot at which item i is recognized; 255 for an entry item, which has no such point.
@@ -34,7 +37,7 @@ pub fn mark_of(m: &[u8], items: usize, i: usize) -> usize
     requires { ⌜ i ≤ items ⌝ }
     ensures { λ r. ⌜ (r ≡ markAt (now (m .entry)) i) × (r < 256) ⌝ }
 {
-    wide(m[i * 64 + 2])
+    wide(m[i * ROW + 2])
 }
 
 // 1 for a unit rule, else 0.
@@ -43,7 +46,7 @@ pub fn unit_of(m: &[u8], items: usize, i: usize) -> usize
     requires { ⌜ i ≤ items ⌝ }
     ensures { λ r. ⌜ (r ≡ unitAt (now (m .entry)) i) × (r < 256) ⌝ }
 {
-    wide(m[i * 64 + 3])
+    wide(m[i * ROW + 3])
 }
 
 // Symbol k of item i.
@@ -53,7 +56,7 @@ pub fn symbol_of(m: &[u8], items: usize, i: usize, k: usize) -> usize
     requires { ⌜ k < 15 ⌝ }
     ensures { λ r. ⌜ (r ≡ symbolAt (now (m .entry)) i k) × (r < 128) ⌝ }
 {
-    wide(m[i * 64 + 16 + k])
+    wide(m[i * ROW + 16 + k])
 }
 
 // 1 where symbol k of item i is the first of a group, else 0.
@@ -63,5 +66,5 @@ pub fn start_of(m: &[u8], items: usize, i: usize, k: usize) -> usize
     requires { ⌜ k < 15 ⌝ }
     ensures { λ r. ⌜ (r ≡ startAt (now (m .entry)) i k) × (r < 256) ⌝ }
 {
-    wide(m[i * 64 + 32 + k])
+    wide(m[i * ROW + 32 + k])
 }

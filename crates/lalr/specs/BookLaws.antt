@@ -122,7 +122,7 @@ module _ (g : Grammar) (F : List ℕ → ℕ → ℕ → Type 0) (F? : (β : Lis
       go (yes l) = on q l
       go (no f) = record { one = λ X x y a c. absurd (let z = asked-off a in omega (arith, f, z)) }
 
-  -- "9 | state, lowest"
+  -- 9, at "state, lowest"
   pub refuses-conflict : (room q : ℕ) → Within g → q ≤ length (states g) → (Agree q → ⊥) → ((k : ℕ) → k < q → Agree k) → reply room ≡ refused Conflict q
   refuses-conflict room q w l f h =
       within-reply room w ∙ ap (λ (o : Option ℕ). first-of Conflict o (late room)) (lowest-some Agree test (suc (length (states g))) q (omega (arith, l)) f h)
@@ -177,7 +177,7 @@ module _ (g : Grammar) (F : List ℕ → ℕ → ℕ → Type 0) (F? : (β : Lis
           let f = late-accepted room e in
           record { within = w; agree = everywhere (none-fails Agree test (suc (length (states g))) h); fits = f .0; room-enough = f .1 }
 
-  -- "it refuses 9" at a state of which the cells do not agree, and no lower one
+  -- it refuses by 9 at a state of which the cells do not agree, and no lower one
   pub record Conflicts (q : ℕ) : Type 0 where
     pub within : Within g
     pub low : q ≤ length (states g)

@@ -136,7 +136,7 @@ module _ (g : Grammar) where
           readable g (FirstByRules g) (first? g) terminalCodes first-in
           (limits g W (accepted-writes g (FirstByRules g) (first? g) terminalCodes first-in room written .within)) codes-low (writes-by-rules .form)
 
-      -- "a book that it writes is accepted"
+      -- "its books are always accepted"
       pub writes-accepted : verdict g builderTable (FirstByRules g) (entries? g builderTable) (items? g builderTable)
           (lookaheads? g builderTable (FirstByRules g) (first? g) terminalCodes first-in) (agree? g builderTable (FirstByRules g) (first? g) terminalCodes first-in)
           (cells? g builderTable (FirstByRules g) (first? g) terminalCodes first-in) ≡ Accepted 0

@@ -1,5 +1,7 @@
 // Whether a grammar in memory is reduced: each nonterminal productive and reachable.
 // Inner: for `grammar` and `analysis`, on rules in memory.
+use symbol::SYMBOLS;
+use symbol::Symbol;
 ghost use mathlib.Core.Path.{_≡_};
 ghost use Prim.Native.Nat.{_+_, _<_, _≤_};
 ghost use lib.ListN.{length, replicate};
@@ -74,10 +76,14 @@ pub fn lowest_unproductive(m: &[u8], terminals: usize, nonterminals: usize, rule
     requires { ⌜ (terminals ≤ 63) × (nonterminals ≤ 64) ⌝ }
     ensures { λ r. ⌜ ((g : Grammar) → Holds (now (m .entry)) rules g → g .terminals ≡ terminals → g .nonterminals ≡ nonterminals → r ≡ lowestUnproductive g) ⌝ }
 {
-    let mut flags = [0u8; 128];
+    let mut flags = [0u8; SYMBOLS];
     flag_terminals(terminals, &mut flags);
     close_productions(m, rules, &mut flags);
-    fixpoint::lowest_unset(&flags, 64, 64 + nonterminals)
+    fixpoint::lowest_unset(
+        &flags,
+        Symbol::FIRST_NONTERMINAL,
+        Symbol::FIRST_NONTERMINAL + nonterminals,
+    )
 }
 
 // Flags the symbols of each rule whose left side is flagged, until none is left to flag.
@@ -119,8 +125,12 @@ pub fn lowest_unreachable(m: &[u8], goal: usize, nonterminals: usize, rules: usi
     requires { ⌜ (goal < 128) × (nonterminals ≤ 64) ⌝ }
     ensures { λ r. ⌜ ((g : Grammar) → Holds (now (m .entry)) rules g → g .goal ≡ goal → g .nonterminals ≡ nonterminals → r ≡ lowestUnreachable g) ⌝ }
 {
-    let mut flags = [0u8; 128];
+    let mut flags = [0u8; SYMBOLS];
     flags[goal] = 1;
     close_reaching(m, rules, &mut flags);
-    fixpoint::lowest_unset(&flags, 64, 64 + nonterminals)
+    fixpoint::lowest_unset(
+        &flags,
+        Symbol::FIRST_NONTERMINAL,
+        Symbol::FIRST_NONTERMINAL + nonterminals,
+    )
 }

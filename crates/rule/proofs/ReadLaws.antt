@@ -1,15 +1,19 @@
 -- How the reading of a right side goes on, field by field.
 use Prim.Native.Nat.{ℕ, zero, suc, _+_, _≤_, _<_}
 use mathlib.Core.Path.{_≡_, refl, sym, ap, subst, _∙_}
+use mathlib.Core.Logic.{⊎-elim}
 use mathlib.Core.List.{List, [], _∷_, _++_, append-nil}
 use mathlib.Core.Bool.{true, false, cond}
 use native.Mathlib.Omega.{arith}
+use types.Run.{OneOf}
+use denote.Enum.Declared.{tagOf}
 use lib.ListN.{length, length-append}
 use lib.Seq.{append-snoc}
 use Rattle.text.specs.declared.Cursor.{Cursor}
 use Rattle.text.specs.declared.Field.{Field}
 use Rattle.text.specs.declared.Field.the-variants as field
 use Rattle.text.specs.Field.{fieldAt}
+use Rattle.text.proofs.Field.{the-type}
 use Rattle.text.proofs.OnwardLaws.{Between, onward}
 use Rattle.rule.specs.declared.Progress.{Progress}
 use Rattle.rule.specs.declared.Parts.{Parts}
@@ -45,13 +49,18 @@ module _ (k : ℕ) (s : List ℕ) (c : Cursor) where
     unfolding partsFrom
     parts-mark b d f = simp (e, f)
 
-    parts-letter : (b : ℕ) (d : Cursor) → fieldAt s c ≡ field.Letter b d → partsFrom (suc k) s c ≡ broken
+    -- neither mark nor number
+    parts-broken : {f : Field} → f ≡ fieldAt s c → OneOf (0 ∷ 2 ∷ 3 ∷ []) (tagOf the-type f) → OneOf (1 ∷ 2 ∷ 3 ∷ []) (tagOf the-type f)
+        → partsFrom (suc k) s c ≡ broken
     unfolding partsFrom
-    parts-letter b d f = simp (e, f)
-
-    parts-broken : fieldAt s c ≡ field.Broken → partsFrom (suc k) s c ≡ broken
-    unfolding partsFrom
-    parts-broken f = simp (e, f)
+    parts-broken {f} q m o = go f q m o
+      where
+        go : (f : Field) → f ≡ fieldAt s c → OneOf (0 ∷ 2 ∷ 3 ∷ []) (tagOf the-type f) → OneOf (1 ∷ 2 ∷ 3 ∷ []) (tagOf the-type f)
+            → partsFrom (suc k) s c ≡ broken
+        go (field.Number v d) q m o = absurd (⊎-elim (λ e. omega arith) (λ p. ⊎-elim (λ e. omega arith) (λ e. omega arith) p) o)
+        go (field.Mark b d) q m o = absurd (⊎-elim (λ e. omega arith) (λ p. ⊎-elim (λ e. omega arith) (λ e. omega arith) p) m)
+        go (field.Letter b d) q m o = simp (e, sym q)
+        go field.Broken q m o = simp (e, sym q)
 
 -- ---- the loop: some parts are seen, and the line is they and what stands from c on
 module _ (s : List ℕ) (t n : ℕ) (first : Cursor) (m₀ : List ℕ) (base : ℕ) where
@@ -141,14 +150,8 @@ module _ (s : List ℕ) (t n : ℕ) (first : Cursor) (m₀ : List ℕ) (base : �
           subst (λ (x : Rest). Filled t n x m₀ base m) (sym q) (record { filled = r .kept }),
         )
 
-    way-out : partsFrom (suc (r .fuel)) s c ≡ broken → Answers t n (partsAt s first) out.Broken × Filled t n (partsAt s first) m₀ base m
-    way-out e =
-        let q : partsAt s first ≡ broken = r .same ∙ ap (after (r .passed)) e in
+    pub reading-broken : c .ended ≡ false → {f : Field} → f ≡ fieldAt s c → OneOf (0 ∷ 2 ∷ 3 ∷ []) (tagOf the-type f)
+        → OneOf (1 ∷ 2 ∷ 3 ∷ []) (tagOf the-type f) → Answers t n (partsAt s first) out.Broken × Filled t n (partsAt s first) m₀ base m
+    reading-broken e f x y =
+        let q : partsAt s first ≡ broken = r .same ∙ ap (after (r .passed)) (parts-broken (r .fuel) s c e f x y) in
         (subst (λ (x : Rest). Answers t n x out.Broken) (sym q) tt, subst (λ (x : Rest). Filled t n x m₀ base m) (sym q) (record { filled = tt }))
-
-    pub reading-letter : c .ended ≡ false → (x : ℕ) (d : Cursor) → fieldAt s c ≡ field.Letter x d
-        → Answers t n (partsAt s first) out.Broken × Filled t n (partsAt s first) m₀ base m
-    reading-letter e x d f = way-out (parts-letter (r .fuel) s c e x d f)
-
-    pub reading-broken : c .ended ≡ false → fieldAt s c ≡ field.Broken → Answers t n (partsAt s first) out.Broken × Filled t n (partsAt s first) m₀ base m
-    reading-broken e f = way-out (parts-broken (r .fuel) s c e f)

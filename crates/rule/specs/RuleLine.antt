@@ -32,11 +32,11 @@ large v = ltb 65535 v
 abbrev pub undeclared : ℕ → ℕ → ℕ → Bool
 undeclared t n X = not (isDeclared t n X)
 
--- "2 | a figure leaves the table above": a number is at most 65,535, a right side has at most 15 symbols
+-- 2, "a figure leaves the table above": a number is at most 65,535, a right side has at most 15 symbols
 unfoldable pub overLimits : ℕ → List ℕ → Bool
 overLimits left α = large left || (any large α || ltb 15 (length α))
 
--- "3 | a symbol [..] undeclared or of the wrong kind for its field"
+-- 3, "a symbol [..] undeclared or of the wrong kind for its field"
 unfoldable pub someUndeclared : ℕ → ℕ → ℕ → List ℕ → Bool
 someUndeclared t n left α = not (isNonterminal n left) || any (undeclared t n) α
 

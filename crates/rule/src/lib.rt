@@ -117,7 +117,6 @@ fn over_with(over: bool, v: usize) -> bool
 }
 
 fn undeclared_with(seen: bool, t: usize, n: usize, v: usize) -> bool
-    requires { ⌜ n ≤ 64 ⌝ }
     ensures { λ r. ⌜ r ≡ undeclaredWith seen t n v ⌝ }
 {
     if seen {
@@ -128,7 +127,7 @@ fn undeclared_with(seen: bool, t: usize, n: usize, v: usize) -> bool
 }
 
 fn add_symbol(t: usize, n: usize, p: Progress, v: usize) -> Progress
-    requires { ⌜ (n ≤ 64) × (p .count < 65536) ⌝ }
+    requires { ⌜ p .count < 65536 ⌝ }
     ensures { λ r. ⌜ r ≡ addSymbol t n p v ⌝ }
 {
     let stage = p.stage;
@@ -217,24 +216,19 @@ fn read_parts(s: &[u8], first: Cursor, t: usize, n: usize, m: &mut [u8], base: u
         if ended {
             return Parts::Complete(p, c.at);
         }
-        match read_field(s, c) {
-            Field::Number(v, d) => {
-                let stage = p.stage;
-                store_symbol(m, base, p.count, stage, v);
-                p = add_symbol(t, n, p, v);
-                c = d;
-            }
-            Field::Mark(b, d) => {
-                p = add_mark(p, b);
-                c = d;
-            }
-            Field::Letter(_, _) => {
-                return Parts::Broken;
-            }
-            Field::Broken => {
-                return Parts::Broken;
-            }
+        let field = read_field(s, c);
+        if let Field::Mark(b, d) = field {
+            p = add_mark(p, b);
+            c = d;
+            continue;
         }
+        let Field::Number(v, d) = field else {
+            return Parts::Broken;
+        };
+        let stage = p.stage;
+        store_symbol(m, base, p.count, stage, v);
+        p = add_symbol(t, n, p, v);
+        c = d;
     }
 }
 
@@ -246,7 +240,6 @@ fn refuse(kind: Kind, place: usize) -> RuleLine
 
 // The line at `at` that ends before `next`, by its left side and its right side's progress.
 fn judge(at: usize, n: usize, left: usize, p: Progress, next: usize) -> RuleLine
-    requires { ⌜ n ≤ 64 ⌝ }
     ensures { λ r. ⌜ r ≡ judged at n left p next ⌝ }
 {
     if 65535 < left {

@@ -78,7 +78,7 @@ tableOf g s = onHead (headOf s) (entriesOf g s) rejected
 unfoldable pub tablesOf : List ℕ → List ℕ → Reading
 tablesOf gs s = cond (ltb 65536 (length s)) (rejectedAt kind.LimitExceeded 0) (onAccepted (grammarOf gs) (λ g. tableOf g s) rejected)
 
--- "11 | a lent slice is shorter than the whole result", after everything else
+-- 11, "a lent slice is shorter than the whole result", after everything else
 abbrev pub readOf : Bool → Reading → Reading
 readOf room (whole g t) = cond room (whole g t) (rejectedAt kind.BufferTooSmall 0)
 readOf room (rejected why) = rejected why

@@ -3,6 +3,8 @@
 use range::in_range;
 use reply::Kind;
 use reply::Refusal;
+use symbol::CODES;
+use symbol::SYMBOLS;
 use symbol::Symbol;
 use table_lines::Block;
 use table_lines::Judgement;
@@ -48,15 +50,15 @@ fn is_second(kinds: &[u8], gotos: &[u8], state: usize, symbol: usize) -> bool
         return false;
     }
     if symbol < Symbol::FIRST_NONTERMINAL {
-        if kinds[state * 64 + symbol] == 0 {
+        if kinds[state * CODES + symbol] == 0 {
             return false;
         }
         return true;
     }
-    if 127 < symbol {
+    if SYMBOLS <= symbol {
         return false;
     }
-    if gotos[state * 64 + (symbol - Symbol::FIRST_NONTERMINAL)] == 0 {
+    if gotos[state * CODES + (symbol - Symbol::FIRST_NONTERMINAL)] == 0 {
         return false;
     }
     true
@@ -72,7 +74,6 @@ fn action_declared(
     symbol: usize,
     v: usize,
 ) -> bool
-    requires { ⌜ n ≤ 64 ⌝ }
     ensures { λ r. ⌜ r ≡ actionDeclared t n rules states letter symbol v ⌝ }
 {
     let x = Symbol { code: symbol };
@@ -88,7 +89,7 @@ fn action_declared(
         }
         return in_range(1, v, states);
     }
-    if t < symbol {
+    if !x.is_lookahead(t) {
         return false;
     }
     if letter == b'A' {
@@ -108,7 +109,7 @@ fn judge_action(
     kinds: &[u8],
     gotos: &[u8],
 ) -> Judgement
-    requires { ⌜ (n ≤ 64) × (length (now numbers) ≡ 67) × (16640 ≤ length (now kinds)) × (16640 ≤ length (now gotos)) ⌝ }
+    requires { ⌜ (length (now numbers) ≡ 67) × (16640 ≤ length (now kinds)) × (16640 ≤ length (now gotos)) ⌝ }
     ensures { λ r. ⌜ ((a b c : ℕ) (values : List ℕ) (l : List ActionLine) (ns : List ℕ) → Cells a b c l (now (kinds .entry)) values (now (gotos .entry)) → Held ns p (now (numbers .entry)) → r ≡ judgeAction t n rules states l letter ns) ⌝ }
 {
     if !is_action(letter) {
@@ -160,7 +161,7 @@ fn store_action(
     requires { ⌜ Formed (L state symbol (actionOf letter v)) ⌝ }
     ensures { λ r. ⌜ Stored (L state symbol (actionOf letter v)) (now (kinds .entry)) (now (values .entry)) (now (gotos .entry)) (now (named .entry)) (now (kinds .exit)) (now (values .exit)) (now (gotos .exit)) (now (named .exit)) ⌝ }
 {
-    let cell = state * 64 + symbol;
+    let cell = state * CODES + symbol;
     if letter == b'S' {
         table_lines::put(kinds, cell, 1);
         table_lines::put(values, cell, v);
@@ -168,7 +169,7 @@ fn store_action(
         return;
     }
     if letter == b'N' {
-        table_lines::put(gotos, cell - 64, v);
+        table_lines::put(gotos, cell - Symbol::FIRST_NONTERMINAL, v);
         table_lines::put(named, v, 1);
         return;
     }

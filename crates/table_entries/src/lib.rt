@@ -60,7 +60,7 @@ pub fn find_entry(m: &[u8], rules: usize, entries: usize, numbers: &[usize], cou
 
 // Whether each of the numbers from the second on is a terminal or a nonterminal.
 fn all_declared(t: usize, n: usize, numbers: &[usize], count: usize) -> bool
-    requires { ⌜ (n ≤ 64) × (1 ≤ count) × (count ≤ length (now numbers)) ⌝ }
+    requires { ⌜ (1 ≤ count) × (count ≤ length (now numbers)) ⌝ }
     ensures { λ r. ⌜ r ≡ allDeclared t n (drop 1 (take count (now (numbers .entry)))) ⌝ }
 {
     let mut k = 1;
@@ -85,7 +85,7 @@ fn judge_entry(
     numbers: &[usize],
     m: &[u8],
 ) -> Judgement
-    requires { ⌜ (n ≤ 64) × (rules + entries < 256) × (length (now numbers) ≡ 67) ⌝ }
+    requires { ⌜ (rules + entries < 256) × (length (now numbers) ≡ 67) ⌝ }
     requires { ⌜ Shaped (now m) (rules + entries) ⌝ }
     ensures { λ r. ⌜ ((l : List EntryLine) (ns : List ℕ) → length l ≡ entries → Rows (now (m .entry)) rules l → Held ns p (now (numbers .entry)) → r ≡ judgeEntry t n states l letter ns) ⌝ }
 {
@@ -164,7 +164,7 @@ fn read_entry(
         return Step::Refused(Refusal { kind, place: at });
     }
     let state = numbers[0];
-    store_row(items, (rules + entries + 1) * 64, &numbers, p.count);
+    store_row(items, (rules + entries + 1) * items::ROW, &numbers, p.count);
     table_lines::put(entry_states, entries + 1, state);
     table_lines::put(named, state, 1);
     Step::Taken(next)

@@ -3,6 +3,7 @@
 use range::in_range;
 use reply::Kind;
 use reply::Refusal;
+use symbol::CODES;
 use table_lines::Block;
 use table_lines::Judgement;
 use table_lines::Line;
@@ -156,7 +157,7 @@ fn read_kernel(
     let item = numbers[1];
     let dot = numbers[2];
     store_figures(kernels, lines, state, item, dot);
-    store_codes(lookaheads, lines * 64, &numbers, p.count);
+    store_codes(lookaheads, lines * CODES, &numbers, p.count);
     table_lines::put(marks, state * 4096 + item * 16 + dot, 1);
     Step::Taken(next)
 }

@@ -17,7 +17,7 @@ use Rattle.walker.specs.Memory.{memoryGrammar, memoryAutomaton}
 unfoldable pub memoryWalk : List ℕ → List ℕ → List ℕ → List ℕ → ℕ → ℕ → ℕ → List ℕ → Verdict
 memoryWalk kinds values gotos rules start n k w = walk (memoryGrammar rules) (memoryAutomaton kinds values gotos rules start) n k w
 
--- "0 whole", "11 short slip", "12 wrong scan": the reply with its place and counts
+-- 0 ("whole"), 11 ("short slip"), 12 ("wrong scan"): the reply with its place and counts
 abbrev pub answer : Grammar → Verdict → Walked
 answer g (whole-at p l) = Accepted (record { tokens = p; rules = length l; units = unitsIn g l })
 answer g (wrong-at p) = Refused (record { kind = SyntaxError; place = p })

@@ -9,6 +9,7 @@ ghost use Rattle.walker.specs.Turn.{tops, groupsOver, ruleOver, PushesFr
 use reply::Kind;
 use reply::Refusal;
 use reply::Reply;
+use symbol::Symbol;
 
 // What a state does on a code: push the next state and take a token, announce a rule, pop an entry (the value is its
 // length, and one state more is popped), or nothing.
@@ -192,7 +193,7 @@ fn shift(tokens: &[u8], stack: &mut [u8], next: u8, code: u8, p: Position) -> Tu
     requires { ⌜ p .taken ≤ length (now tokens) ⌝ }
     ensures { λ t. ⌜ Shifts (now (tokens .entry)) (now (stack .entry)) next code p t (now (stack .exit)) ⌝ }
 {
-    if code == 0 {
+    if wide(code) == Symbol::END {
         return refused(Kind::SyntaxError, p.taken);
     }
     let height = p.height;
@@ -285,7 +286,7 @@ fn pop(stack: &[u8], symbols: u8, code: u8, p: Position) -> Turn
     if pops < height {
         return lowered(stack, height - pops, code, p);
     }
-    if code != 0 {
+    if wide(code) != Symbol::END {
         return refused(Kind::SyntaxError, p.taken);
     }
     Turn::Ends(Walked::Accepted(Tally {

@@ -1,7 +1,6 @@
 -- `header::check_figures` meets its contract. Assumes nothing.
 use mathlib.Core.Path.{_∙_}
 use borrow.Author.Tests.{le-leb, lt-leb}
-use Rattle.range.proofs.RangeLaws.{within-true}
 use Rattle.header.specs.Header.{figuresOf}
 use Rattle.range.proofs.TestLaws.{fails, holds}
 use borrow.Author.Needs.{needs}
@@ -55,7 +54,7 @@ returns-4 c =
     )
 
 is-nonterminal-requires : tie.Need-is-nonterminal-requires
-is-nonterminal-requires c κs = within-true 1 (c .before .before .before .before .before .before .before .args .n) 64 (holds (c .before .before .before .before .in-range2 .ensures) (c .before .before .before .if2 .left)) .1
+is-nonterminal-requires c κs = search needs
 
 refuse-requires-5 : tie.Need-refuse-requires-5
 refuse-requires-5 c κs = search needs

@@ -3,11 +3,9 @@
 use Prim.Native.Nat.{_-_}
 use mathlib.Core.Path.{_≡_, sym, _∙_}
 use native.Mathlib.Omega.{arith}
-use denote.Ref.{now}
 use lib.ListN.{length}
-use Rattle.text.specs.declared.Field.the-variants as field
 use Rattle.text.proofs.OnwardLaws.{onward}
-use Rattle.rule.proofs.ReadLaws.{Reading, reading-start, count-low, reading-symbol, reading-mark, reading-ended, reading-letter, reading-broken}
+use Rattle.rule.proofs.ReadLaws.{Reading, reading-start, count-low, reading-symbol, reading-mark, reading-ended, reading-broken}
 use borrow.Author.Needs.{needs}
 use Rattle.rule.proofs.read_parts.Statement.{statement}
 use Rattle.rule.proofs.read_parts.Tie as tie
@@ -30,55 +28,49 @@ returns c = reading-ended _ _ _ _ _ _ _ _ _ (c .before .loop .inv .1) (c .if1 .t
 read-field-requires : tie.Need-read-field-requires Inv-loop μ-loop
 read-field-requires c κs = search needs
 
-enum-known-v : tie.Need-enum-known-v Inv-loop μ-loop
-enum-known-v c = search needs
-
-store-symbol-requires : tie.Need-store-symbol-requires Inv-loop μ-loop
-store-symbol-requires c κs = omega (arith, c .before .before .before .before .before .before .loop .inv .0, c .before .before .before .before .before .before .before .before .before .pre .1 .1 .room)
-
-add-symbol-requires : tie.Need-add-symbol-requires Inv-loop μ-loop
-add-symbol-requires c κs =
-    (c .before .before .before .before .before .before .before .before .before .before .before .before .pre .0 .1, omega (arith, c .before .before .before .before .before .before .before .before .before .before .before .before .pre .1 .0, count-low _ _ _ _ _ _ _ _ _ (c .before .before .before .before .before .before .before .before .before .loop .inv .1) (sym (c .before .before .before .before .before .before .before .read-field .ensures) ∙ c .before .before .before .before .before .v .given .1)))
-
-loop-less : tie.Need-loop-less Inv-loop μ-loop
-loop-less c = omega (arith, onward _ _ _ (sym (c .before .before .before .before .before .before .before .before .read-field .ensures) ∙ c .before .before .before .before .before .before .v .given .1))
-
-loop-again : tie.Need-loop-again Inv-loop μ-loop
-loop-again c = (
-  search needs,
-  reading-symbol _ _ _ _ _ _ _ _ _ (c .before .before .before .before .before .before .before .before .before .before .loop .inv .1) (c .before .before .before .before .before .before .before .before .before .before .before .before .before .pre .0 .0) (c .before .before .before .before .before .before .before .before .before .before .before .before .before .pre .0 .1) (c .before .before .before .before .before .before .before .before .before .if1 .left) _ _ (sym (c .before .before .before .before .before .before .before .before .read-field .ensures) ∙ c .before .before .before .before .before .before .v .given .1) (c .add-symbol .ensures) (c .before .before .before .store-symbol .ensures),
-)
-
-enum-known-b : tie.Need-enum-known-b Inv-loop μ-loop
-enum-known-b c = search needs
+enum-known-field : tie.Need-enum-known-field Inv-loop μ-loop
+enum-known-field c = search needs
 
 add-mark-requires : tie.Need-add-mark-requires Inv-loop μ-loop
 add-mark-requires c κs = search needs
 
-loop-less-2 : tie.Need-loop-less-2 Inv-loop μ-loop
-loop-less-2 c = omega (arith, onward _ _ _ (sym (c .before .before .before .before .read-field .ensures) ∙ c .before .before .b .given .1))
+loop-less : tie.Need-loop-less Inv-loop μ-loop
+loop-less c = omega (arith, onward _ _ _ (sym (c .before .before .before .before .read-field .ensures) ∙ c .before .before .field .given .1))
 
-loop-again-2 : tie.Need-loop-again-2 Inv-loop μ-loop
-loop-again-2 c =
-    (search needs, reading-mark _ _ _ _ _ _ _ _ _ (c .before .before .before .before .before .before .loop .inv .1) (c .before .before .before .before .before .if1 .left) _ _ (sym (c .before .before .before .before .read-field .ensures) ∙ c .before .before .b .given .1) (c .add-mark .ensures))
+loop-again : tie.Need-loop-again Inv-loop μ-loop
+loop-again c =
+    let r = c .before .before .before .before in
+    (search needs, reading-mark _ _ _ _ _ _ _ _ _ (r .before .before .loop .inv .1) (r .before .if1 .left) _ _ (sym (r .read-field .ensures) ∙ c .before .before .field .given .1) (c .add-mark .ensures))
 
-enum-told : tie.Need-enum-told Inv-loop μ-loop
-enum-told c = search needs
+enum-known-field-2 : tie.Need-enum-known-field-2 Inv-loop μ-loop
+enum-known-field-2 c = search needs
 
 same-length-2 : tie.Need-same-length-2 Inv-loop μ-loop
 same-length-2 c = search needs
 
 returns-2 : tie.Need-returns-2 Inv-loop μ-loop
-returns-2 c = reading-letter _ _ _ _ _ _ _ _ _ (c .before .before .before .before .loop .inv .1) (c .before .before .before .if1 .left) _ _ (sym (c .before .before .read-field .ensures) ∙ c .enum-told .given .1)
+returns-2 c = let r = c .before .before in
+    reading-broken _ _ _ _ _ _ _ _ _ (r .before .before .loop .inv .1) (r .before .if1 .left) (r .read-field .ensures) (c .before .match .keys2) (c .match2 .keys2)
 
-enum-told-2 : tie.Need-enum-told-2 Inv-loop μ-loop
-enum-told-2 c = search needs
+store-symbol-requires : tie.Need-store-symbol-requires Inv-loop μ-loop
+store-symbol-requires c κs = let l = c .before .before .before .before .before .before .before in omega (arith, l .loop .inv .0, l .before .before .before .pre .1 .1 .room)
 
-same-length-3 : tie.Need-same-length-3 Inv-loop μ-loop
-same-length-3 c = search needs
+add-symbol-requires : tie.Need-add-symbol-requires Inv-loop μ-loop
+add-symbol-requires c κs = let r = c .before .before .before .before .before .before .before .before in
+    let l = r .before .before in
+    omega (arith, l .before .before .before .pre .1 .0, count-low _ _ _ _ _ _ _ _ _ (l .loop .inv .1) (sym (r .read-field .ensures) ∙ c .before .before .before .before .before .field2 .given .1))
 
-returns-3 : tie.Need-returns-3 Inv-loop μ-loop
-returns-3 c = reading-broken _ _ _ _ _ _ _ _ _ (c .before .before .before .before .loop .inv .1) (c .before .before .before .if1 .left) (sym (c .before .before .read-field .ensures) ∙ c .enum-told2 .given .1)
+loop-less-2 : tie.Need-loop-less-2 Inv-loop μ-loop
+loop-less-2 c = omega (arith, onward _ _ _ (sym (c .before .before .before .before .before .before .before .before .before .read-field .ensures) ∙ c .before .before .before .before .before .before .field2 .given .1))
+
+loop-again-2 : tie.Need-loop-again-2 Inv-loop μ-loop
+loop-again-2 c = let r = c .before .before .before .before .before .before .before .before .before in
+    let l = r .before .before in
+    let pre = l .before .before .before .pre in (
+      search needs,
+      reading-symbol _ _ _ _ _ _ _ _ _ (l .loop .inv .1) (pre .0 .0) (pre .0 .1) (r .before .if1 .left) _ _ (sym (r .read-field .ensures) ∙ c .before .before .before .before .before .before .field2 .given .1) (c .add-symbol .ensures)
+          (c .before .before .before .store-symbol .ensures),
+    )
 
 pub read-parts-spec : {M : Type 1} → statement M
 read-parts-spec =
@@ -90,18 +82,14 @@ read-parts-spec =
     same-length
     returns
     read-field-requires
-    enum-known-v
-    store-symbol-requires
-    add-symbol-requires
+    enum-known-field
+    add-mark-requires
     loop-less
     loop-again
-    enum-known-b
-    add-mark-requires
-    loop-less-2
-    loop-again-2
-    enum-told
+    enum-known-field-2
     same-length-2
     returns-2
-    enum-told-2
-    same-length-3
-    returns-3)
+    store-symbol-requires
+    add-symbol-requires
+    loop-less-2
+    loop-again-2)

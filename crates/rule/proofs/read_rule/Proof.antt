@@ -68,7 +68,7 @@ returns-4 c =
     (c .refuse4 .ensures)
 
 judge-requires : tie.Need-judge-requires
-judge-requires c κs = c .before .before .before .before .before .before .before .before .before .before .before .before .before .before .before .before .before .before .before .pre .0 .1
+judge-requires c κs = search needs
 
 enum-known-next : tie.Need-enum-known-next
 enum-known-next c = search needs

@@ -1,4 +1,4 @@
--- `rule::stray_with` meets its contract. Assumes nothing.
+-- `rule::undeclared_with` meets its contract. Assumes nothing.
 use mathlib.Core.Bool.{not}
 use mathlib.Core.Path.{ap}
 use borrow.Author.Needs.{needs}

@@ -1,4 +1,5 @@
 -- `walker::pop` meets its contract, by the laws of the two ways out and of the one that goes on. Assumes nothing.
+use mathlib.Core.Path.{sym, _∙_}
 use lib.ListN.{drop, length-drop}
 use Prim.Native.Nat.{suc, _+_, _-_}
 use native.Mathlib.Omega.{arith}
@@ -39,21 +40,26 @@ returns-2 c = let a = c .before .before .before .before .before .args in
     move-pop g m n k tokens (a .stack .now) listing (a .p) (a .symbols) (c .before .before .wide .result + 1) (a .code) s ec
     (omega (arith, c .before .before .wide .ensures .0)) (c .before .if3 .taken) (c .lowered2 .ensures)
 
+wide-requires-2 : tie.Need-wide-requires-2
+wide-requires-2 c κs = search needs
+
 returns-3 : tie.Need-returns-3
-returns-3 c = let a = c .before .before .before .before .before .before .args in
+returns-3 c = let a = c .before .before .before .before .before .before .before .args in
     λ g m n k tokens listing s ec.
     turns-wrong g m n k tokens (a .stack .now) listing (a .p) (a .stack .now) listing
-    (pop-wrong (drop (suc (a .symbols)) (tops (a .stack .now) (a .p .height))) (a .code) (omega (arith, length-drop (suc (a .symbols)) (tops (a .stack .now) (a .p .height)), tops-length (a .stack .now) (a .p .height), c .before .before .if3 .left, c .before .before .before .wide .ensures .0)) (c .before .if4 .taken))
+    (pop-wrong (drop (suc (a .symbols)) (tops (a .stack .now) (a .p .height))) (a .code) (omega (arith, length-drop (suc (a .symbols)) (tops (a .stack .now) (a .p .height)), tops-length (a .stack .now) (a .p .height), c .before .before .before .if3 .left, c .before .before .before .before .wide .ensures .0))
+    (λ z. c .before .if4 .taken (c .before .before .wide2 .ensures .0 ∙ z)))
     (c .refused .ensures)
 
 refused-requires : tie.Need-refused-requires
 refused-requires c κs = search needs
 
 returns-4 : tie.Need-returns-4
-returns-4 c = let a = c .before .before .before .before .before .args in
+returns-4 c = let a = c .before .before .before .before .before .before .args in
     λ g m n k tokens listing s ec.
     turns-whole g m n k tokens (a .stack .now) listing (a .p) (a .stack .now)
-    (pop-whole (drop (suc (a .symbols)) (tops (a .stack .now) (a .p .height))) (a .code) (omega (arith, length-drop (suc (a .symbols)) (tops (a .stack .now) (a .p .height)), tops-length (a .stack .now) (a .p .height), c .before .if3 .left, c .before .before .wide .ensures .0)) (c .if4 .left)) s
+    (pop-whole (drop (suc (a .symbols)) (tops (a .stack .now) (a .p .height))) (a .code) (omega (arith, length-drop (suc (a .symbols)) (tops (a .stack .now) (a .p .height)), tops-length (a .stack .now) (a .p .height), c .before .before .if3 .left, c .before .before .before .wide .ensures .0))
+    (sym (c .before .wide2 .ensures .0) ∙ c .if4 .left)) s
 
 pub pop-spec : {M : Type 1} → statement M
 pop-spec =
@@ -67,6 +73,7 @@ pop-spec =
     sub-lowered-2
     lowered-requires-2
     returns-2
+    wide-requires-2
     refused-requires
     returns-3
     returns-4)

@@ -1,5 +1,6 @@
 -- `walker::shift` meets its contract, by the laws of the two ways out and of the one that goes on. Assumes nothing.
 use mathlib.Core.Logic.{inl}
+use mathlib.Core.Path.{sym, _∙_}
 use Prim.Native.Nat.{_-_}
 use native.Mathlib.Omega.{arith}
 use borrow.Author.Needs.{needs}
@@ -9,21 +10,24 @@ use Rattle.walker.proofs.StackLaws.{tops-length}
 use Rattle.walker.proofs.shift.Statement.{statement}
 use Rattle.walker.proofs.shift.Tie as tie
 
+wide-requires : tie.Need-wide-requires
+wide-requires c κs = search needs
+
 refused-requires : tie.Need-refused-requires
 refused-requires c κs = search needs
 
 returns : tie.Need-returns
-returns c = let a = c .before .before .before .before .args in
+returns c = let a = c .before .before .before .before .before .args in
     λ g m n k listing s ec.
-    turns-wrong g m n k (a .tokens .now) (a .stack .now) listing (a .p) _ listing (shift-wrong (a .next) _ (a .code) (c .before .if1 .taken)) (c .refused .ensures)
+    turns-wrong g m n k (a .tokens .now) (a .stack .now) listing (a .p) _ listing (shift-wrong (a .next) _ (a .code) (sym (c .before .before .wide .ensures .0) ∙ c .before .if1 .taken)) (c .refused .ensures)
 
 refused-requires-2 : tie.Need-refused-requires-2
 refused-requires-2 c κs = search needs
 
 returns-2 : tie.Need-returns-2
-returns-2 c = let a = c .before .before .before .before .before .args in
+returns-2 c = let a = c .before .before .before .before .before .before .args in
     λ g m n k listing s ec.
-    turns-short g m n k (a .tokens .now) (a .stack .now) listing (a .p) _ listing (shift-on (a .next) _ (a .code) (c .before .before .if1 .left))
+    turns-short g m n k (a .tokens .now) (a .stack .now) listing (a .p) _ listing (shift-on (a .next) _ (a .code) (λ z. c .before .before .if1 .left (c .before .before .before .wide .ensures .0 ∙ z)))
     (inl (omega (arith, tops-length (a .stack .now) (a .p .height), c .before .if2 .taken, s .stack-long))) (c .refused2 .ensures)
 
 slice-write-stack : tie.Need-slice-write-stack
@@ -32,8 +36,8 @@ slice-write-stack c = search needs
 add-taken : tie.Need-add-taken
 add-taken c = search needs
 
-add-t10 : tie.Need-add-t10
-add-t10 c = search needs
+add-t8 : tie.Need-add-t8
+add-t8 c = search needs
 
 code-at-requires : tie.Need-code-at-requires
 code-at-requires c κs = search needs
@@ -42,22 +46,23 @@ same-length : tie.Need-same-length
 same-length c = search needs
 
 returns-3 : tie.Need-returns-3
-returns-3 c = let a = c .before .before .before .before .before .before .args in
+returns-3 c = let a = c .before .before .before .before .before .before .before .args in
     λ g m n k listing s ec.
-    move-shift g m n k (a .tokens .now) (a .stack .now) listing (a .p) (a .next) (c .code-at .result) (a .code) s ec (c .before .before .before .if1 .left)
+    move-shift g m n k (a .tokens .now) (a .stack .now) listing (a .p) (a .next) (c .code-at .result) (a .code) s ec (λ z. c .before .before .before .if1 .left (c .before .before .before .before .wide .ensures .0 ∙ z))
     (c .before .before .if2 .left) (c .code-at .ensures)
 
 pub shift-spec : {M : Type 1} → statement M
 shift-spec =
     tie.close
     (tie.spec
+    wide-requires
     refused-requires
     returns
     refused-requires-2
     returns-2
     slice-write-stack
     add-taken
-    add-t10
+    add-t8
     code-at-requires
     same-length
     returns-3)
