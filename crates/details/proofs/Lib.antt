@@ -1,3 +1,2 @@
 pub mod MissLaws
-pub mod EntryLaws
 pub mod ItemLaws

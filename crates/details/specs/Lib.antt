@@ -1,3 +1,2 @@
 pub mod Misses
-pub mod Entries
 pub mod Items

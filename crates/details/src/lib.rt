@@ -1,4 +1,4 @@
-// What exactly is wrong with tables that are refused with 7 or 10.
+// What exactly is wrong with a state of tables that are refused with 7 or 10.
 // Inner: for `explanation`.
 use fixpoint::Found;
 ghost use mathlib.Core.Path.{_≡_};
@@ -8,28 +8,14 @@ ghost use lib.ListN.{length, getD};
 ghost use Rattle.language.specs.Grammar.{Grammar};
 ghost use Rattle.leftcorner.specs.Table.{Table};
 ghost use Rattle.leftcorner.specs.Construction.{ItemsMeet};
-ghost use Rattle.items.specs.Layout.{Shaped};
 ghost use Rattle.memory.specs.Memory.{stateAt, itemAt, dotAt};
 ghost use Rattle.kernel_lines.specs.Lines.{Lines, Linked};
 ghost use Rattle.moves.specs.Moves.{Present, MovedAt, Lined, Readable, Cells};
 ghost use Rattle.targets.specs.Targets.{Arrives, TargetOnly};
 ghost use Rattle.conformance.specs.Items.{EntryMeets, HeldAt};
-ghost use Rattle.entry_list.specs.Uses.{HoldsStrings};
 ghost use Rattle.cells.specs.Contents.{demandAt, GotoMeets};
 ghost use Rattle.details.specs.Misses.{Any, Misses};
-ghost use Rattle.details.specs.Entries.{FindsGroup, BareIs, EntryFaultIs};
 ghost use Rattle.details.specs.Items.{FindsExtra, ItemFaultIs};
-
-// Why the list of entries is not that of the construction.
-pub enum EntryFault {
-    // The first entry is not the goal alone.
-    NotGoal,
-    // A rule, and where its group without an entry begins and ends.
-    Bare(usize, usize, usize),
-    // An entry that is neither the goal nor a group.
-    Unwanted(usize),
-    Nothing,
-}
 
 // Why the kernels are not those of the construction, as far as a state tells.
 pub enum ItemFault {
@@ -42,71 +28,6 @@ pub enum ItemFault {
     // A symbol, and a line of the next state for it, to which nothing moves.
     Extra(usize, usize),
     Nothing,
-}
-
-// Where the first group of rule i without an entry begins.
-fn find_group(items: &[u8], rules: usize, strings: usize, i: usize) -> Found
-    requires { ⌜ Shaped (now items) (rules + strings) ⌝ }
-    requires { ⌜ (i ≤ rules) × (rules ≤ 127) × (strings ≤ 127) ⌝ }
-    ensures { λ r. ⌜ FindsGroup (now (items .entry)) rules strings i r ⌝ }
-{
-    let count = rules + strings;
-    let length = items::length_of(items, count, i);
-    let mut from = items::mark_of(items, count, i);
-    while from < length {
-        let to = entry_list::group_end(items, count, i, from, length);
-        if entry_list::entry_of(items, rules, strings, i, from, to - from) == 0 {
-            return Found::At(from);
-        }
-        from = to;
-    }
-    Found::Nothing
-}
-
-// The first rule and group without an entry.
-fn find_bare(items: &[u8], rules: usize, strings: usize) -> EntryFault
-    requires { ⌜ Shaped (now items) (rules + strings) ⌝ }
-    requires { ⌜ (rules ≤ 127) × (strings ≤ 127) ⌝ }
-    ensures { λ r. ⌜ BareIs (now (items .entry)) rules strings r ⌝ }
-    ensures { λ r. ⌜ ((g : Grammar) (t : Table) → EntryFaultIs g t r) ⌝ }
-{
-    let count = rules + strings;
-    let mut i = 1;
-    while i <= rules {
-        let found = find_group(items, rules, strings, i);
-        if let Found::At(from) = found {
-            let length = items::length_of(items, count, i);
-            return EntryFault::Bare(
-                i,
-                from,
-                entry_list::group_end(items, count, i, from, length),
-            );
-        }
-        i += 1;
-    }
-    EntryFault::Nothing
-}
-
-// What is wrong with the list of entries.
-pub fn find_entry_fault(items: &[u8], rules: usize, strings: usize, goal: usize) -> EntryFault
-    requires { ⌜ Shaped (now items) (rules + strings) ⌝ }
-    requires { ⌜ (rules ≤ 127) × (1 ≤ strings) × (strings ≤ 127) ⌝ }
-    ensures { λ r. ⌜ BareIs (now (items .entry)) rules strings r ⌝ }
-    ensures { λ r. ⌜ ((g : Grammar) (t : Table) → HoldsStrings g t (now (items .entry)) rules strings → g .goal ≡ goal → EntryFaultIs g t r) ⌝ }
-{
-    if !entry_list::is_goal(items, rules + strings, rules + 1, goal) {
-        return EntryFault::NotGoal;
-    }
-    let mut uses = [0u8; 2048];
-    let mut wanted = [0u8; 128];
-    if !entry_list::fill_rules(items, rules, strings, &mut uses, &mut wanted) {
-        return find_bare(items, rules, strings);
-    }
-    let unwanted = fixpoint::lowest_unset(&wanted, 2, strings + 1);
-    match unwanted {
-        Found::At(k) => EntryFault::Unwanted(k),
-        Found::Nothing => EntryFault::Nothing,
-    }
 }
 
 // The first entry whose state q is, and whose item q does not have alone.

@@ -1,7 +1,6 @@
 -- How a rule's row of entries is filled, group by group.
 use Prim.Native.Nat.{ℕ, zero, suc, _+_, _-_, _*_, _≤_, _<_}
 use mathlib.Core.Path.{_≡_, refl, sym, ap, subst, _∙_}
-use mathlib.Core.Bool.{true, false, false≢true}
 use mathlib.Core.Logic.{_⊎_, inl, inr}
 use mathlib.Core.List.{List, [], _∷_, _++_, map, map-append, append-assoc, append-nil}
 use mathlib.Core.Option.{some}
@@ -16,9 +15,9 @@ use Rattle.leftcorner.specs.Construction.{EntryAt, of-group}
 use Rattle.items.specs.Layout.{lengthAt, markAt}
 use Rattle.fixpoint.specs.Flags.{On}
 use Rattle.fixpoint.proofs.CountLaws.{on-set, only-set, keep-set}
-use Rattle.fixpoint.proofs.PassLaws.{is-yes, is-no}
 use Rattle.entry_list.specs.Parts.{FindsEntry, GroupEnd}
-use Rattle.entry_list.specs.Uses.{HoldsStrings, AllEntered, WantedEntry, FilledRule}
+use Rattle.entry_list.specs.declared.EntryFault.{EntryFault}
+use Rattle.entry_list.specs.Uses.{HoldsStrings, WantedEntry, FilledRule}
 use Rattle.entry_list.proofs.GroupLaws.{baseOf, base-more, Current, current, none-left}
 use Rattle.entry_list.proofs.PartLaws.{found-entry, found-number, found-none}
 
@@ -89,13 +88,25 @@ module _ (g : Grammar) (t : Table) where
       finds : FindsEntry items rules strings i (baseOf r (F .done)) (to - from) x
       finds = subst (λ (f : ℕ). FindsEntry items rules strings i f (to - from) x) (F .place) E
 
-      missing : x ≡ 0 → AllEntered g t r → ⊥
-      missing z all = let e = all (c .group) (c .is-group) in
-          found-none g t S i r is-rule (F .done) (c .group) (c .others) (c .split) width finds z (e .0) (e .2)
-
-      pub filling-fails : x ≡ 0 → FilledRule g t i r uses₀ uses wanted₀ wanted false
-      filling-fails z = record
-          { decides = is-no _ (missing z); row = λ e. absurd (false≢true e); outside = F .outside; flagged = λ e. absurd (false≢true e); kept = F .kept; only = F .only }
+      pub filling-fails : x ≡ 0 → FilledRule g t i r uses₀ uses wanted₀ wanted (EntryFault.Bare i from to)
+      filling-fails z = record {
+        fault = record {
+          is = record {
+            rule = r;
+            is-rule = is-rule;
+            earlier = F .done;
+            group = c .group;
+            later = c .others;
+            split = c .split;
+            begins = F .place;
+            ends = omega (arith, c .end, F .place);
+            none = λ k s e. found-none g t S i r is-rule (F .done) (c .group) (c .others) (c .split) width finds z k e;
+          };
+        };
+        outside = F .outside;
+        kept = F .kept;
+        only = F .only;
+      }
 
       module _ (some-entry : x ≡ 0 → ⊥) (few : j < 16) (low : i ≤ 127) (room : length uses ≡ 2048) (flags : length wanted ≡ 128) (low-entry : x < 128) where
         entry : (s : ℕ) × EntryAt g t x s (c .group)
@@ -146,15 +157,19 @@ module _ (g : Grammar) (t : Table) where
 
     -- nothing is left
     pub filling-ends : {uses₀ uses wanted₀ wanted : List ℕ} {from j : ℕ} → Filling i r uses₀ uses wanted₀ wanted from j → lengthAt items i ≤ from
-        → FilledRule g t i r uses₀ uses wanted₀ wanted true
+        → FilledRule g t i r uses₀ uses wanted₀ wanted EntryFault.Nothing
     filling-ends F l =
         let none = none-left (S .formed .formed i is-rule) (S .holds-items .rule-row i is-rule) (F .done) (F .todo) (F .split) (F .place) l in
         let all : r .groups ≡ F .done = F .split ∙ (ap (λ (d : List (List ℕ)). F .done ++ d) none ∙ append-nil (F .done)) in
         record {
-          decides = is-yes _ (λ γ m. F .entered γ (subst (In γ) all m));
-          row = λ b n h. F .row n h ∙ ap (λ (d : List (List ℕ)). getD (map number d) n 0) (sym all);
+          fault = record {
+            is = record {
+              entered = λ γ m. F .entered γ (subst (In γ) all m);
+              row = λ n h. F .row n h ∙ ap (λ (d : List (List ℕ)). getD (map number d) n 0) (sym all);
+              flagged = λ γ m. F .flagged γ (subst (In γ) all m);
+            };
+          };
           outside = F .outside;
-          flagged = λ b γ m. F .flagged γ (subst (In γ) all m);
           kept = F .kept;
           only = F .only;
         }

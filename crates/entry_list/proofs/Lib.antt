@@ -1,4 +1,5 @@
 pub mod GroupLaws
 pub mod PartLaws
+pub mod FaultLaws
 pub mod FillLaws
 pub mod ListLaws

@@ -1,7 +1,6 @@
 -- The rows of all rules, and the entry list that they make.
 use Prim.Native.Nat.{ℕ, _+_, _*_, _≤_, _<_}
 use mathlib.Core.Path.{_≡_, sym, ap, subst, _∙_}
-use mathlib.Core.Bool.{Bool, true, false, false≢true}
 use mathlib.Core.Logic.{_⊎_, inl, inr}
 use mathlib.Core.List.{List, [], _∷_}
 use mathlib.Core.Option.{some}
@@ -18,10 +17,13 @@ use Rattle.items.specs.Layout.{lengthAt, symbolAt}
 use Rattle.fixpoint.specs.Flags.{On, Off}
 use Rattle.fixpoint.specs.Lowest.{Lowest}
 use Rattle.fixpoint.specs.declared.Found.{Found}
-use Rattle.fixpoint.proofs.PassLaws.{is-yes, is-no, all-off, none-on}
+use Rattle.fixpoint.proofs.PassLaws.{all-off, none-on}
 use Rattle.memory.proofs.RangeLaws.{entry-at, entry-range}
-use Rattle.entry_list.specs.Uses.{HoldsStrings, HoldsUses, entriesOf, AllEntered, WantedEntry, FilledRule, Filled, FilledAll}
+use Rattle.entry_list.specs.declared.EntryFault.{EntryFault}
+use Rattle.entry_list.specs.Faults.{UnwantedEntry, EntryFaultIs}
+use Rattle.entry_list.specs.Uses.{HoldsStrings, HoldsUses, entriesOf, AllEntered, WantedEntry, RowFilled, FilledRule, Filled}
 use Rattle.entry_list.proofs.PartLaws.{entry-row}
+use Rattle.entry_list.proofs.FaultLaws.{fine, still}
 
 module _ (g : Grammar) (t : Table) {items : List ℕ} {rules strings : ℕ} (S : HoldsStrings g t items rules strings) where
   rule-low : (j : ℕ) {r : Rule} → ruleAt g j ≡ some r → j < rules + 1
@@ -34,9 +36,9 @@ module _ (g : Grammar) (t : Table) {items : List ℕ} {rules strings : ℕ} (S :
       none : (j : ℕ) {r : Rule} → j < 1 → ruleAt g j ≡ some r → ⊥
       none j l e = omega (arith, l, rule-range g j e .0)
 
-  module _ {i : ℕ} {uses uses′ wanted₀ wanted wanted′ : List ℕ} {b : Bool} (low : 1 ≤ i) (high : i ≤ rules) (F : Filled g t i uses wanted₀ wanted)
-      (R : (r : Rule) → ruleAt g i ≡ some r → ((n : ℕ) → n < 16 → getD uses (i * 16 + n) 0 ≡ 0) → FilledRule g t i r uses uses′ wanted wanted′ b) where
-    here : (r : Rule) → ruleAt g i ≡ some r → FilledRule g t i r uses uses′ wanted wanted′ b
+  module _ {i : ℕ} {uses uses′ wanted₀ wanted wanted′ : List ℕ} {x : EntryFault} (low : 1 ≤ i) (high : i ≤ rules) (F : Filled g t i uses wanted₀ wanted)
+      (R : (r : Rule) → ruleAt g i ≡ some r → ((n : ℕ) → n < 16 → getD uses (i * 16 + n) 0 ≡ 0) → FilledRule g t i r uses uses′ wanted wanted′ x) where
+    here : (r : Rule) → ruleAt g i ≡ some r → FilledRule g t i r uses uses′ wanted wanted′ x
     here r e = R r e (λ n l. F .rest (i * 16 + n) (omega arith))
 
     this : (r : Rule) × (ruleAt g i ≡ some r)
@@ -50,35 +52,36 @@ module _ (g : Grammar) (t : Table) {items : List ℕ} {rules strings : ℕ} (S :
         go (yes e) = subst P (sym e) p
         go (no n) = f (omega arith)
 
-    pub filled-more : b ≡ true → Filled g t (i + 1) uses′ wanted₀ wanted′
-    filled-more yes-it = record {
+    pub filled-more : x ≡ EntryFault.Nothing → Filled g t (i + 1) uses′ wanted₀ wanted′
+    filled-more none = record {
       row = λ j r l. by-rule (λ (k : ℕ). ruleAt g k ≡ some r → (n : ℕ) → n < 16 → getD uses′ (k * 16 + n) 0 ≡ getD (entriesOf t r) n 0) j l
-          (λ below e n h. same (j * 16 + n) (λ a c. omega (arith, below, h, a)) ∙ F .row j r below e n h) (λ e. here r e .row yes-it);
-      rest = λ x l. same x (λ a c. omega (arith, l, c)) ∙ F .rest x (omega arith);
-      entered = λ j r l. by-rule (λ (k : ℕ). ruleAt g k ≡ some r → AllEntered g t r) j l (F .entered j r) (λ e. here r e .decides .yes yes-it);
+          (λ below e n h. same (j * 16 + n) (λ a c. omega (arith, below, h, a)) ∙ F .row j r below e n h) (λ e. new r e .row);
+      rest = λ y l. same y (λ a c. omega (arith, l, c)) ∙ F .rest y (omega arith);
+      entered = λ j r l. by-rule (λ (k : ℕ). ruleAt g k ≡ some r → AllEntered g t r) j l (F .entered j r) (λ e. new r e .entered);
       flagged = λ j r l. by-rule (λ (k : ℕ). ruleAt g k ≡ some r → (γ : List ℕ) → In γ (r .groups) → On wanted′ (entryFrom 1 (t .entries) γ)) j l
-          (λ below e γ m. it .kept (entryFrom 1 (t .entries) γ) (F .flagged j r below e γ m)) (λ e. here r e .flagged yes-it);
+          (λ below e γ m. it .kept (entryFrom 1 (t .entries) γ) (F .flagged j r below e γ m)) (λ e. new r e .flagged);
       only = λ k o. back k (it .only k o);
     }
       where
-        it : FilledRule g t i (this .0) uses uses′ wanted wanted′ b
+        it : FilledRule g t i (this .0) uses uses′ wanted wanted′ x
         it = here (this .0) (this .1)
 
-        same : (x : ℕ) → (i * 16 ≤ x → x < i * 16 + 16 → ⊥) → getD uses′ x 0 ≡ getD uses x 0
+        new : (r : Rule) → ruleAt g i ≡ some r → RowFilled g t i r uses′ wanted′
+        new r e = fine (here r e .fault) none
+
+        same : (y : ℕ) → (i * 16 ≤ y → y < i * 16 + 16 → ⊥) → getD uses′ y 0 ≡ getD uses y 0
         same = it .outside
 
         back : (k : ℕ) → On wanted k ⊎ WantedEntry g t k → On wanted₀ k ⊎ WantedEntry g t k
         back k (inl o) = F .only k o
         back k (inr w) = inr w
 
-    pub filled-fails : b ≡ false → FilledAll g t rules uses′ wanted₀ wanted′ false
-    filled-fails no-it = record
-        { decides = is-no _ (λ all. here (this .0) (this .1) .decides .no no-it (all i (this .0) (this .1))); filled = λ e. absurd (false≢true e) }
+    pub filled-fails : (x ≡ EntryFault.Nothing → ⊥) → {Fine : Type 0} → EntryFaultIs g t Fine x
+    filled-fails named = still x named (here (this .0) (this .1) .fault)
 
-  pub filled-all : {i : ℕ} {uses wanted₀ wanted : List ℕ} → i ≡ rules + 1 → Filled g t i uses wanted₀ wanted → FilledAll g t rules uses wanted₀ wanted true
-  filled-all {i} {uses} {wanted₀} {wanted} e F =
-      let f : Filled g t (rules + 1) uses wanted₀ wanted = subst (λ (k : ℕ). Filled g t k uses wanted₀ wanted) e F in
-      record { decides = is-yes _ (λ j r h. f .entered j r (rule-low j h) h); filled = λ _. f }
+  pub filled-all : {i : ℕ} {uses wanted₀ wanted : List ℕ} → i ≡ rules + 1 → Filled g t i uses wanted₀ wanted
+      → EntryFaultIs g t (Filled g t (rules + 1) uses wanted₀ wanted) EntryFault.Nothing
+  filled-all {uses = uses} {wanted₀ = wanted₀} {wanted = wanted} e F = record { is = subst (λ (k : ℕ). Filled g t k uses wanted₀ wanted) e F }
 
   -- ---- the entry list
   abbrev pub GoalFirst : Type 0
@@ -97,14 +100,14 @@ module _ (g : Grammar) (t : Table) {items : List ℕ} {rules strings : ℕ} (S :
           let w = entry-row g t S 1 e in
           (s, e ∙ ap (λ (m : List ℕ). some (E s m)) (one-symbol γ (sym (w .length-is) ∙ h .0) (sym (w .symbol-is 0 (omega arith)) ∙ h .1)))
 
-  pub entry-goal : EntriesMeet g t → GoalFirst
-  entry-goal m = let w = entry-row g t S 1 (m .goal-first .1) in (w .length-is, w .symbol-is 0 (omega arith))
+  pub entry-goal : {s : ℕ} → EntryAt g t 1 s (g .goal ∷ []) → GoalFirst
+  entry-goal e = let w = entry-row g t S 1 e in (w .length-is, w .symbol-is 0 (omega arith))
 
   same-entry : (k : ℕ) {s u : ℕ} {γ δ : List ℕ} → EntryAt g t k s γ → EntryAt g t k u δ → γ ≡ δ
   same-entry k e f = cc
 
   -- an entry after the goal's that is not flagged is neither the goal nor a group
-  pub unwanted : {uses wanted₀ wanted : List ℕ} {u x s : ℕ} {γ : List ℕ} → EntryAt g t 1 u (g .goal ∷ []) → Filled g t (rules + 1) uses wanted₀ wanted → 2 ≤ x → Off wanted x
+  unwanted : {uses wanted₀ wanted : List ℕ} {u x s : ℕ} {γ : List ℕ} → EntryAt g t 1 u (g .goal ∷ []) → Filled g t (rules + 1) uses wanted₀ wanted → 2 ≤ x → Off wanted x
       → EntryAt g t x s γ → Wanted g γ → ⊥
   unwanted {u = u} {x = x} {s = s} {γ = γ} a F two off e (of-goal f) =
       let z : 1 ≡ x = S .fits .form .one-entry 1 x u s γ (subst (EntryAt g t 1 u) (sym f) a) e in
@@ -114,15 +117,15 @@ module _ (g : Grammar) (t : Table) {items : List ℕ} {rules strings : ℕ} (S :
 
   module _ {uses wanted₀ wanted : List ℕ} (none : wanted₀ ≡ replicate 128 0) where
     pub entries-hold : 1 ≤ strings → GoalFirst → Filled g t (rules + 1) uses wanted₀ wanted
-        → (r : Found) → Lowest (Off wanted) 2 (strings + 1) r → r ≡ Found.Nothing → EntriesMeet g t
-    entries-hold some-entry h F r found is-r = record {
+        → (high : ℕ) → strings < high → (r : Found) → Lowest (Off wanted) 2 high r → r ≡ Found.Nothing → EntriesMeet g t
+    entries-hold some-entry h F high all r found is-r = record {
       goal-first = first;
       only-wanted = λ k s γ e. only-it k e (ℕ-discrete k 1);
       all-wanted = λ γ w. all-it w;
     }
       where
-        low : Lowest (Off wanted) 2 (strings + 1) Found.Nothing
-        low = subst (Lowest (Off wanted) 2 (strings + 1)) is-r found
+        low : Lowest (Off wanted) 2 high Found.Nothing
+        low = subst (Lowest (Off wanted) 2 high) is-r found
 
         first : (s : ℕ) × EntryAt g t 1 s (g .goal ∷ [])
         first = goal-entry some-entry h
@@ -135,24 +138,27 @@ module _ (g : Grammar) (t : Table) {items : List ℕ} {rules strings : ℕ} (S :
         only-it k {s} {γ} e (yes f) = of-goal (same-entry 1 (subst (λ (j : ℕ). EntryAt g t j s γ) f e) (first .1))
         only-it k e (no f) =
             let b = entry-range t (S .entry-count) k e in
-            from-flag k e (F .only k (record { nonzero = λ z. low k (omega (arith, b .0, f)) (b .1) z }))
+            from-flag k e (F .only k (record { nonzero = λ z. low k (omega (arith, b .0, f)) (omega (arith, b .1, all)) z }))
 
         all-it : {γ : List ℕ} → Wanted g γ → (k : ℕ) × (s : ℕ) × EntryAt g t k s γ
         all-it (of-goal e) = (1, first .0, subst (EntryAt g t 1 (first .0)) (sym e) (first .1))
         all-it {γ} (of-group i {r = r} e m) = F .entered i r (rule-low i e) e γ m
 
-    pub entries-fail : EntriesMeet g t → Filled g t (rules + 1) uses wanted₀ wanted → (r : Found) → Lowest (Off wanted) 2 (strings + 1) r → {x : ℕ} → r ≡ Found.At x → ⊥
-    entries-fail m F r found {x} is-r = let low : Lowest (Off wanted) 2 (strings + 1) (Found.At x) = subst (Lowest (Off wanted) 2 (strings + 1)) is-r found in
-        go low (entry-at t (S .entry-count) x (omega (arith, low .0)) (low .1))
+    pub entry-unwanted : {u : ℕ} → EntryAt g t 1 u (g .goal ∷ []) → Filled g t (rules + 1) uses wanted₀ wanted
+        → (high : ℕ) → high ≤ strings + 1 → (r : Found) → Lowest (Off wanted) 2 high r → {x : ℕ} → r ≡ Found.At x → UnwantedEntry g t x
+    entry-unwanted first F high few r found {x} is-r = go (entry-at t (S .entry-count) x (omega (arith, low .0)) (omega (arith, low .1, few)))
       where
-        go : Lowest (Off wanted) 2 (strings + 1) (Found.At x) → (y : EntryLine) × (entryAt t x ≡ some y) → ⊥
-        go low (E s γ, e) = unwanted (m .goal-first .1) F (low .0) (low .2) e (m .only-wanted x s γ e)
+        low : Lowest (Off wanted) 2 high (Found.At x)
+        low = subst (Lowest (Off wanted) 2 high) is-r found
 
-  pub meets-entered : EntriesMeet g t → (i : ℕ) (r : Rule) → ruleAt g i ≡ some r → AllEntered g t r
-  meets-entered m i r e γ n = m .all-wanted γ (of-group i e n)
+        go : (y : EntryLine) × (entryAt t x ≡ some y) → UnwantedEntry g t x
+        go (E s γ, e) = record { not-first = low .0; state = s; string = γ; is-entry = e; unwanted = unwanted first F (low .0) (low .2) e }
 
   pub uses-hold : {uses wanted₀ wanted : List ℕ} → Filled g t (rules + 1) uses wanted₀ wanted → HoldsUses uses g t
   uses-hold F = record { row = λ i r e. F .row i r (rule-low i e) e }
 
 pub zeros-of : {l : List ℕ} (n : ℕ) → l ≡ replicate n 0 → (x : ℕ) → getD l x 0 ≡ 0
 zeros-of n e x = ap (λ (m : List ℕ). getD m x 0) e ∙ none-on n x
+
+pub lowest-range : (P : ℕ → Type 0) (low high : ℕ) (r : Found) {x : ℕ} → Lowest P low high r → r ≡ Found.At x → (low ≤ x) × (x < high)
+lowest-range P low high r found e = let h = subst (Lowest P low high) e found in (h .0, h .1)

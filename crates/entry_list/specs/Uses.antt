@@ -1,7 +1,6 @@
 -- The entries that a rule's groups use.
 use Prim.Native.Nat.{ℕ, _+_, _*_, _≤_, _<_}
 use mathlib.Core.Path.{_≡_}
-use mathlib.Core.Bool.{Bool, true}
 use mathlib.Core.Logic.{_⊎_}
 use mathlib.Core.List.{List, map}
 use mathlib.Core.Option.{some}
@@ -11,10 +10,12 @@ use Rattle.language.specs.Sentence.{In}
 use Rattle.language.specs.WellFormed as language
 use Rattle.leftcorner.specs.Table.{Table, entryFrom}
 use Rattle.leftcorner.specs.Construction.{EntryAt, Wanted}
-use Rattle.fixpoint.specs.Flags.{On, Decides}
+use Rattle.fixpoint.specs.Flags.{On}
 use Rattle.memory.specs.Memory.{HoldsItems}
 use Rattle.memory.specs.Fits.{Fits}
 use Rattle.memory.specs.Held.{Held}
+use Rattle.entry_list.specs.declared.EntryFault.{EntryFault}
+use Rattle.entry_list.specs.Faults.{EntryFaultIs}
 
 -- a grammar and a table whose items stand in memory
 pub record HoldsStrings (g : Grammar) (t : Table) (items : List ℕ) (rules strings : ℕ) : Type 0 where
@@ -47,12 +48,16 @@ pub record WantedEntry (g : Grammar) (t : Table) (k : ℕ) : Type 0 where
   pub is-entry : EntryAt g t k state string
   pub wanted : Wanted g string
 
--- one rule's row is filled and its entries are flagged, or a group has no entry
-pub record FilledRule (g : Grammar) (t : Table) (i : ℕ) (r : Rule) (uses₀ uses wanted₀ wanted : List ℕ) (b : Bool) : Type 0 where
-  pub decides : Decides (AllEntered g t r) b
-  pub row : b ≡ true → (n : ℕ) → n < 16 → getD uses (i * 16 + n) 0 ≡ getD (entriesOf t r) n 0
+-- rule i's groups have entries, which are noted and flagged
+pub record RowFilled (g : Grammar) (t : Table) (i : ℕ) (r : Rule) (uses wanted : List ℕ) : Type 0 where
+  pub entered : AllEntered g t r
+  pub row : (n : ℕ) → n < 16 → getD uses (i * 16 + n) 0 ≡ getD (entriesOf t r) n 0
+  pub flagged : (γ : List ℕ) → In γ (r .groups) → On wanted (entryFrom 1 (t .entries) γ)
+
+-- a group without an entry, or the row of rule i is filled; the other rows are as they were
+pub record FilledRule (g : Grammar) (t : Table) (i : ℕ) (r : Rule) (uses₀ uses wanted₀ wanted : List ℕ) (x : EntryFault) : Type 0 where
+  pub fault : EntryFaultIs g t (RowFilled g t i r uses wanted) x
   pub outside : (x : ℕ) → (i * 16 ≤ x → x < i * 16 + 16 → ⊥) → getD uses x 0 ≡ getD uses₀ x 0
-  pub flagged : b ≡ true → (γ : List ℕ) → In γ (r .groups) → On wanted (entryFrom 1 (t .entries) γ)
   pub kept : (k : ℕ) → On wanted₀ k → On wanted k
   pub only : (k : ℕ) → On wanted k → On wanted₀ k ⊎ WantedEntry g t k
 
@@ -63,7 +68,3 @@ pub record Filled (g : Grammar) (t : Table) (i : ℕ) (uses wanted₀ wanted : L
   pub entered : (j : ℕ) (r : Rule) → j < i → ruleAt g j ≡ some r → AllEntered g t r
   pub flagged : (j : ℕ) (r : Rule) → j < i → ruleAt g j ≡ some r → (γ : List ℕ) → In γ (r .groups) → On wanted (entryFrom 1 (t .entries) γ)
   pub only : (k : ℕ) → On wanted k → On wanted₀ k ⊎ WantedEntry g t k
-
-pub record FilledAll (g : Grammar) (t : Table) (rules : ℕ) (uses wanted₀ wanted : List ℕ) (b : Bool) : Type 0 where
-  pub decides : Decides ((i : ℕ) (r : Rule) → ruleAt g i ≡ some r → AllEntered g t r) b
-  pub filled : b ≡ true → Filled g t (rules + 1) uses wanted₀ wanted

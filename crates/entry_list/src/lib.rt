@@ -13,7 +13,19 @@ ghost use Rattle.leftcorner.specs.Construction.{EntriesMeet};
 ghost use Rattle.items.specs.Layout.{Shaped, lengthAt, symbolAt};
 ghost use Rattle.fixpoint.specs.Flags.{Decides};
 ghost use Rattle.entry_list.specs.Parts.{SamePart, FindsEntry, GroupEnd};
-ghost use Rattle.entry_list.specs.Uses.{HoldsStrings, HoldsUses, FilledRule, FilledAll};
+ghost use Rattle.entry_list.specs.Faults.{EntryFaultIs, InRange};
+ghost use Rattle.entry_list.specs.Uses.{HoldsStrings, HoldsUses, FilledRule, Filled};
+
+// Why the list of entries is not that of the construction.
+pub enum EntryFault {
+    // The first entry is not the goal alone.
+    NotGoal,
+    // A rule, and where its group without an entry begins and ends.
+    Bare(usize, usize, usize),
+    // An entry that is neither the goal nor a group.
+    Unwanted(usize),
+    Nothing,
+}
 
 // Whether item e's string is n symbols of item i, from `from` on.
 fn same_part(items: &[u8], count: usize, i: usize, from: usize, n: usize, e: usize) -> bool
@@ -37,14 +49,7 @@ fn same_part(items: &[u8], count: usize, i: usize, from: usize, n: usize, e: usi
 }
 
 // The number of an entry with that string; 0 where there is none.
-pub fn entry_of(
-    items: &[u8],
-    rules: usize,
-    strings: usize,
-    i: usize,
-    from: usize,
-    n: usize,
-) -> usize
+fn entry_of(items: &[u8], rules: usize, strings: usize, i: usize, from: usize, n: usize) -> usize
     requires { ⌜ Shaped (now items) (rules + strings) ⌝ }
     requires { ⌜ (i ≤ rules) × (rules ≤ 127) × (strings ≤ 127) × (from + n ≤ 15) ⌝ }
     ensures { λ r. ⌜ FindsEntry (now (items .entry)) rules strings i from n r ⌝ }
@@ -76,7 +81,7 @@ pub fn group_end(items: &[u8], count: usize, i: usize, from: usize, length: usiz
     length
 }
 
-// Notes the entries that the groups of rule i use, and flags those entries; whether each group has one.
+// Notes the entries that the groups of rule i use, and flags those entries; the first group that has none.
 fn fill_rule(
     items: &[u8],
     rules: usize,
@@ -84,13 +89,13 @@ fn fill_rule(
     i: usize,
     uses: &mut [u8],
     wanted: &mut [u8],
-) -> bool
+) -> EntryFault
     requires { ⌜ Shaped (now items) (rules + strings) ⌝ }
-    requires { ⌜ (i ≤ rules) × (rules ≤ 127) × (strings ≤ 127) ⌝ }
+    requires { ⌜ (1 ≤ i) × (i ≤ rules) × (rules ≤ 127) × (strings ≤ 127) ⌝ }
     requires { ⌜ (length (now uses) ≡ 2048) × (length (now wanted) ≡ 128) ⌝ }
-    ensures { λ b. ⌜ (length (now (uses .exit)) ≡ 2048) × (length (now (wanted .exit)) ≡ 128) ⌝ }
-    ensures { λ b. ⌜ ((g : Grammar) (t : Table) (r : Rule) → HoldsStrings g t (now (items .entry)) rules strings → ruleAt g i ≡ some r → ((n : ℕ) → n < 16 → getD (now (uses .entry)) (i * 16 + n) 0 ≡ 0)
-        → FilledRule g t i r (now (uses .entry)) (now (uses .exit)) (now (wanted .entry)) (now (wanted .exit)) b) ⌝ }
+    ensures { λ f. ⌜ (length (now (uses .exit)) ≡ 2048) × (length (now (wanted .exit)) ≡ 128) × InRange rules strings f ⌝ }
+    ensures { λ f. ⌜ ((g : Grammar) (t : Table) (r : Rule) → HoldsStrings g t (now (items .entry)) rules strings → ruleAt g i ≡ some r → ((n : ℕ) → n < 16 → getD (now (uses .entry)) (i * 16 + n) 0 ≡ 0)
+        → FilledRule g t i r (now (uses .entry)) (now (uses .exit)) (now (wanted .entry)) (now (wanted .exit)) f) ⌝ }
 {
     let count = rules + strings;
     let length = items::length_of(items, count, i);
@@ -100,39 +105,40 @@ fn fill_rule(
         let to = group_end(items, count, i, from, length);
         let e = entry_of(items, rules, strings, i, from, to - from);
         if e == 0 {
-            return false;
+            return EntryFault::Bare(i, from, to);
         }
         uses[i * 16 + j] = e as u8;
         wanted[e] = 1;
         from = to;
         j += 1;
     }
-    true
+    EntryFault::Nothing
 }
 
 // Does so for every rule.
-pub fn fill_rules(
+fn fill_rules(
     items: &[u8],
     rules: usize,
     strings: usize,
     uses: &mut [u8],
     wanted: &mut [u8],
-) -> bool
+) -> EntryFault
     requires { ⌜ Shaped (now items) (rules + strings) ⌝ }
     requires { ⌜ (rules ≤ 127) × (strings ≤ 127) ⌝ }
     requires { ⌜ (length (now uses) ≡ 2048) × (length (now wanted) ≡ 128) ⌝ }
-    ensures { λ b. ⌜ (length (now (uses .exit)) ≡ 2048) × (length (now (wanted .exit)) ≡ 128) ⌝ }
-    ensures { λ b. ⌜ ((g : Grammar) (t : Table) → HoldsStrings g t (now (items .entry)) rules strings → ((x : ℕ) → getD (now (uses .entry)) x 0 ≡ 0)
-        → FilledAll g t rules (now (uses .exit)) (now (wanted .entry)) (now (wanted .exit)) b) ⌝ }
+    ensures { λ f. ⌜ (length (now (uses .exit)) ≡ 2048) × (length (now (wanted .exit)) ≡ 128) × InRange rules strings f ⌝ }
+    ensures { λ f. ⌜ ((g : Grammar) (t : Table) → HoldsStrings g t (now (items .entry)) rules strings → ((x : ℕ) → getD (now (uses .entry)) x 0 ≡ 0)
+        → EntryFaultIs g t (Filled g t (rules + 1) (now (uses .exit)) (now (wanted .entry)) (now (wanted .exit))) f) ⌝ }
 {
     let mut i = 1;
     while i <= rules {
-        if !fill_rule(items, rules, strings, i, uses, wanted) {
-            return false;
-        }
+        let fault = fill_rule(items, rules, strings, i, uses, wanted);
+        let EntryFault::Nothing = fault else {
+            return fault;
+        };
         i += 1;
     }
-    true
+    EntryFault::Nothing
 }
 
 // Notes at rule * 16 + group the number of each group's entry, where the entries are those of the construction.
@@ -147,7 +153,7 @@ pub fn note_uses(items: &[u8], rules: usize, strings: usize, uses: &mut [u8])
 }
 
 // Whether item i's string is the goal alone.
-pub fn is_goal(items: &[u8], count: usize, i: usize, goal: usize) -> bool
+fn is_goal(items: &[u8], count: usize, i: usize, goal: usize) -> bool
     requires { ⌜ Shaped (now items) count ⌝ }
     requires { ⌜ i ≤ count ⌝ }
     ensures { λ b. ⌜ Decides ((lengthAt (now (items .entry)) i ≡ 1) × (symbolAt (now (items .entry)) i 0 ≡ goal)) b ⌝ }
@@ -161,7 +167,37 @@ pub fn is_goal(items: &[u8], count: usize, i: usize, goal: usize) -> bool
     true
 }
 
-// Whether the entries are those of the construction; if so, notes at rule * 16 + group the number of each group's entry.
+// Why the entries are not those of the construction; if nothing is wrong, notes at rule * 16 + group the number of each group's entry.
+pub fn find_entry_fault(
+    items: &[u8],
+    rules: usize,
+    strings: usize,
+    goal: usize,
+    uses: &mut [u8],
+) -> EntryFault
+    requires { ⌜ Shaped (now items) (rules + strings) ⌝ }
+    requires { ⌜ (rules ≤ 127) × (1 ≤ strings) × (strings ≤ 127) ⌝ }
+    requires { ⌜ now uses ≡ replicate 2048 0 ⌝ }
+    ensures { λ f. ⌜ (length (now (uses .exit)) ≡ 2048) × InRange rules strings f ⌝ }
+    ensures { λ f. ⌜ ((g : Grammar) (t : Table) → HoldsStrings g t (now (items .entry)) rules strings → g .goal ≡ goal
+        → EntryFaultIs g t (EntriesMeet g t × HoldsUses (now (uses .exit)) g t) f) ⌝ }
+{
+    let mut wanted = [0u8; 128];
+    if !is_goal(items, rules + strings, rules + 1, goal) {
+        return EntryFault::NotGoal;
+    }
+    let fault = fill_rules(items, rules, strings, uses, &mut wanted);
+    let EntryFault::Nothing = fault else {
+        return fault;
+    };
+    let unwanted = fixpoint::lowest_unset(&wanted, 2, strings + 1);
+    match unwanted {
+        Found::At(k) => EntryFault::Unwanted(k),
+        Found::Nothing => EntryFault::Nothing,
+    }
+}
+
+// Whether the entries are those of the construction; if so, notes the entries of the groups.
 pub fn entries_meet(
     items: &[u8],
     rules: usize,
@@ -176,16 +212,9 @@ pub fn entries_meet(
     ensures { λ b. ⌜ ((g : Grammar) (t : Table) → HoldsStrings g t (now (items .entry)) rules strings → g .goal ≡ goal
         → Decides (EntriesMeet g t) b × (b ≡ true → HoldsUses (now (uses .exit)) g t)) ⌝ }
 {
-    let mut wanted = [0u8; 128];
-    if !is_goal(items, rules + strings, rules + 1, goal) {
+    let fault = find_entry_fault(items, rules, strings, goal, uses);
+    let EntryFault::Nothing = fault else {
         return false;
-    }
-    if !fill_rules(items, rules, strings, uses, &mut wanted) {
-        return false;
-    }
-    let unwanted = fixpoint::lowest_unset(&wanted, 2, strings + 1);
-    match unwanted {
-        Found::At(_) => false,
-        Found::Nothing => true,
-    }
+    };
+    true
 }

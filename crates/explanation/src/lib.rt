@@ -1,8 +1,8 @@
 // Refusals in words: the line, the item, the code, the actions.
 // Inner: for the programs that explain.
 use conflicts::Conflict;
-use details::EntryFault;
 use details::ItemFault;
+use entry_list::EntryFault;
 use fixpoint::Found;
 use missing_lookaheads::Lack;
 use program::print_count;
@@ -197,7 +197,8 @@ fn explain_entries(items: &[u8], rules: usize, strings: usize, goal: usize)
     requires { ⌜ Shaped (now items) (rules + strings) ⌝ }
     requires { ⌜ (rules ≤ 127) × (1 ≤ strings) × (strings ≤ 127) ⌝ }
 {
-    let fault = details::find_entry_fault(items, rules, strings, goal);
+    let mut uses = [0u8; 2048];
+    let fault = entry_list::find_entry_fault(items, rules, strings, goal, &mut uses);
     match fault {
         EntryFault::NotGoal => print_text(b"entry 1 is not the goal alone\n"),
         EntryFault::Bare(i, from, to) => {

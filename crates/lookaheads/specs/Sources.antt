@@ -9,7 +9,7 @@ use Rattle.language.specs.Grammar.{Grammar, Rule, ruleAt, concat}
 use Rattle.language.specs.Sentence.{In}
 use Rattle.leftcorner.specs.Table.{Table, Action, nextState, Goes}
 use Rattle.leftcorner.specs.Construction.{entryItem, EntryAt, KernelAt, ActionAt, Carries, WellFormed, LookaheadsMeet}
-use Rattle.inclusions.specs.Included.{Includes}
+use Rattle.inclusions.specs.Included.{by-move, by-group, Includes}
 
 module _ (g : Grammar) (t : Table) where
   -- "The goal's entry context includes 0."
@@ -23,6 +23,10 @@ module _ (g : Grammar) (t : Table) (F : List ℕ → ℕ → ℕ → Type 0) whe
         → KernelAt g t q i (suc k) σ → In d σ
     pub of-group : (k i d c : ℕ) (γ σ : List ℕ) (r : Rule) (δs εs : List (List ℕ)) → EntryAt g t k q γ → ruleAt g i ≡ some r → r .groups ≡ δs ++ γ ∷ εs
         → Carries g t F p i (length (r .before)) d → F (concat εs) d c → KernelAt g t q (entryItem g t k) zero σ → In c σ
+
+  pub included-in : {p q i k c : ℕ} → LookaheadsFrom p q → Includes g t F p q i k c → (σ : List ℕ) → KernelAt g t q i k σ → In c σ
+  included-in L (by-move {i = i} {k = k} {c = c} {X = X} {β = β} l car go) σ m = L .of-move X i k c β σ (l .action) (l .line) (l .next) car go m
+  included-in L (by-group {i = i} {c = c} {d = d} e {γ = γ} {r = r} δs εs ent er split car f) σ m = L .of-group e i d c γ σ r δs εs ent er split car f m
 
   -- the same for the items of the states 1 .. n - 1
   pub record LookaheadsBelow (n q : ℕ) : Type 0 where

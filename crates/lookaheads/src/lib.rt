@@ -9,8 +9,9 @@ ghost use Rattle.leftcorner.specs.Table.{Table};
 ghost use Rattle.fixpoint.specs.Flags.{Decides};
 ghost use Rattle.memory.specs.Held.{Held};
 ghost use Rattle.kernel_lines.specs.Lines.{Lines, Linked};
+ghost use Rattle.analysis.specs.Adds.{Adds};
 ghost use Rattle.lookaheads.specs.Narrow.{Narrows};
-ghost use Rattle.lookaheads.specs.Memory.{Covers, StateCovers};
+ghost use Rattle.lookaheads.specs.Memory.{Covers, StateCovers, GoalAsks};
 ghost use Rattle.lookaheads.specs.Sources.{GoalMeets};
 
 fn wide(x: u8) -> usize
@@ -64,6 +65,39 @@ pub fn mark_narrow(
     }
 }
 
+// Asks code 0 of the line of the goal's entry.
+pub fn ask_goal(
+    kernels: &[u8],
+    links: &[usize],
+    entries: &[u8],
+    lines: usize,
+    count: usize,
+    rules: usize,
+    grown: &mut [u8],
+)
+    requires { ⌜ Lines (now kernels) lines count ⌝ }
+    requires { ⌜ Linked (now kernels) (now links) lines ⌝ }
+    requires { ⌜ (rules ≤ 127) × (2 ≤ length (now entries)) × (lines * 64 ≤ length (now grown)) ⌝ }
+    ensures { λ _. ⌜ Adds (GoalAsks (now (kernels .entry)) (now (entries .entry)) rules lines) (now (grown .entry)) (now (grown .exit)) ⌝ }
+{
+    let mut row = [0u8; 64];
+    row[0] = 1;
+    let s = wide(entries[1]);
+    inclusions::add_lines(
+        kernels,
+        links,
+        &row,
+        lines,
+        count,
+        1,
+        s,
+        rules + 1,
+        0,
+        0,
+        grown,
+    );
+}
+
 // Flags the state of the goal's entry where it does not have code 0.
 pub fn mark_goal(
     kernels: &[u8],
@@ -82,22 +116,7 @@ pub fn mark_goal(
     ensures { λ _. ⌜ length (now (narrow .exit)) ≡ 256 ⌝ }
     ensures { λ _. ⌜ ((g : Grammar) (t : Table) (items kinds values gotos : List ℕ) → 1 ≤ strings → Held g t items (now (entries .entry)) (now (kernels .entry)) (now (lookaheads .entry)) kinds values gotos rules strings lines → Narrows (GoalMeets g t) (now (narrow .entry)) (now (narrow .exit))) ⌝ }
 {
-    let mut row = [0u8; 64];
-    row[0] = 1;
-    let s = wide(entries[1]);
     let mut grown = [0u8; 65536];
-    inclusions::add_lines(
-        kernels,
-        links,
-        &row,
-        lines,
-        count,
-        1,
-        s,
-        rules + 1,
-        0,
-        0,
-        &mut grown,
-    );
+    ask_goal(kernels, links, entries, lines, count, rules, &mut grown);
     mark_narrow(kernels, &grown, lookaheads, lines, count, 1, narrow);
 }

@@ -2,25 +2,30 @@
 use Prim.Native.Nat.{ℕ, zero, suc, _+_, _*_, _≤_, _<_}
 use native.Mathlib.Omega.{arith}
 use mathlib.Core.Path.{_≡_, refl, sym, ap, subst, subst₂, _∙_}
-use mathlib.Core.Logic.{_⊎_, inl, inr}
 use mathlib.Core.List.{List}
 use mathlib.Core.Option.{some}
 use lib.ListN.{getD, replicate}
 use Rattle.language.specs.Grammar.{Grammar}
+use Rattle.language.specs.Sentence.{In}
 use Rattle.leftcorner.specs.Table.{EntryLine, E, Table, entryAt}
-use Rattle.leftcorner.specs.Construction.{entryItem, EntryAt}
-use Rattle.fixpoint.specs.Flags.{On, Off}
-use Rattle.fixpoint.specs.declared.Found.{Found}
-use Rattle.fixpoint.proofs.PassLaws.{all-off}
+use Rattle.leftcorner.specs.Construction.{entryItem, EntryAt, KernelAt, LookaheadsMeet}
+use Rattle.fixpoint.specs.Flags.{On}
+use Rattle.fixpoint.proofs.PassLaws.{no-gap, from-more}
 use Rattle.memory.specs.Memory.{stateAt, itemAt, dotAt}
 use Rattle.memory.specs.Held.{Held}
 use Rattle.memory.proofs.RangeLaws.{entry-at}
-use Rattle.kernel_lines.specs.Lines.{IsLine, Finds}
+use Rattle.kernel_lines.specs.Lines.{IsLine}
+use Rattle.kernel_lines.proofs.HeldLaws.{at-in}
+use Rattle.analysis.specs.FirstBy.{FirstBy}
 use Rattle.analysis.specs.Adds.{Adds}
+use Rattle.closure.proofs.ItemLaws.{line-at}
 use Rattle.inclusions.specs.Included.{Includes, FlagAsked}
 use Rattle.inclusions.proofs.FlagLaws.{flag-line}
+use Rattle.lookaheads.specs.Memory.{StateCovers, GoalAsks}
+use Rattle.lookaheads.specs.Sources.{GoalMeets, LookaheadsFrom, included-in, LookaheadsBelow, lookaheads-below}
+use Rattle.lookaheads.proofs.MeetLaws.{new-only, from-covers, goal-from}
 use Rattle.missing_lookaheads.specs.declared.Lack.{Lack}
-use Rattle.missing_lookaheads.specs.Lacks.{LackLine, LackAt, LackIn, AskedFrom, by-goal, by-state, LackIs}
+use Rattle.missing_lookaheads.specs.Lacks.{LackLine, LackAt, LackIn, AskedFrom, by-goal, by-state, LacksCode, LackIs}
 
 not-code : {A : Type 0} {l c p : ℕ} → Lack.Code l c p ≡ Lack.Nothing → A
 not-code e = let z : _≡_ {A = ℕ} 0 1 = cc in absurd (omega (arith, z))
@@ -46,45 +51,90 @@ module _ {kernels lookaheads asked : List ℕ} {lines codes q source : ℕ} wher
 
   pub lack-none : ((l : ℕ) → l < lines → stateAt kernels l ≡ q → (c : ℕ) → c < codes → On asked (l * 64 + c) → On lookaheads (l * 64 + c))
       → LackIn kernels lookaheads asked lines codes q source Lack.Nothing
-  lack-none h = record { code = λ l c p z. not-code (sym z); none = λ z. h }
+  lack-none h = record { code = λ l c p z. not-code (sym z); none = λ z. record { each = λ l b e. record { covered = h l b e } } }
 
 -- ---- what is named
-pub lack-at : {kernels lookaheads asked : List ℕ} {lines codes q source : ℕ} (r : Lack) → LackIn kernels lookaheads asked lines codes q source r → LackAt kernels lookaheads lines codes q r
-lack-at (Lack.Code l c p) h = h .code l c p refl .1
-lack-at Lack.Nothing h = tt
+pub lack-at : {kernels lookaheads asked : List ℕ} {lines few q source many : ℕ} → few ≤ many → (r : Lack) → LackIn kernels lookaheads asked lines few q source r
+    → LackAt kernels lookaheads lines many q r
+lack-at u (Lack.Code l c p) h = let w = h .code l c p refl .1 in record { low = w .low; state = w .state; code-low = omega (arith, w .code-low, u); off = w .off }
+lack-at u Lack.Nothing h = tt
 
--- the items of p ask it
-pub lack-is : (g : Grammar) (t : Table) {F : List ℕ → ℕ → ℕ → Type 0} {kernels lookaheads asked₀ asked : List ℕ} {lines codes p q : ℕ} (n : ℕ) → asked₀ ≡ replicate n 0 → codes ≤ 64 → 1 ≤ p
-    → Adds (FlagAsked (Includes g t F p) kernels lines codes) asked₀ asked → (r : Lack) → LackIn kernels lookaheads asked lines codes q p r → LackIs g t F kernels q r
-lack-is g t {F} {kernels} {lookaheads} {asked₀} {asked} {lines} {codes} {p} {q} n none few above A (Lack.Code l c s) h =
-    let w = h .code l c s refl in
-    let f = flag-line l c few (omega (arith, w .1 .code-low, few)) (new (A .only (l * 64 + c) (w .2))) in
-    subst (λ (x : ℕ). AskedFrom g t F x q (itemAt kernels l) (dotAt kernels l) c) (sym (w .0))
-    (by-state above (subst (λ (x : ℕ). Includes g t F p x (itemAt kernels l) (dotAt kernels l) c) (w .1 .state) (f .1)))
-  where
-    new : On asked₀ (l * 64 + c) ⊎ FlagAsked (Includes g t F p) kernels lines codes (l * 64 + c) → FlagAsked (Includes g t F p) kernels lines codes (l * 64 + c)
-    new (inl o) = all-off n none o
-    new (inr f) = f
-lack-is g t n none few above A Lack.Nothing h = tt
+module _ {g : Grammar} {t : Table} {F : List ℕ → ℕ → ℕ → Type 0} where
+  -- a lack named is a lack, whatever is asked besides
+  pub still : {A B : Type 0} {q l c p : ℕ} {r : Lack} → LackIs g t F A q r → r ≡ Lack.Code l c p → LackIs g t F B q r
+  still {A} {B} {q} h e = subst (LackIs g t F B q) (sym e) (record { is = subst (LackIs g t F A q) e h .is })
 
--- the goal's entry asks it
-pub goal-asks : (g : Grammar) (t : Table) (F : List ℕ → ℕ → ℕ → Type 0) {items entries kernels lookaheads kinds values gotos : List ℕ} {rules strings lines q s l : ℕ} → 1 ≤ strings
-    → Held g t items entries kernels lookaheads kinds values gotos rules strings lines → s ≡ getD entries 1 0 → s ≡ q → IsLine kernels lines q (rules + 1) 0 l
-    → AskedFrom g t F 0 q (itemAt kernels l) (dotAt kernels l) 0
-goal-asks g t F {entries = entries} {kernels = kernels} {rules = rules} {q = q} {l = l} some-entry H is-s e L = go (entry-at t (H .entry-count) 1 (omega arith) (omega (arith, some-entry)))
-  where
-    item : entryItem g t 1 ≡ itemAt kernels l
-    item = (let z : entryItem g t 1 ≡ rules + 1 = omega (arith, H .rule-count) in z) ∙ sym (L .item)
+  pub fine : {Fine : Type 0} {q : ℕ} {r : Lack} → LackIs g t F Fine q r → r ≡ Lack.Nothing → Fine
+  fine {Fine} {q} h e = subst (LackIs g t F Fine q) e h .is
 
-    go : (x : EntryLine) × (entryAt t 1 ≡ some x) → AskedFrom g t F 0 q (itemAt kernels l) (dotAt kernels l) 0
-    go (E u γ, f) =
-        let here : EntryAt g t 1 q γ = f ∙ ap (λ (v : ℕ). some (E v γ)) (sym (H .holds-entries .state-is 1 u f) ∙ (sym is-s ∙ e)) in
-        subst₂ (λ (i k : ℕ). AskedFrom g t F 0 q i k 0) item (sym (L .dot)) (by-goal here)
+  -- and refutes the construction
+  asked-in : {p q i k c : ℕ} {σ : List ℕ} → LookaheadsMeet g t F q → AskedFrom g t F p q i k c → KernelAt g t q i k σ → In c σ
+  asked-in {σ = σ} m (by-goal {γ = γ} e) ker = m .of-goal γ σ e ker
+  asked-in {p = p} {q = q} {σ = σ} m (by-state above inc) ker = included-in g t F (lookaheads-below g t F (p + 1) q m .from p above (omega arith)) inc σ ker
 
-pub line-found : (kernels : List ℕ) (lines q i k : ℕ) (r : Found) {l : ℕ} → Finds kernels lines q i k r → r ≡ Found.At l → IsLine kernels lines q i k l
-line-found kernels lines q i k r f e = subst (Finds kernels lines q i k) e f
+  pub refutes : {q l c p : ℕ} → LacksCode g t F q l c p → LookaheadsMeet g t F q → ⊥
+  refutes {l = l} x m = x .lacks (asked-in m (x .asked) (at-in (t .kernels) l (x .line)))
 
--- and its line lacks it
-pub goal-lack : {kernels lookaheads : List ℕ} {lines codes q i l : ℕ} → IsLine kernels lines q i 0 l → 1 ≤ codes → getD lookaheads (l * 64) 0 ≡ 0 → LackLine kernels lookaheads lines codes q l 0
-goal-lack {lookaheads = lookaheads} {l = l} L some-code z =
-    record { low = L .low; state = L .state; code-low = some-code; off = subst (Off lookaheads) (let e : l * 64 ≡ l * 64 + 0 = omega arith in e) z }
+module _ (g : Grammar) (t : Table) {items entries kernels lookaheads kinds values gotos : List ℕ} {rules strings lines : ℕ}
+    (H : Held g t items entries kernels lookaheads kinds values gotos rules strings lines) where
+  lacks-code : {F : List ℕ → ℕ → ℕ → Type 0} {codes q l c p : ℕ} → LackLine kernels lookaheads lines codes q l c → AskedFrom g t F p q (itemAt kernels l) (dotAt kernels l) c
+      → LacksCode g t F q l c p
+  lacks-code {q = q} {l = l} {c = c} w asks =
+      let r = line-at g t (H .holds-kernels) (H .line-count) (record { within = w .low; state = w .state; item = refl; dot = refl }) in
+      record {
+        item = itemAt kernels l;
+        dot = dotAt kernels l;
+        codes = r .0;
+        line = r .2;
+        lacks = λ m. H .holds-kernels .code-on l q (itemAt kernels l) (dotAt kernels l) c (r .2) m .nonzero (w .off);
+        asked = asks;
+      }
+
+  lack-is : {F : List ℕ → ℕ → ℕ → Type 0} {Fine : Type 0} {asked : List ℕ} {codes q source : ℕ} (r : Lack) → LackIn kernels lookaheads asked lines codes q source r
+      → ((l c : ℕ) → LackLine kernels lookaheads lines codes q l c → On asked (l * 64 + c) → AskedFrom g t F source q (itemAt kernels l) (dotAt kernels l) c)
+      → (StateCovers kernels asked lookaheads lines codes q → Fine) → LackIs g t F Fine q r
+  lack-is {F} {q = q} (Lack.Code l c p) h asks none =
+      let w = h .code l c p refl in
+      record { is = subst (LacksCode g t F q l c) (sym (w .0)) (lacks-code (w .1) (asks l c (w .1) (w .2))) }
+  lack-is Lack.Nothing h asks none = record { is = none (h .none refl) }
+
+  -- the items of p ask it
+  module _ {codes : ℕ} (nul fst : List ℕ) (count : codes ≡ suc (g .terminals)) {none asked : List ℕ} {p : ℕ} (above : 1 ≤ p) (n : ℕ) (is-none : none ≡ replicate n 0)
+      (A : Adds (FlagAsked (Includes g t (FirstBy codes nul fst) p) kernels lines codes) none asked) where
+    few : codes ≤ 64
+    few = omega (arith, count, H .formed .few-terminals)
+
+    pub state-lack : {q : ℕ} (r : Lack) → LackIn kernels lookaheads asked lines codes q p r → LackIs g t (FirstBy codes nul fst) (LookaheadsFrom g t (FirstBy codes nul fst) p q) q r
+    state-lack {q} r h = lack-is r h asks (λ covers. from-covers g t H nul fst count (A .every) covers)
+      where
+        asks : (l c : ℕ) → LackLine kernels lookaheads lines codes q l c → On asked (l * 64 + c) → AskedFrom g t (FirstBy codes nul fst) p q (itemAt kernels l) (dotAt kernels l) c
+        asks l c w on =
+            let f = flag-line l c few (omega (arith, w .code-low, few)) (new-only n is-none A (l * 64 + c) on) in
+            by-state above (subst (λ (x : ℕ). Includes g t (FirstBy codes nul fst) p x (itemAt kernels l) (dotAt kernels l) c) (w .state) (f .1))
+
+  -- the goal's entry asks it
+  module _ (some-entry : 1 ≤ strings) {none asked : List ℕ} (n : ℕ) (is-none : none ≡ replicate n 0) (A : Adds (GoalAsks kernels entries rules lines) none asked) where
+    pub goal-lack : {F : List ℕ → ℕ → ℕ → Type 0} {q : ℕ} (r : Lack) → LackIn kernels lookaheads asked lines 1 q 0 r → LackIs g t F (GoalMeets g t q) q r
+    goal-lack {F} {q} r h = lack-is r h asks (goal-from g t H some-entry n is-none A q)
+      where
+        go : (l c : ℕ) → LackLine kernels lookaheads lines 1 q l c → GoalAsks kernels entries rules lines (l * 64 + c) → (x : EntryLine) × (entryAt t 1 ≡ some x)
+            → AskedFrom g t F 0 q (itemAt kernels l) (dotAt kernels l) c
+        go l c w o (E u γ, f) =
+            let z : o .line ≡ l = omega (arith, w .code-low, o .is) in
+            let L : IsLine kernels lines (getD entries 1 0) (rules + 1) 0 l = subst (IsLine kernels lines (getD entries 1 0) (rules + 1) 0) z (o .is-line) in
+            let here : EntryAt g t 1 q γ = f ∙ ap (λ (v : ℕ). some (E v γ)) (sym (H .holds-entries .state-is 1 u f) ∙ (sym (L .state) ∙ w .state)) in
+            let item : entryItem g t 1 ≡ itemAt kernels l = (let e : entryItem g t 1 ≡ rules + 1 = omega (arith, H .rule-count) in e) ∙ sym (L .item) in
+            let ec : 0 ≡ c = omega (arith, w .code-low) in
+            subst (AskedFrom g t F 0 q (itemAt kernels l) (dotAt kernels l)) ec
+            (subst₂ (λ (i k : ℕ). AskedFrom g t F 0 q i k 0) item (sym (L .dot)) (by-goal here))
+
+        asks : (l c : ℕ) → LackLine kernels lookaheads lines 1 q l c → On asked (l * 64 + c) → AskedFrom g t F 0 q (itemAt kernels l) (dotAt kernels l) c
+        asks l c w on = go l c w (new-only n is-none A (l * 64 + c) on) (entry-at t (H .entry-count) 1 (omega arith) (omega (arith, some-entry)))
+
+-- ---- state by state
+module _ (g : Grammar) (t : Table) (F : List ℕ → ℕ → ℕ → Type 0) {q : ℕ} where
+  pub below-none : LookaheadsBelow g t F 1 q
+  below-none = record { from = λ p a b. absurd (no-gap a b) }
+
+  pub below-more : {n : ℕ} → LookaheadsBelow g t F n q → LookaheadsFrom g t F n q → LookaheadsBelow g t F (n + 1) q
+  below-more {n} L here = record { from = from-more (λ (p : ℕ). LookaheadsFrom g t F p q) 1 n (L .from) here }

@@ -2,12 +2,15 @@
 use Prim.Native.Nat.{ℕ, zero, _+_, _*_, _≤_, _<_}
 use mathlib.Core.Path.{_≡_}
 use mathlib.Core.List.{List}
-use Rattle.language.specs.Grammar.{Grammar}
-use Rattle.leftcorner.specs.Table.{Table}
+use mathlib.Core.Option.{some}
+use Rattle.language.specs.Grammar.{Grammar, at}
+use Rattle.language.specs.Sentence.{In}
+use Rattle.leftcorner.specs.Table.{Table, K}
 use Rattle.leftcorner.specs.Construction.{entryItem, EntryAt}
 use Rattle.fixpoint.specs.Flags.{On, Off}
-use Rattle.memory.specs.Memory.{stateAt, itemAt, dotAt}
+use Rattle.memory.specs.Memory.{stateAt}
 use Rattle.inclusions.specs.Included.{Includes}
+use Rattle.lookaheads.specs.Memory.{StateCovers}
 use Rattle.missing_lookaheads.specs.declared.Lack.{Lack}
 
 -- line l is of q, and code c is none of its lookaheads
@@ -17,6 +20,7 @@ pub record LackLine (kernels lookaheads : List ℕ) (lines codes q l c : ℕ) : 
   pub code-low : c < codes
   pub off : Off lookaheads (l * 64 + c)
 
+-- what is named can be read, whatever the memory holds
 abbrev pub LackAt : List ℕ → List ℕ → ℕ → ℕ → ℕ → Lack → Type 0
 LackAt kernels lookaheads lines codes q (Lack.Code l c p) = LackLine kernels lookaheads lines codes q l c
 LackAt kernels lookaheads lines codes q Lack.Nothing = Unit {0}
@@ -24,14 +28,26 @@ LackAt kernels lookaheads lines codes q Lack.Nothing = Unit {0}
 -- the flag of such a line and code is set in `asked`; nothing where all that are set stand in their lines
 pub record LackIn (kernels lookaheads asked : List ℕ) (lines codes q source : ℕ) (r : Lack) : Type 0 where
   pub code : (l c p : ℕ) → r ≡ Lack.Code l c p → (p ≡ source) × LackLine kernels lookaheads lines codes q l c × On asked (l * 64 + c)
-  pub none : r ≡ Lack.Nothing → (l : ℕ) → l < lines → stateAt kernels l ≡ q → (c : ℕ) → c < codes → On asked (l * 64 + c) → On lookaheads (l * 64 + c)
+  pub none : r ≡ Lack.Nothing → StateCovers kernels asked lookaheads lines codes q
 
 -- code c is asked of state q's item i with dot k: "The goal's entry context includes 0.", or by the items of state p
 pub data AskedFrom (g : Grammar) (t : Table) (F : List ℕ → ℕ → ℕ → Type 0) : ℕ → ℕ → ℕ → ℕ → ℕ → Type 0 where
   by-goal : {q : ℕ} {γ : List ℕ} → EntryAt g t 1 q γ → AskedFrom g t F zero q (entryItem g t 1) zero zero
   by-state : {p q i k c : ℕ} → 1 ≤ p → Includes g t F p q i k c → AskedFrom g t F p q i k c
 
--- what is named is so
-abbrev pub LackIs : (g : Grammar) (t : Table) (F : List ℕ → ℕ → ℕ → Type 0) → List ℕ → ℕ → Lack → Type 0
-LackIs g t F kernels q (Lack.Code l c p) = AskedFrom g t F p q (itemAt kernels l) (dotAt kernels l) c
-LackIs g t F kernels q Lack.Nothing = Unit {0}
+-- kernel line l of the table, counted from 0, is of q, and c, which is asked of it, is none of its codes
+pub record LacksCode (g : Grammar) (t : Table) (F : List ℕ → ℕ → ℕ → Type 0) (q l c p : ℕ) : Type 0 where
+  pub item : ℕ
+  pub dot : ℕ
+  pub codes : List ℕ
+  pub line : at (t .kernels) l ≡ some (K q item dot codes)
+  pub lacks : In c codes → ⊥
+  pub asked : AskedFrom g t F p q item dot c
+
+-- what is named is so; where nothing is named, all is `Fine`
+abbrev pub NamedIs : (g : Grammar) (t : Table) (F : List ℕ → ℕ → ℕ → Type 0) → Type 0 → ℕ → Lack → Type 0
+NamedIs g t F Fine q (Lack.Code l c p) = LacksCode g t F q l c p
+NamedIs g t F Fine q Lack.Nothing = Fine
+
+pub record LackIs (g : Grammar) (t : Table) (F : List ℕ → ℕ → ℕ → Type 0) (Fine : Type 0) (q : ℕ) (r : Lack) : Type 0 where
+  pub is : NamedIs g t F Fine q r

@@ -7,11 +7,13 @@ ghost use Prim.Native.Nat.{ℕ, _+_, _*_, _<_, _≤_};
 ghost use lib.ListN.{length};
 ghost use Rattle.language.specs.Grammar.{Grammar};
 ghost use Rattle.leftcorner.specs.Table.{Table};
+ghost use Rattle.leftcorner.specs.Construction.{LookaheadsMeet};
 ghost use Rattle.fixpoint.specs.Flags.{On};
 ghost use Rattle.memory.specs.Held.{Held};
 ghost use Rattle.kernel_lines.specs.Lines.{Lines, Linked};
 ghost use Rattle.analysis.specs.FirstBy.{FirstBy};
 ghost use Rattle.entry_list.specs.Uses.{HoldsUses};
+ghost use Rattle.lookaheads.specs.Sources.{GoalMeets, LookaheadsFrom};
 ghost use Rattle.details.specs.Misses.{Misses};
 ghost use Rattle.judge.specs.Given.{Sized, Computed, Given};
 ghost use Rattle.missing_lookaheads.specs.Lacks.{LackIn, LackAt, LackIs};
@@ -20,12 +22,6 @@ ghost use Rattle.missing_lookaheads.specs.Lacks.{LackIn, LackAt, LackIs}
 pub enum Lack {
     Code(usize, usize, usize),
     Nothing,
-}
-
-fn wide(x: u8) -> usize
-    ensures { λ r. ⌜ (r ≡ x) × (r < 256) ⌝ }
-{
-    x as usize
 }
 
 // The first code that is asked of line l and not one of its lookaheads.
@@ -103,7 +99,8 @@ fn find_from(
     requires { ⌜ Computed (now items) (now kernels) (now links) (now uses) (now nul) (now fst) (now starts) (now through) rules lines codes ⌝ }
     requires { ⌜ (1 ≤ p) × (p < 256) × (q < 256) ⌝ }
     ensures { λ r. ⌜ LackAt (now (kernels .entry)) (now (lookaheads .entry)) lines codes q r ⌝ }
-    ensures { λ r. ⌜ ((g : Grammar) (t : Table) (states : ℕ) → Given g t (now (items .entry)) (now (entries .entry)) (now (kernels .entry)) (now (lookaheads .entry)) (now (kinds .entry)) (now (values .entry)) (now (gotos .entry)) (now (named .entry)) rules strings lines states codes → HoldsUses (now (uses .entry)) g t → LackIs g t (FirstBy codes (now (nul .entry)) (now (fst .entry))) (now (kernels .entry)) q r) ⌝ }
+    ensures { λ r. ⌜ ((g : Grammar) (t : Table) (states : ℕ) → Given g t (now (items .entry)) (now (entries .entry)) (now (kernels .entry)) (now (lookaheads .entry)) (now (kinds .entry)) (now (values .entry)) (now (gotos .entry)) (now (named .entry)) rules strings lines states codes
+        → HoldsUses (now (uses .entry)) g t → LackIs g t (FirstBy codes (now (nul .entry)) (now (fst .entry))) (LookaheadsFrom g t (FirstBy codes (now (nul .entry)) (now (fst .entry))) p q) q r) ⌝ }
 {
     let count = rules + strings;
     let mut present = [0u8; 64];
@@ -168,26 +165,18 @@ fn find_goal(
     rules: usize,
     lines: usize,
     count: usize,
-    codes: usize,
     q: usize,
 ) -> Lack
     requires { ⌜ Lines (now kernels) lines count ⌝ }
     requires { ⌜ Linked (now kernels) (now links) lines ⌝ }
-    requires { ⌜ (q < 256) × (1 ≤ codes) × (rules ≤ 127) × (lines * 64 ≤ length (now lookaheads)) × (2 ≤ length (now entries)) ⌝ }
-    ensures { λ r. ⌜ LackAt (now (kernels .entry)) (now (lookaheads .entry)) lines codes q r ⌝ }
-    ensures { λ r. ⌜ ((g : Grammar) (t : Table) (items kinds values gotos nul fst : List ℕ) (strings : ℕ) → 1 ≤ strings → Held g t items (now (entries .entry)) (now (kernels .entry)) (now (lookaheads .entry)) kinds values gotos rules strings lines → LackIs g t (FirstBy codes nul fst) (now (kernels .entry)) q r) ⌝ }
+    requires { ⌜ (q < 256) × (rules ≤ 127) × (lines * 64 ≤ length (now lookaheads)) × (2 ≤ length (now entries)) ⌝ }
+    ensures { λ r. ⌜ ((codes : ℕ) → 1 ≤ codes → LackAt (now (kernels .entry)) (now (lookaheads .entry)) lines codes q r) ⌝ }
+    ensures { λ r. ⌜ ((g : Grammar) (t : Table) (items kinds values gotos nul fst : List ℕ) (strings codes : ℕ) → 1 ≤ strings → Held g t items (now (entries .entry)) (now (kernels .entry)) (now (lookaheads .entry)) kinds values gotos rules strings lines
+        → LackIs g t (FirstBy codes nul fst) (GoalMeets g t q) q r) ⌝ }
 {
-    if wide(entries[1]) != q {
-        return Lack::Nothing;
-    }
-    let found = kernel_lines::find_line(kernels, links, lines, count, q, rules + 1, 0);
-    let Found::At(l) = found else {
-        return Lack::Nothing;
-    };
-    if lookaheads[l * 64] != 0 {
-        return Lack::Nothing;
-    }
-    Lack::Code(l, 0, 0)
+    let mut asked = [0u8; 65536];
+    lookaheads::ask_goal(kernels, links, entries, lines, count, rules, &mut asked);
+    find_asked(kernels, links, lookaheads, &asked, lines, count, 1, q, 0)
 }
 
 // A lookahead that a line of q lacks.
@@ -217,7 +206,8 @@ pub fn find_lack(
     requires { ⌜ Computed (now items) (now kernels) (now links) (now uses) (now nul) (now fst) (now starts) (now through) rules lines codes ⌝ }
     requires { ⌜ (1 ≤ codes) × (states ≤ 255) × (q < 256) ⌝ }
     ensures { λ r. ⌜ LackAt (now (kernels .entry)) (now (lookaheads .entry)) lines codes q r ⌝ }
-    ensures { λ r. ⌜ ((g : Grammar) (t : Table) → Given g t (now (items .entry)) (now (entries .entry)) (now (kernels .entry)) (now (lookaheads .entry)) (now (kinds .entry)) (now (values .entry)) (now (gotos .entry)) (now (named .entry)) rules strings lines states codes → HoldsUses (now (uses .entry)) g t → LackIs g t (FirstBy codes (now (nul .entry)) (now (fst .entry))) (now (kernels .entry)) q r) ⌝ }
+    ensures { λ r. ⌜ ((g : Grammar) (t : Table) → Given g t (now (items .entry)) (now (entries .entry)) (now (kernels .entry)) (now (lookaheads .entry)) (now (kinds .entry)) (now (values .entry)) (now (gotos .entry)) (now (named .entry)) rules strings lines states codes
+        → HoldsUses (now (uses .entry)) g t → LackIs g t (FirstBy codes (now (nul .entry)) (now (fst .entry))) (LookaheadsMeet g t (FirstBy codes (now (nul .entry)) (now (fst .entry))) q) q r) ⌝ }
 {
     let goal = find_goal(
         entries,
@@ -227,7 +217,6 @@ pub fn find_lack(
         rules,
         lines,
         rules + strings,
-        codes,
         q,
     );
     let Lack::Nothing = goal else {

@@ -8,6 +8,7 @@ use lib.ListN.{length, getD, length-set}
 use Rattle.language.specs.Grammar.{Grammar, Rule, ruleAt}
 use Rattle.leftcorner.specs.Table.{Table}
 use Rattle.items.specs.Layout.{lengthAt}
+use Rattle.entry_list.proofs.FaultLaws.{range-group, range-none}
 use Rattle.entry_list.proofs.FillLaws.{Filling, filling-start, filling-more, filling-fails, filling-ends}
 use Rattle.entry_list.specs.Uses.{HoldsStrings}
 use Rattle.entry_list.proofs.fill_rule.Statement.{statement}
@@ -48,7 +49,12 @@ same-length-2 c = search needs
 
 returns : tie.Need-returns Inv-loop μ-loop
 returns c = let o = c .before .before .before .before .loop in
-    ((o .inv .1, o .inv .2), λ g t r S e z. filling-fails g t S _ r e (o .inv .4 g t r S e z) (omega (arith, c .before .before .before .loop-test .taken, o .inv .3)) (c .before .before .group-end .ensures) (c .before .entry-of .ensures) (c .if1 .taken))
+    let s = c .before .before .before .before .before .before .before .before .before .before in
+    let h = c .before .before .group-end .ensures in (
+      (o .inv .1, o .inv .2, range-group (s .pre .1 .0 .0) (s .pre .1 .0 .1) (h .past) (omega (arith, h .within, c .before .before .before .before .before .before .length-of .ensures))),
+      λ g t r S e z. filling-fails g t S _ r e (o .inv .4 g t r S e z) (omega (arith, c .before .before .before .loop-test .taken, o .inv .3)) h
+          (c .before .entry-of .ensures) (c .if1 .taken),
+    )
 
 cast-uses : tie.Need-cast-uses Inv-loop μ-loop
 cast-uses c = search needs
@@ -93,7 +99,7 @@ same-length-4 c = search needs
 
 returns-2 : tie.Need-returns-2 Inv-loop μ-loop
 returns-2 c = let o = c .before .loop in
-    ((o .inv .1, o .inv .2), λ g t r S e z. filling-ends g t S _ r e (o .inv .4 g t r S e z) (omega (arith, c .loop-test .left, o .inv .3)))
+    ((o .inv .1, o .inv .2, range-none), λ g t r S e z. filling-ends g t S _ r e (o .inv .4 g t r S e z) (omega (arith, c .loop-test .left, o .inv .3)))
 
 pub fill-rule-spec : {M : Type 1} → statement M
 fill-rule-spec =

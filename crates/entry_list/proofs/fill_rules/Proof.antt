@@ -2,11 +2,11 @@
 use Prim.Native.Nat.{ℕ, _+_, _≤_, _-_}
 use mathlib.Core.Path.{_≡_}
 use native.Mathlib.Omega.{arith}
-use borrow.Author.Tests.{not-true, not-false}
 use borrow.Author.Needs.{needs}
 use lib.ListN.{length, getD}
 use Rattle.language.specs.Grammar.{Grammar}
 use Rattle.leftcorner.specs.Table.{Table}
+use Rattle.entry_list.proofs.FaultLaws.{is-named, range-none}
 use Rattle.entry_list.proofs.ListLaws.{filled-start, filled-more, filled-fails, filled-all}
 use Rattle.entry_list.specs.Uses.{HoldsStrings, Filled}
 use Rattle.entry_list.proofs.fill_rules.Statement.{statement}
@@ -24,6 +24,9 @@ loop-holds c = let s = c .before .before .before in (omega arith, omega arith, s
 fill-rule-requires : tie.Need-fill-rule-requires Inv-loop μ-loop
 fill-rule-requires c κs = search needs
 
+enum-told : tie.Need-enum-told Inv-loop μ-loop
+enum-told c = search needs
+
 same-length : tie.Need-same-length Inv-loop μ-loop
 same-length c = search needs
 
@@ -32,8 +35,11 @@ same-length-2 c = search needs
 
 returns : tie.Need-returns Inv-loop μ-loop
 returns c = let o = c .before .before .before .before .before .before .before .before .before .loop in
-    let e = c .before .before .before .before .before .fill-rule .ensures in
-    (e .0, λ g t S z. filled-fails g t S (o .inv .0) (c .before .before .before .before .before .before .before .before .loop-test .taken) (o .inv .4 g t S z) (λ r h zr. e .1 g t r S h zr) (not-true _ (c .if1 .taken)))
+    let f = c .before .before .before .before .before .fill-rule in (
+      f .ensures .0,
+      λ g t S z. filled-fails g t S (o .inv .0) (c .before .before .before .before .before .before .before .before .loop-test .taken) (o .inv .4 g t S z) (λ r h zr. f .ensures .1 g t r S h zr)
+          (is-named (f .result) (c .match .keys2)),
+    )
 
 add-i : tie.Need-add-i Inv-loop μ-loop
 add-i c = search needs
@@ -42,9 +48,14 @@ loop-less : tie.Need-loop-less Inv-loop μ-loop
 loop-less c = search needs
 
 loop-again : tie.Need-loop-again Inv-loop μ-loop
-loop-again c = let o = c .before .before .before .before .before .before .before .before .before .loop in
-    let e = c .before .before .before .before .before .fill-rule .ensures in
-    (omega arith, omega arith, e .0 .0, e .0 .1, λ g t S z. filled-more g t S (o .inv .0) (c .before .before .before .before .before .before .before .before .loop-test .taken) (o .inv .4 g t S z) (λ r h zr. e .1 g t r S h zr) (not-false _ (c .if1 .left)))
+loop-again c = let o = c .before .before .before .before .before .before .before .before .before .before .loop in
+    let f = c .before .before .before .before .before .before .fill-rule .ensures in (
+      omega arith,
+      omega arith,
+      f .0 .0,
+      f .0 .1,
+      λ g t S z. filled-more g t S (o .inv .0) (c .before .before .before .before .before .before .before .before .before .loop-test .taken) (o .inv .4 g t S z) (λ r h zr. f .1 g t r S h zr) (c .enum-told .given .1),
+    )
 
 same-length-3 : tie.Need-same-length-3 Inv-loop μ-loop
 same-length-3 c = search needs
@@ -53,7 +64,7 @@ same-length-4 : tie.Need-same-length-4 Inv-loop μ-loop
 same-length-4 c = search needs
 
 returns-2 : tie.Need-returns-2 Inv-loop μ-loop
-returns-2 c = let o = c .before .loop in ((o .inv .2, o .inv .3), λ g t S z. filled-all g t S (omega arith) (o .inv .4 g t S z))
+returns-2 c = let o = c .before .loop in ((o .inv .2, o .inv .3, range-none), λ g t S z. filled-all g t S (omega arith) (o .inv .4 g t S z))
 
 pub fill-rules-spec : {M : Type 1} → statement M
 fill-rules-spec =
@@ -63,6 +74,7 @@ fill-rules-spec =
     μ-loop
     loop-holds
     fill-rule-requires
+    enum-told
     same-length
     same-length-2
     returns

@@ -3,8 +3,8 @@ use Prim.Native.Nat.{ℕ}
 use mathlib.Core.Path.{refl, ap, _∙_}
 use borrow.Author.Needs.{needs}
 use lib.ListN.{length, length-replicate}
-use Rattle.fixpoint.proofs.PassLaws.{told}
-use Rattle.entry_list.proofs.ListLaws.{meets-entered, uses-hold, zeros-of}
+use Rattle.entry_list.proofs.FaultLaws.{met}
+use Rattle.entry_list.proofs.ListLaws.{uses-hold, zeros-of}
 use Rattle.entry_list.proofs.note_uses.Statement.{statement}
 use Rattle.entry_list.proofs.note_uses.Tie as tie
 
@@ -21,11 +21,10 @@ same-length c = search needs
 
 returns : tie.Need-returns
 returns c =
-    let f = c .before .before .before .fill-rules .ensures in (
-      f .0 .0,
+    let f = c .before .before .before .fill-rules in (
+      f .ensures .0 .0,
       λ g t S M.
-          let F = f .1 g t S (zeros-of 2048 (c .before .before .before .before .before .before .before .before .pre .1 .2)) in
-          uses-hold g t S (F .filled (told (F .decides) (meets-entered g t S M))),
+          uses-hold g t S (met (f .result) (f .ensures .1 g t S (zeros-of 2048 (c .before .before .before .before .before .before .before .before .pre .1 .2))) M),
     )
 
 pub note-uses-spec : {M : Type 1} → statement M

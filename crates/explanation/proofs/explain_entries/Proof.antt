@@ -1,13 +1,14 @@
+use mathlib.Core.Path.{refl}
 use native.Mathlib.Omega.{arith}
 use borrow.Author.Needs.{needs}
-use Rattle.details.specs.Entries.{BareIs}
-use mathlib.Core.Path.{subst}
-use Prim.Native.Nat.{_+_}
 use Rattle.explanation.proofs.explain_entries.Statement.{statement}
 use Rattle.explanation.proofs.explain_entries.Tie as tie
 
+slice-aggregate-find-entry-fault : tie.Need-slice-aggregate-find-entry-fault
+slice-aggregate-find-entry-fault c = search needs
+
 find-entry-fault-requires : tie.Need-find-entry-fault-requires
-find-entry-fault-requires c κs = search needs
+find-entry-fault-requires c κs = (c .before .before .pre .0, (c .before .before .pre .1, refl))
 
 enum-told : tie.Need-enum-told
 enum-told c = search needs
@@ -37,7 +38,8 @@ add-print-symbols : tie.Need-add-print-symbols
 add-print-symbols c = search needs
 
 print-symbols-requires : tie.Need-print-symbols-requires
-print-symbols-requires c κs = let b = subst (BareIs (c .before .before .before .before .before .before .before .before .before .args .items .now) (c .before .before .before .before .before .before .before .before .before .args .rules) (c .before .before .before .before .before .before .before .before .before .args .strings)) (c .before .before .before .before .before .fault .given .1) (c .before .before .before .before .before .before .before .find-entry-fault .ensures .0) in (c .before .before .before .before .before .before .before .before .before .pre .0, (omega (arith, b .1), b .2))
+print-symbols-requires c κs = let b = c .before .before .before .before .before .before .before .before .find-entry-fault .ensures .0 .1 .group _ _ _ (c .before .before .before .before .before .fault .given .1) in
+    (c .before .before .before .before .before .before .before .before .before .before .before .pre .0, (omega (arith, b .1), b .3))
 
 slice-aggregate-print-text-3 : tie.Need-slice-aggregate-print-text-3
 slice-aggregate-print-text-3 c = search needs
@@ -79,6 +81,7 @@ pub explain-entries-spec : {M : Type 1} → statement M
 explain-entries-spec =
     tie.close
     (tie.spec
+    slice-aggregate-find-entry-fault
     find-entry-fault-requires
     enum-told
     slice-aggregate-print-text

@@ -16,7 +16,7 @@ loop-holds : tie.Need-loop-holds Inv-loop μ-loop
 loop-holds c = (omega arith, lines-start _)
 
 covers-requires : tie.Need-covers-requires Inv-loop μ-loop
-covers-requires c κs = let p = c .before .before .before .before .before .before .pre in (c .loop-test .taken, p .0 .few, p .1 .0, p .1 .1, p .1 .2)
+covers-requires c κs = let p = c .before .before .before .before .before .before .pre in (c .loop-test .taken, p .0 .few, p .1 .0, omega (arith, p .1 .1, p .1 .2), omega (arith, p .1 .1, p .1 .2))
 
 add-l : tie.Need-add-l Inv-loop μ-loop
 add-l c = search needs
