@@ -125,9 +125,5 @@ is-yes P p = record { yes = λ _. p; no = λ e _. true≢false e }
 pub is-no : (P : Type 0) → (P → ⊥) → Decides P false
 is-no P f = record { yes = λ e. absurd (false≢true e); no = λ _. f }
 
-pub told : {P : Type 0} {b : Bool} → Decides P b → P → b ≡ true
-told {b = true} d p = refl
-told {b = false} d p = absurd (d .no refl p)
-
 pub decides-map : {P Q : Type 0} {b : Bool} → (P → Q) → (Q → P) → Decides P b → Decides Q b
 decides-map f g d = record { yes = λ e. f (d .yes e); no = λ e q. d .no e (g q) }
