@@ -1,5 +1,4 @@
 -- A row with code 0 alone, asked of the lines of the goal's entry.
-use Prim.Native.Nat.{ℕ}
 use mathlib.Core.Path.{refl}
 use native.Mathlib.Omega.{arith}
 use borrow.Author.Needs.{needs}
