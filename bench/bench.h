@@ -1,5 +1,5 @@
 /* What the benchmarks share. */
-#include <stdint.h>
+#include "../include/buraigue.h"
 #include <stdio.h>
 #include <time.h>
 

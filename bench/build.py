@@ -1,11 +1,14 @@
 #!/usr/bin/env python3
-"""How long building tables takes as a process, beside bison on the same grammar: best of many runs, in turn.
+"""How long building tables takes, beside bison on the same grammar: as processes, and the building alone; best of many runs.
 
-    rt check build_tables && bench/build.py
+    sh bench/run.sh build
+
+The building alone is the call for C, and of bison the time that `bison --trace=time` tells less 'running m4' and 'outputting parser'.
 """
-import os, subprocess, time
+import re, subprocess, time
 
-OUT = 'target/bench-build'
+OUT = 'target/bench'
+NAMES = ('d', 'bloodbank', 'hospital')
 
 
 def best(runs, *command):
@@ -17,16 +20,27 @@ def best(runs, *command):
     return min(times) * 1e3
 
 
+def alone(runs, *command):
+    times = []
+    for _ in range(runs):
+        told = subprocess.run(command, check=True, capture_output=True, text=True).stderr
+        wall = {name.strip(): float(t) for name, t in re.findall(r'^ (.+?)  .* (\d\.\d{6})', told, re.M)}
+        times.append(wall['total time'] - wall['running m4'] - wall['outputting parser'])
+    return min(times) * 1e3
+
+
 def main():
-    os.makedirs(OUT, exist_ok=True)
+    calls = subprocess.run([f'{OUT}/build', *(f'examples/{name}.grammar' for name in NAMES)], check=True, capture_output=True, text=True).stdout.split()
     nothing = best(200, 'true')
-    for name in ('d', 'bloodbank', 'hospital'):
+    for name, call in zip(NAMES, calls):
         book, y = f'examples/{name}.grammar', f'{OUT}/{name}.y'
         with open(book, 'rb') as i, open(y, 'wb') as o:
-            subprocess.run(['tools/bison_grammar.py', name], check=True, stdin=i, stdout=o)
+            subprocess.run(['python3', 'tools/bison_grammar.py', name], check=True, stdin=i, stdout=o)
         built = best(200, 'target/bin/build_tables', book)
         bison = best(20, 'bison', '-o', f'{OUT}/{name}.c', y)
-        print(f'{name}: build_tables {built:.2f} ms, bison {bison:.1f} ms, a process that does nothing {nothing:.2f} ms')
+        tables = alone(20, 'bison', '--trace=time', '-o', f'{OUT}/{name}.c', y)
+        print(f'{name}: processes: build_tables {built:.2f} ms, bison {bison:.1f} ms, one that does nothing {nothing:.2f} ms; '
+              f'alone: the call {call} ms, bison {tables:.2f} ms')
 
 
 main()

@@ -1,9 +1,6 @@
 /* How long checking a table book takes: each pair of a grammar book and a table book that the arguments name, best of many runs.
-   rt staticlib buraigue_c && gcc -O2 bench/check.c target/staticlib/libburaigue_c.a -o target/bench-check
-   tools/bench_tables.py target/bench && target/bench-check examples/hospital.grammar examples/hospital.tables target/bench/<name>.grammar target/bench/<name>.tables .. */
+   sh bench/run.sh check */
 #include "bench.h"
-
-uint64_t buraigue_check_tables(const uint8_t *grammar, size_t n, const uint8_t *book, size_t m, uint64_t *place, size_t k);
 
 static uint8_t grammar[65537], book[65537];
 
@@ -14,7 +11,7 @@ int main(int argc, char **argv) {
         uint64_t place = 0, number = 99;
         for (int k = 0; k < 400 && spent < 2e6; k++) {
             double t = now();
-            number = buraigue_check_tables(grammar, n, book, m, &place, 1);
+            number = buraigue_check_tables(grammar, n, book, m, &place);
             t = now() - t;
             spent += t;
             if (t < best) best = t;

@@ -1,13 +1,9 @@
 /* How long reading takes: grammar books, table books and scan files of 4, 16 and 64 KiB, best of many runs.
-   rt staticlib buraigue_c && gcc -O2 bench/read.c target/staticlib/libburaigue_c.a -o target/bench-read && target/bench-read */
+   sh bench/run.sh read */
 #include "bench.h"
 #include <string.h>
 
-uint64_t buraigue_read_grammar(const uint8_t *book, size_t n, uint8_t *items, size_t m, uint64_t *place, size_t k);
-uint64_t buraigue_check_tables(const uint8_t *grammar, size_t n, const uint8_t *book, size_t m, uint64_t *place, size_t k);
-uint64_t buraigue_read_scans(const uint8_t *file, size_t n, uint8_t *tokens, size_t m, uint64_t *place, size_t k);
-
-static uint8_t book[65537], items[16640], tokens[65536];
+static uint8_t book[65537], items[BURAIGUE_ITEMS], tokens[BURAIGUE_TOKENS];
 
 /* rules of 15 symbols, with leading zeros up to the length asked for */
 static size_t grammar_book(size_t size) {
@@ -49,9 +45,9 @@ static size_t scan_file(size_t size) {
 enum what { GRAMMAR, TABLE, SCANS };
 
 static uint64_t read_once(enum what what, size_t n, uint64_t *place) {
-    if (what == GRAMMAR) return buraigue_read_grammar(book, n, items, sizeof items, place, 1);
-    if (what == TABLE) return buraigue_check_tables((const uint8_t *)grammar, sizeof grammar - 1, book, n, place, 1);
-    return buraigue_read_scans(book, n, tokens, sizeof tokens, place, 1);
+    if (what == GRAMMAR) return buraigue_read_grammar(book, n, items, sizeof items, place);
+    if (what == TABLE) return buraigue_check_tables((const uint8_t *)grammar, sizeof grammar - 1, book, n, place);
+    return buraigue_read_scans(book, n, tokens, sizeof tokens, place);
 }
 
 static void measure(enum what what, size_t n) {

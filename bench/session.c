@@ -1,12 +1,10 @@
 /* How long a session takes, beside the parser that bison generates for the same grammar: 65,535 tokens of D and a long day of the hospital's grammar,
    best of many runs. The walk alone is the whole call less the same call with no token: that one reads and checks both books.
-   rt staticlib buraigue_c && bench/session.sh */
+   sh bench/run.sh session */
 #include "bench.h"
 #include "bison.h"
 #include <string.h>
 
-uint64_t buraigue_run_session(const uint8_t *grammar, size_t g, const uint8_t *tables, size_t t, const uint8_t *tokens, size_t n, uint8_t *stack, size_t s,
-                              uint8_t *listing, size_t l, uint64_t *place, size_t p, uint64_t *rules, size_t r, uint64_t *units, size_t u);
 int d_session(struct session *s);
 int hospital_session(struct session *s);
 
@@ -36,14 +34,14 @@ static size_t bags(void) {
 
 static void measure(const char *what, size_t g, size_t t, size_t n, int (*parse)(struct session *)) {
     double whole = 1e9, empty = 1e9, bison = 1e9;
-    uint64_t number = 99, place = 0, rules = 0, units = 0, unused = 0;
+    uint64_t number = 99, place = 0, rules = 0, units = 0;
     struct session s = {tokens, n, 0, 0, 0, other};
     int failed = 1;
     for (int i = 0; i < 200; i++) {
         double a = now();
-        buraigue_run_session(grammar, g, tables, t, tokens, 0, stack, sizeof stack, listing, sizeof listing, &unused, 1, &unused, 1, &unused, 1);
+        buraigue_run_session(grammar, g, tables, t, tokens, 0, stack, sizeof stack, listing, sizeof listing, &place, &rules, &units);
         double b = now();
-        number = buraigue_run_session(grammar, g, tables, t, tokens, n, stack, sizeof stack, listing, sizeof listing, &place, 1, &rules, 1, &units, 1);
+        number = buraigue_run_session(grammar, g, tables, t, tokens, n, stack, sizeof stack, listing, sizeof listing, &place, &rules, &units);
         double c = now();
         failed = parse(&s);
         double d = now();

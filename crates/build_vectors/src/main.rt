@@ -18,7 +18,8 @@ fn count_set(bytes: &[u8]) -> usize {
 }
 
 fn show(grammar: &[u8], out: &mut [u8]) {
-    let reply = builder::build_tables(grammar, out);
+    let built = builder::build_tables(grammar, out);
+    let reply = built.reply;
     program::print_pair(reply::number(reply), reply::place(reply) as u64);
     program::print_number(count_set(out) as u64);
     program::print_text(out);

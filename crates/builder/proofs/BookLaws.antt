@@ -1,4 +1,4 @@
--- What is answered is the builder's reply and slice.
+-- What is answered is the builder's reply, length and slice.
 use Prim.Native.Nat.{ℕ, zero, suc, _+_, _≤_, _<_, min}
 use native.Mathlib.Omega.{arith}
 use mathlib.Core.Path.{_≡_, refl, sym, ap, subst, _∙_}
@@ -14,7 +14,6 @@ use Rattle.analysis.specs.Decided.{first?}
 use Rattle.memory.specs.Memory.{HoldsKernels}
 use Rattle.reply.specs.declared.Kind.the-variants.{LimitExceeded, Conflict, BufferTooSmall}
 use Rattle.reply.specs.declared.Refusal.{Refusal}
-use Rattle.reply.specs.declared.Reply.{Reply}
 use Rattle.reply.specs.declared.Reply.the-variants.{Accepted, Refused}
 use Rattle.verdict.specs.Verdict.{refused}
 use Rattle.lalr.specs.Strings.{entryStrings, entryLines}
@@ -24,7 +23,7 @@ use Rattle.lalr.specs.ItemForm.{items-lines, kernels-both}
 use Rattle.lalr.specs.Text.{tableText}
 use Rattle.lalr.specs.Book.{textReply, textSlice}
 use Rattle.lalr.specs.BookLaws.{Within}
-use Rattle.lalr.specs.Builder.{terminalCodes, first-in, codes-low, builder-form, builderReply, builderSlice, replies-many, replies-conflict, replies-text, slice-text}
+use Rattle.lalr.specs.Builder.{terminalCodes, first-in, codes-low, builder-form, builderTable, builderReply, builderSlice, replies-many, replies-conflict, replies-text, slice-text, table-text}
 use Rattle.table_writer.specs.Sink.{inRoom, fits-room}
 use Rattle.table_writer.specs.MemoryTable.{memoryTable, memoryText, Sized}
 use Rattle.table_writer.specs.InMemory.{memory-table}
@@ -32,6 +31,8 @@ use Rattle.table_writer.specs.BuiltOrder.{built-ordered}
 use Rattle.table_cells.specs.Cells.{itemsOf, tableOf, Filled}
 use Rattle.build_memory.specs.Stages.{Stated, Numbered, Settled, Rooms}
 use Rattle.build_memory.proofs.StateLaws.{few-strings, few-terminals, few-flags, limits-of, within-of, entries-hold}
+use Rattle.builder.specs.declared.BuildReply.{BuildReply}
+use Rattle.builder.specs.Build.{textLength, refusedBy, Writes}
 
 -- ---- a text of which the length was counted up to 65,537
 module _ (text : List ℕ) (room : ℕ) {n : ℕ} (count : n ≡ min (length text) 65537) where
@@ -43,31 +44,44 @@ module _ (text : List ℕ) (room : ℕ) {n : ℕ} (count : n ≡ min (length tex
     pub text-short : size < n → refused BufferTooSmall 0 ≡ textReply text room
     text-short s = simp (le-ltb 65536 (length text) (omega (arith, count, few)), lt-ltb room (length text) (omega (arith, count, few, long, s)))
 
-    pub text-whole : n ≤ size → Accepted 0 ≡ textReply text room
-    text-whole s = simp (le-ltb 65536 (length text) (omega (arith, count, few)), le-ltb room (length text) (omega (arith, count, few, long, s)))
-
-    pub text-written : {out : List ℕ} → n ≤ size → out ≡ inRoom room text → out ≡ textSlice text room (Accepted 0)
-    text-written s e = e ∙ fits-room room text (omega (arith, count, few, long, s)) (omega (arith, count, few))
+    pub text-written : {out : List ℕ} → n ≤ size → out ≡ inRoom room text → Writes text room (record { reply = Accepted 0; length = n }) out
+    text-written s e = record {
+      reply-is = simp (le-ltb 65536 (length text) (omega (arith, count, few)), le-ltb room (length text) (omega (arith, count, few, long, s)));
+      length-is = omega (arith, count, few);
+      slice-is = e ∙ fits-room room text (omega (arith, count, few, long, s)) (omega (arith, count, few));
+      fits = omega (arith, long, s);
+    }
 
 -- a refusal leaves zeros
-pub text-none : (text : List ℕ) (room : ℕ) {r : Reply} {x : Refusal} {size : ℕ} {out : List ℕ} → r ≡ Refused x → size ≡ room → out ≡ replicate size 0 → out ≡ textSlice text room r
-text-none text room e long o = o ∙ ap (λ (n : ℕ). replicate n 0) long ∙ sym (ap (textSlice text room) e)
+pub text-none : (text : List ℕ) (room : ℕ) {r : BuildReply} {x : Refusal} {size : ℕ} {out : List ℕ} → r ≡ refusedBy x → Refused x ≡ textReply text room → size ≡ room
+    → out ≡ replicate size 0 → Writes text room r out
+text-none text room {out = out} e t long o =
+    subst (λ (b : BuildReply). Writes text room b out) (sym e)
+    (record { reply-is = t; length-is = refl; slice-is = o ∙ ap (λ (n : ℕ). replicate n 0) long; fits = omega arith })
 
--- ---- the builder's reply and slice
+-- ---- the builder's reply, length and slice
 
-pub record Answers (g : Grammar) (room : ℕ) (r : Reply) (out : List ℕ) : Type 0 where
-  pub reply-is : r ≡ builderReply g room
+pub record Answers (g : Grammar) (room : ℕ) (r : BuildReply) (out : List ℕ) : Type 0 where
+  pub reply-is : r .reply ≡ builderReply g room
+  pub length-is : r .length ≡ textLength (tableText (builderTable g)) (builderReply g room)
   pub slice-is : out ≡ builderSlice g room
+  pub fits : r .length ≤ room
 
-module _ (g : Grammar) (room : ℕ) {r : Reply} {out : List ℕ} where
-  answers-as : r ≡ builderReply g room → out ≡ textSlice (tableText (tableOf g)) room r → Answers g room r out
-  answers-as e s = record { reply-is = e; slice-is = s ∙ ap (textSlice (tableText (tableOf g)) room) e ∙ sym (slice-text g room) }
+module _ (g : Grammar) (room : ℕ) where
+  answers-as : {r : BuildReply} {out : List ℕ} → r .reply ≡ builderReply g room → r .length ≡ textLength (tableText (tableOf g)) (r .reply)
+      → out ≡ textSlice (tableText (tableOf g)) room (r .reply) → r .length ≤ room → Answers g room r out
+  answers-as e n s f = record {
+    reply-is = e;
+    length-is = n ∙ ap (textLength (tableText (tableOf g))) e ∙ ap (λ (l : List ℕ). textLength l (builderReply g room)) (sym (table-text g));
+    slice-is = s ∙ ap (textSlice (tableText (tableOf g)) room) e ∙ sym (slice-text g room);
+    fits = f;
+  }
 
-  refused-as : {x : Reply} → r ≡ x → x ≡ builderReply g room → textSlice (tableText (tableOf g)) room x ≡ replicate room 0 → out ≡ replicate room 0 → Answers g room r out
-  refused-as e f z s = answers-as (e ∙ f) (s ∙ sym z ∙ ap (textSlice (tableText (tableOf g)) room) (sym e))
+  answers-refused : {r : BuildReply} {x : Refusal} {out : List ℕ} → r ≡ refusedBy x → Refused x ≡ builderReply g room → out ≡ replicate room 0 → Answers g room r out
+  answers-refused {x = x} {out = out} e f s = subst (λ (b : BuildReply). Answers g room b out) (sym e) (answers-as {r = refusedBy x} f refl s (omega arith))
 
-  pub answers-many : (Within g → ⊥) → r ≡ refused LimitExceeded 0 → out ≡ replicate room 0 → Answers g room r out
-  answers-many f e s = refused-as e (sym (replies-many g room f)) refl s
+  pub answers-many : {r : BuildReply} {x : Refusal} {out : List ℕ} → (Within g → ⊥) → r ≡ refusedBy x → Refused x ≡ refused LimitExceeded 0 → out ≡ replicate room 0 → Answers g room r out
+  answers-many f e x s = answers-refused e (x ∙ sym (replies-many g room f)) s
 
 module _ {g : Grammar} {items kernels kinds values gotos : List ℕ} {terminals goal rules strings all lines : ℕ}
     (T : Stated g items kernels kinds values gotos terminals goal rules strings all lines) where
@@ -77,9 +91,9 @@ module _ {g : Grammar} {items kernels kinds values gotos : List ℕ} {terminals 
   conflict-reply room zero k v n f = absurd (n refl)
   conflict-reply room (suc q) k v n f = replies-conflict g room (suc q) (within-of T) (f .0) (f .1) (f .2)
 
-  pub answers-conflict : (room : ℕ) {q : ℕ} {lookaheads k v out : List ℕ} {r : Reply} → (q ≡ 0 → ⊥) → Settled g kernels lookaheads k v gotos q → r ≡ refused Conflict q → out ≡ replicate room 0
-      → Answers g room r out
-  answers-conflict room {q} {k = k} {v = v} n s e o = refused-as g room e (sym (conflict-reply room q k v n (s .filled))) refl o
+  pub answers-conflict : (room : ℕ) {q : ℕ} {lookaheads k v out : List ℕ} {r : BuildReply} → (q ≡ 0 → ⊥) → Settled g kernels lookaheads k v gotos q
+      → r ≡ refusedBy (record { kind = Conflict; place = q }) → out ≡ replicate room 0 → Answers g room r out
+  answers-conflict room {q} {k = k} {v = v} n s e o = answers-refused g room e (sym (conflict-reply room q k v n (s .filled))) o
 
   -- ---- the book
 
@@ -126,11 +140,10 @@ module _ {g : Grammar} {items kernels kinds values gotos : List ℕ} {terminals 
       entries-are : tableOf g .entries ≡ entryLines 1 (entryStrings g)
       entries-are = built-entries g (FirstByRules g) (first? g) (terminalCodes g) (first-in g)
 
-  pub answers-book : (room : ℕ) {q : ℕ} {entries lookaheads k v out : List ℕ} {r : Reply} → q ≡ 0 → Numbered entries strings → Settled g kernels lookaheads k v gotos q
-      → r ≡ textReply (memoryText items entries kernels lookaheads k v gotos rules strings lines all (terminals + 1)) room
-      → out ≡ textSlice (memoryText items entries kernels lookaheads k v gotos rules strings lines all (terminals + 1)) room r → Answers g room r out
-  answers-book room {q} {entries} {lookaheads} {k} {v} {out} {r} z N s e o =
+  pub answers-book : (room : ℕ) {q : ℕ} {entries lookaheads k v out : List ℕ} {r : BuildReply} → q ≡ 0 → Numbered entries strings → Settled g kernels lookaheads k v gotos q
+      → Writes (memoryText items entries kernels lookaheads k v gotos rules strings lines all (terminals + 1)) room r out → Answers g room r out
+  answers-book room {q} {entries} {lookaheads} {k} {v} {out} {r} z N s w =
       let s₀ : Settled g kernels lookaheads k v gotos 0 = subst (Settled g kernels lookaheads k v gotos) z s in
       let c : terminals + 1 ≡ suc (g .terminals) = let y = T .entered .terminal-count in omega (arith, y) in
-      let t = ap tableText (table-is c N s₀) in
-      answers-as g room (e ∙ ap (λ (l : List ℕ). textReply l room) t ∙ sym (replies-text g room (within-of T) (s₀ .filled .0))) (o ∙ ap (λ (l : List ℕ). textSlice l room r) t)
+      let t : Writes (tableText (tableOf g)) room r out = subst (λ (l : List ℕ). Writes l room r out) (ap tableText (table-is c N s₀)) w in
+      answers-as g room (t .reply-is ∙ sym (replies-text g room (within-of T) (s₀ .filled .0))) (t .length-is) (t .slice-is) (t .fits)

@@ -14,13 +14,14 @@ use Rattle.lalr.specs.Builder.{builderTable, builderReply, writes-fit, writes-m
 use Rattle.read_back.specs.Book.{books-read}
 use Rattle.checker.specs.Checked.{verdictOf}
 use Rattle.checker.specs.Exactly.{exactly}
-use Rattle.builder.specs.Build.{buildFrom, buildOf}
+use Rattle.builder.specs.Build.{textLength, buildFrom, buildOf}
 
 -- the book is that of the grammar's table, and the checker accepts it
 pub record Written (gs : List ℕ) (room : ℕ) : Type 0 where
   pub grammar : Grammar
   pub book-is : grammarOf gs ≡ accepted grammar
   pub slice-is : buildOf gs room .slice ≡ tableText (builderTable grammar) ++ replicate (room - length (tableText (builderTable grammar))) 0
+  pub length-is : buildOf gs room .length ≡ length (tableText (builderTable grammar))
   pub accepted-book : verdictOf gs (tableText (builderTable grammar)) ≡ Accepted 0
 
 pub writes-accepted : (gs : List ℕ) (room : ℕ) → buildOf gs room .reply ≡ Accepted 0 → Written gs room
@@ -38,6 +39,7 @@ writes-accepted gs room e = go (grammarOf gs) refl e
           book-is = f;
           slice-is = ap (λ (b : Book). buildFrom room b .slice) f ∙ slice-text g room
               ∙ ap (λ (l : List ℕ). textSlice l room (builderReply g room)) (sym (table-text g)) ∙ ap (textSlice (tableText (builderTable g)) room) h;
+          length-is = ap (λ (b : Book). buildFrom room b .length) f ∙ ap (textLength (tableText (builderTable g))) h;
           accepted-book = exactly gs (tableText (builderTable g)) .from (
             g,
             builderTable g,

@@ -1,4 +1,4 @@
--- What the builder promises of every grammar book. `buildOf` (builder/specs/Build.antt) is what `build_tables` answers, reply and slice, for all
+-- What the builder promises of every grammar book. `buildOf` (builder/specs/Build.antt) is what `build_tables` answers, reply, length and slice, for all
 -- bytes; here is what it says of any book that is read as a grammar, for every length of the slice that is lent. Other books it
 -- refuses as `grammarOf` does.
 use Prim.Native.Nat.{ℕ, zero, _-_, _≤_, _<_}
@@ -100,6 +100,8 @@ pub record Promise (gs : List ℕ) (g : Grammar) : Type 0 where
   pub refuses-conflict : (room q : ℕ) → (buildOf gs room .reply ≡ refused Conflict q) ↔ (WithinLimits g × LowestConflict g q)
   -- "a book that it writes": the table's, followed by zeros
   pub book-written : (room : ℕ) → buildOf gs room .reply ≡ Accepted 0 → buildOf gs room .slice ≡ text g ++ replicate (room - length (text g)) 0
+  -- its length is handed over
+  pub book-length : (room : ℕ) → buildOf gs room .reply ≡ Accepted 0 → buildOf gs room .length ≡ length (text g)
   -- "is accepted": the checker replies 0 to it
   pub book-accepted : (room : ℕ) → buildOf gs room .reply ≡ Accepted 0 → verdictOf gs (text g) ≡ Accepted 0
   -- "within the limits it refuses nothing else", where the book fits what is lent
@@ -162,6 +164,7 @@ builder-promise gs g e = record {
   refuses-conflict = λ room q. told room (reply.refuses-conflict g (R .formed) (TwoActions g) (two-actions g R) room q);
   book-written = λ room h. let w = writes-accepted gs room h in
       subst (λ (k : Grammar). buildOf gs room .slice ≡ text k ++ replicate (room - length (text k)) 0) (one (w .grammar) (w .book-is)) (w .slice-is);
+  book-length = λ room h. let w = writes-accepted gs room h in subst (λ (k : Grammar). buildOf gs room .length ≡ length (text k)) (one (w .grammar) (w .book-is)) (w .length-is);
   book-accepted = λ room h. let w = writes-accepted gs room h in subst (λ (k : Grammar). verdictOf gs (text k) ≡ Accepted 0) (one (w .grammar) (w .book-is)) (w .accepted-book);
   writes = λ room. told room (reply.writes g (R .formed) (TwoActions g) (two-actions g R) room);
   refuses-many = λ room. told room (reply.refuses-many g (R .formed) (TwoActions g) (two-actions g R) room);

@@ -173,7 +173,8 @@ fn explain(grammar: &[u8], number: u64, place: usize) {
 
 fn show(grammar: &[u8]) {
     let mut book = [0u8; 65536];
-    let reply = builder::build_tables(grammar, &mut book);
+    let built = builder::build_tables(grammar, &mut book);
+    let reply = built.reply;
     let number = reply::number(reply);
     let place = reply::place(reply);
     program::print_pair(number, place as u64);

@@ -37,11 +37,14 @@ build-requires c κs = record { items-room = refl; entries-room = refl; kernels-
 enum-known-built : tie.Need-enum-known-built
 enum-known-built c = search needs
 
+refused-requires : tie.Need-refused-requires
+refused-requires c κs = search needs
+
 enum-known-built-2 : tie.Need-enum-known-built-2
 enum-known-built-2 c = search needs
 
-refuse-requires : tie.Need-refuse-requires
-refuse-requires c κs = search needs
+refused-requires-2 : tie.Need-refused-requires-2
+refused-requires-2 c κs = search needs
 
 enum-known-built-3 : tie.Need-enum-known-built-3
 enum-known-built-3 c = search needs
@@ -68,25 +71,44 @@ slice-aggregate-write-book-7 : tie.Need-slice-aggregate-write-book-7
 slice-aggregate-write-book-7 c = search needs
 
 write-book-requires : tie.Need-write-book-requires
-write-book-requires c κs = let b = c .before .before .before .before .before .before .before .before .before .before .before .before .before .before .before .before .before .before .build .ensures in let C = rw (c .before .before .before .before .before .before .before .before .before .built3 .given .1) at b in (sized-of (C .stated) (C .numbered) (C .rooms) (C .lookaheads-room), zeros-again (length (now (c .before .before .before .before .before .before .before .before .before .before .before .before .before .before .before .before .before .before .before .before .before .before .before .before .before .before .before .before .before .before .before .before .args .out))) (c .before .before .before .before .before .before .before .before .before .before .before .before .before .before .before .before .before .before .before .before .before .before .before .before .before .before .before .before .clear .ensures))
+write-book-requires c κs =
+    let s = c .before .before .before .before .before .before .before .before .before .before .before .before .before .before .before .before .before .before in
+    let b = s .build .ensures in
+    let C = rw (c .before .before .before .before .before .before .before .before .before .built3 .given .1) at b in
+    let k = s .before .before .before .before .before .before .before .before .before .before in
+    (sized-of (C .stated) (C .numbered) (C .rooms) (C .lookaheads-room), zeros-again (length (now (k .before .before .before .before .args .out))) (k .clear .ensures))
 
 same-length : tie.Need-same-length
 same-length c = search needs
 
 returns : tie.Need-returns
-returns c = let b = c .before .before .before .before .before .before .before .before .before .before .build .ensures in build-refused _ _ (rw (c .before .built .given .1) at b) (c .before .before .before .before .before .before .before .before .before .before .before .before .before .before .before .before .before .before .before .before .clear .ensures)
+returns c =
+    let s = c .before .before .before .before .before .before .before .before .before .before .before in
+    let b = s .build .ensures in
+    build-refused _ _ (rw (c .before .before .built .given .1) at b) (c .refused .ensures) (s .before .before .before .before .before .before .before .before .before .before .clear .ensures)
 
 same-length-2 : tie.Need-same-length-2
 same-length-2 c = search needs
 
 returns-2 : tie.Need-returns-2
-returns-2 c = let b = c .before .before .before .before .before .before .before .before .before .before .before .build .ensures in let C = rw (c .before .before .built2 .given .1) at b in build-conflict _ _ (C .1) (C .0) (c .refuse .ensures) (c .before .before .before .before .before .before .before .before .before .before .before .before .before .before .before .before .before .before .before .before .before .clear .ensures)
+returns-2 c =
+    let s = c .before .before .before .before .before .before .before .before .before .before .before in
+    let b = s .build .ensures in
+    let C = rw (c .before .before .built2 .given .1) at b in
+    build-conflict _ _ (C .1) (C .0) (c .refused2 .ensures) (s .before .before .before .before .before .before .before .before .before .before .clear .ensures)
 
 same-length-3 : tie.Need-same-length-3
-same-length-3 c = c .before .before .write-book .kept .1 .1 .1 .1 .1 .1 .1 .1 .0 ∙ c .before .before .before .before .before .before .before .before .before .before .before .before .before .before .before .before .before .before .before .before .before .before .before .before .before .before .before .before .before .before .before .clear .kept .0
+same-length-3 c =
+    let w = c .before .before in
+    w .write-book .kept .1 .1 .1 .1 .1 .1 .1 .1 .0 ∙ w .before .before .before .before .before .before .before .before .before .before .before .before .before .before .before .before .before .before .before .before .before .before .before .before .before .before .before .before .before .clear .kept .0
 
 returns-3 : tie.Need-returns-3
-returns-3 c = let b = c .before .before .before .before .before .before .before .before .before .before .before .before .before .before .before .before .before .before .before .before .before .build .ensures in let C = rw (c .before .before .before .before .before .before .before .before .before .before .before .before .built3 .given .1) at b in let w = c .before .before .write-book .ensures in build-book _ _ C (c .before .before .before .before .before .before .before .before .before .before .before .before .before .before .before .before .before .before .before .before .before .before .before .before .before .before .before .before .before .before .before .clear .ensures) refl (w .0) (w .1)
+returns-3 c =
+    let s = c .before .before .before .before .before .before .before .before .before .before .before .before .before .before .before .before .before .before .before .before .before in
+    let b = s .build .ensures in
+    let C = rw (c .before .before .before .before .before .before .before .before .before .before .before .before .built3 .given .1) at b in
+    let w = c .before .before .write-book .ensures in
+    build-book _ _ C (s .before .before .before .before .before .before .before .before .before .before .clear .ensures) refl w
 
 pub build-tables-spec : {M : Type 1} → statement M
 build-tables-spec =
@@ -102,8 +124,9 @@ build-tables-spec =
     slice-aggregate-build-7
     build-requires
     enum-known-built
+    refused-requires
     enum-known-built-2
-    refuse-requires
+    refused-requires-2
     enum-known-built-3
     slice-aggregate-write-book
     slice-aggregate-write-book-2

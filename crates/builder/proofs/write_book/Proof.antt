@@ -3,7 +3,7 @@ use denote.Ref.{now}
 use mathlib.Core.Path.{_∙_}
 use lib.ListN.{length}
 use Rattle.table_writer.specs.MemoryTable.{memoryText}
-use Rattle.builder.proofs.BookLaws.{text-long, text-short, text-whole, text-none, text-written}
+use Rattle.builder.proofs.BookLaws.{text-long, text-short, text-none, text-written}
 use borrow.Author.Needs.{needs}
 use Rattle.builder.proofs.write_book.Statement.{statement}
 use Rattle.builder.proofs.write_book.Tie as tie
@@ -17,38 +17,47 @@ write-table-requires c κs = let p = c .before .before .before .before .before .
 clear-requires : tie.Need-clear-requires
 clear-requires c κs = search needs
 
-refuse-requires : tie.Need-refuse-requires
-refuse-requires c κs = search needs
+refused-requires : tie.Need-refused-requires
+refused-requires c κs = search needs
 
 same-length : tie.Need-same-length
 same-length c = search needs
 
 returns : tie.Need-returns
-returns c = let a = c .before .before .before .before .before .before .before .before .before .before .before .before .before .before .before .before .before .before .before .before .args in let t = memoryText (now (a .items)) (now (a .entries)) (now (a .kernels)) (now (a .lookaheads)) (now (a .kinds)) (now (a .values)) (now (a .gotos)) (a .counts .grammar .rules) (a .counts .entries) (a .counts .kernels) (a .counts .states) (a .counts .grammar .terminals + 1) in let n = length (now (a .out)) in
+returns c =
+    let a = c .before .before .before .before .before .before .before .before .before .before .before .before .before .before .before .before .before .before .before .before .args in
+    let t = memoryText (now (a .items)) (now (a .entries)) (now (a .kernels)) (now (a .lookaheads)) (now (a .kinds)) (now (a .values)) (now (a .gotos)) (a .counts .grammar .rules) (a .counts .entries) (a .counts .kernels) (a .counts .states) (a .counts .grammar .terminals + 1) in
+    let n = length (now (a .out)) in
     let w = c .before .before .before .before .before .before .before .before .write-table in let k = w .kept .1 .1 .1 .1 .1 .1 .1 .1 .1 .1 .1 .1 .0 in
-    (c .refuse .ensures ∙ text-long t n (w .ensures .0) (c .before .before .before .before .before .if1 .taken), text-none t n (c .refuse .ensures) k (c .before .before .before .clear .ensures))
+    text-none t n (c .refused .ensures) (text-long t n (w .ensures .0) (c .before .before .before .before .before .if1 .taken)) k (c .before .before .before .clear .ensures)
 
 clear-requires-2 : tie.Need-clear-requires-2
 clear-requires-2 c κs = search needs
 
-refuse-requires-2 : tie.Need-refuse-requires-2
-refuse-requires-2 c κs = search needs
+refused-requires-2 : tie.Need-refused-requires-2
+refused-requires-2 c κs = search needs
 
 same-length-2 : tie.Need-same-length-2
 same-length-2 c = search needs
 
 returns-2 : tie.Need-returns-2
-returns-2 c = let a = c .before .before .before .before .before .before .before .before .before .before .before .before .before .before .before .before .before .before .before .before .before .args in let t = memoryText (now (a .items)) (now (a .entries)) (now (a .kernels)) (now (a .lookaheads)) (now (a .kinds)) (now (a .values)) (now (a .gotos)) (a .counts .grammar .rules) (a .counts .entries) (a .counts .kernels) (a .counts .states) (a .counts .grammar .terminals + 1) in let n = length (now (a .out)) in
+returns-2 c =
+    let a = c .before .before .before .before .before .before .before .before .before .before .before .before .before .before .before .before .before .before .before .before .before .args in
+    let t = memoryText (now (a .items)) (now (a .entries)) (now (a .kernels)) (now (a .lookaheads)) (now (a .kinds)) (now (a .values)) (now (a .gotos)) (a .counts .grammar .rules) (a .counts .entries) (a .counts .kernels) (a .counts .states) (a .counts .grammar .terminals + 1) in
+    let n = length (now (a .out)) in
     let w = c .before .before .before .before .before .before .before .before .before .write-table in let k = w .kept .1 .1 .1 .1 .1 .1 .1 .1 .1 .1 .1 .1 .0 in
-    (c .refuse2 .ensures ∙ text-short t n (w .ensures .0) k (c .before .before .before .before .before .before .if1 .left) (c .before .before .before .before .before .if2 .taken), text-none t n (c .refuse2 .ensures) k (c .before .before .before .clear2 .ensures))
+    text-none t n (c .refused2 .ensures) (text-short t n (w .ensures .0) k (c .before .before .before .before .before .before .if1 .left) (c .before .before .before .before .before .if2 .taken)) k (c .before .before .before .clear2 .ensures)
 
 same-length-3 : tie.Need-same-length-3
 same-length-3 c = search needs
 
 returns-3 : tie.Need-returns-3
-returns-3 c = let a = c .before .before .before .before .before .before .before .before .before .before .before .before .before .before .before .before .args in let t = memoryText (now (a .items)) (now (a .entries)) (now (a .kernels)) (now (a .lookaheads)) (now (a .kinds)) (now (a .values)) (now (a .gotos)) (a .counts .grammar .rules) (a .counts .entries) (a .counts .kernels) (a .counts .states) (a .counts .grammar .terminals + 1) in let n = length (now (a .out)) in
+returns-3 c =
+    let a = c .before .before .before .before .before .before .before .before .before .before .before .before .before .before .before .before .args in
+    let t = memoryText (now (a .items)) (now (a .entries)) (now (a .kernels)) (now (a .lookaheads)) (now (a .kinds)) (now (a .values)) (now (a .gotos)) (a .counts .grammar .rules) (a .counts .entries) (a .counts .kernels) (a .counts .states) (a .counts .grammar .terminals + 1) in
+    let n = length (now (a .out)) in
     let w = c .before .before .before .before .write-table in let k = w .kept .1 .1 .1 .1 .1 .1 .1 .1 .1 .1 .1 .1 .0 in
-    (text-whole t n (w .ensures .0) k (c .before .if1 .left) (c .if2 .left), text-written t n (w .ensures .0) k (c .before .if1 .left) (c .if2 .left) (w .ensures .1))
+    text-written t n (w .ensures .0) k (c .before .if1 .left) (c .if2 .left) (w .ensures .1)
 
 pub write-book-spec : {M : Type 1} → statement M
 write-book-spec =
@@ -57,11 +66,11 @@ write-book-spec =
     add-write-table
     write-table-requires
     clear-requires
-    refuse-requires
+    refused-requires
     same-length
     returns
     clear-requires-2
-    refuse-requires-2
+    refused-requires-2
     same-length-2
     returns-2
     same-length-3

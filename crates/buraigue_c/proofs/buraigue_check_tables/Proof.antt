@@ -1,37 +1,17 @@
 -- `buraigue_c::buraigue_check_tables` meets its contract. Assumes nothing.
-use denote.Ref.{now}
 use borrow.Author.Needs.{needs}
-use Rattle.buraigue_c.proofs.ReplyLaws.{number-told, place-told}
+use Rattle.buraigue_c.proofs.ToldLaws.{told}
 use Rattle.buraigue_c.proofs.buraigue_check_tables.Statement.{statement}
 use Rattle.buraigue_c.proofs.buraigue_check_tables.Tie as tie
 
 check-tables-requires : tie.Need-check-tables-requires
 check-tables-requires c κs = search needs
 
-place-requires : tie.Need-place-requires
-place-requires c κs = search needs
-
-put-first-requires : tie.Need-put-first-requires
-put-first-requires c κs = search needs
-
-number-requires : tie.Need-number-requires
-number-requires c κs = search needs
-
-same-length : tie.Need-same-length
-same-length c = search needs
+tell-reply-requires : tie.Need-tell-reply-requires
+tell-reply-requires c κs = search needs
 
 returns : tie.Need-returns
-returns c =
-    let e = c .before .before .before .before .before .before .check-tables .ensures in
-    (number-told (c .number .ensures) e, place-told (now (c .before .before .before .before .before .before .before .before .before .before .args .place)) (c .before .before .before .put-first .ensures) (c .before .before .before .before .place .ensures) e)
+returns c = told (c .before .before .check-tables .ensures) (c .tell-reply .ensures)
 
 pub buraigue-check-tables-spec : {M : Type 1} → statement M
-buraigue-check-tables-spec =
-    tie.close
-    (tie.spec
-    check-tables-requires
-    place-requires
-    put-first-requires
-    number-requires
-    same-length
-    returns)
+buraigue-check-tables-spec = tie.close (tie.spec check-tables-requires tell-reply-requires returns)

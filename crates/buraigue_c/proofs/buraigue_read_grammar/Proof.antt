@@ -1,9 +1,8 @@
 -- `buraigue_c::buraigue_read_grammar` meets its contract. Assumes nothing.
 use mathlib.Core.Path.{ap, _∙_}
 use Rattle.grammar.specs.Memory.{asReply}
-use denote.Ref.{now}
 use borrow.Author.Needs.{needs}
-use Rattle.buraigue_c.proofs.ReplyLaws.{number-told, place-told}
+use Rattle.buraigue_c.proofs.ToldLaws.{told}
 use Rattle.buraigue_c.proofs.buraigue_read_grammar.Statement.{statement}
 use Rattle.buraigue_c.proofs.buraigue_read_grammar.Tie as tie
 
@@ -13,35 +12,16 @@ read-grammar-requires c κs = search needs
 as-reply-requires : tie.Need-as-reply-requires
 as-reply-requires c κs = search needs
 
-place-requires : tie.Need-place-requires
-place-requires c κs = search needs
-
-put-first-requires : tie.Need-put-first-requires
-put-first-requires c κs = search needs
-
-number-requires : tie.Need-number-requires
-number-requires c κs = search needs
+tell-reply-requires : tie.Need-tell-reply-requires
+tell-reply-requires c κs = search needs
 
 same-length : tie.Need-same-length
 same-length c = search needs
 
-same-length-2 : tie.Need-same-length-2
-same-length-2 c = search needs
-
 returns : tie.Need-returns
-returns c =
-    let e = c .before .before .before .before .before .before .as-reply .ensures ∙ ap asReply (c .before .before .before .before .before .before .before .before .before .read-grammar .ensures .0) in
-    (number-told (c .number .ensures) e, (place-told (now (c .before .before .before .before .before .before .before .before .before .before .before .before .before .before .args .place)) (c .before .before .before .put-first .ensures) (c .before .before .before .before .place .ensures) e, search needs))
+returns c = let e = c .before .before .before .before .before .read-grammar .ensures in (told (c .before .before .as-reply .ensures ∙ ap asReply (e .0)) (c .tell-reply .ensures), e .1)
 
 pub buraigue-read-grammar-spec : {M : Type 1} → statement M
 buraigue-read-grammar-spec =
     tie.close
-    (tie.spec
-    read-grammar-requires
-    as-reply-requires
-    place-requires
-    put-first-requires
-    number-requires
-    same-length
-    same-length-2
-    returns)
+    (tie.spec read-grammar-requires as-reply-requires tell-reply-requires same-length returns)

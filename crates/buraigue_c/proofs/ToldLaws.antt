@@ -1,0 +1,23 @@
+-- What is told of an answer is told of the definition that it equals.
+use Prim.Native.Nat.{ℕ}
+use mathlib.Core.Path.{_≡_, ap, subst, _∙_}
+use mathlib.Core.List.{List}
+use Rattle.reply.specs.declared.Reply.{Reply}
+use Rattle.walker.specs.declared.Walked.{Walked}
+use Rattle.walker.specs.Walked.{asReply, ruleCount, unitCount}
+use Rattle.session.specs.Session.{Session}
+use Rattle.buraigue_c.specs.Told.{ReplyTold, SessionTold}
+
+pub told : {r x : Reply} {number place : ℕ} → r ≡ x → ReplyTold r number place → ReplyTold x number place
+told {number = n} {place = p} e t = subst (λ (y : Reply). ReplyTold y n p) e t
+
+pub session-told : {s : Session} {a : Walked} {number place rules units : ℕ} {stack listing : List ℕ}
+    → (a ≡ s .reply) × ((listing ≡ s .listing) × (stack ≡ s .stack))
+    → ReplyTold (asReply a) number place × ((rules ≡ ruleCount a) × (units ≡ unitCount a)) → SessionTold s number place rules units stack listing
+session-told e t = record {
+  reply-told = told (ap asReply (e .0)) (t .0);
+  rules-are = t .1 .0 ∙ ap ruleCount (e .0);
+  units-are = t .1 .1 ∙ ap unitCount (e .0);
+  stack-is = e .1 .1;
+  listing-is = e .1 .0;
+}

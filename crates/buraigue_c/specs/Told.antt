@@ -1,0 +1,21 @@
+-- What the calls for C hand over, in single figures and lent slices.
+use Prim.Native.Nat.{ℕ}
+use mathlib.Core.Path.{_≡_}
+use mathlib.Core.List.{List}
+use Rattle.reply.specs.declared.Reply.{Reply}
+use Rattle.reply.specs.Reply.{numberOf, placeOf}
+use Rattle.walker.specs.Walked.{asReply, ruleCount, unitCount}
+use Rattle.session.specs.Session.{Session}
+
+-- a reply's number and place
+pub record ReplyTold (r : Reply) (number place : ℕ) : Type 0 where
+  pub number-is : number ≡ numberOf r
+  pub place-is : place ≡ placeOf r
+
+-- a session's: the reply, the counts and both slices
+pub record SessionTold (s : Session) (number place rules units : ℕ) (stack listing : List ℕ) : Type 0 where
+  pub reply-told : ReplyTold (asReply (s .reply)) number place
+  pub rules-are : rules ≡ ruleCount (s .reply)
+  pub units-are : units ≡ unitCount (s .reply)
+  pub stack-is : stack ≡ s .stack
+  pub listing-is : listing ≡ s .listing

@@ -1,0 +1,75 @@
+/* The calls of Buraigue for C: scan grammars, left-corner tables and sessions of scans. README.md has the formats and the limits.
+   `rt staticlib buraigue_c` writes target/staticlib/libburaigue_c.a, for x86-64 Linux.
+
+   A slice is a pointer and a length: `book, book_length` lends the book_length bytes from book on. No pointer is NULL, not even
+   with length 0, and what is lent for writing (no const) overlaps nothing else that is lent. Tokens, states and rules are a byte each.
+
+   Every call ends for all bytes and lengths, returns a reply's number and puts its place into *place. Where the number is 0, a slice
+   lent for writing holds the result and zeros after it. After a refusal each is zeros from end to end, and each count is 0. What they
+   held before the call plays no part. This is proved; crates/buraigue_c/src/lib.rt states it.
+
+   The calls keep no state and take no memory but the machine stack, so threads may call at once, each lending slices of its own. What a
+   call needs of the machine stack is said with it, measured (`sh bench/run.sh stack`) and rounded up: glibc gives a thread 8,192 KiB
+   unless it is told otherwise. */
+#ifndef BURAIGUE_H
+#define BURAIGUE_H
+
+#include <stddef.h>
+#include <stdint.h>
+
+#ifdef __cplusplus
+extern "C" {
+#endif
+
+/* the numbers of replies; README.md says when, and what the place is */
+enum buraigue_reply {
+    BURAIGUE_ACCEPTED = 0,
+    BURAIGUE_MALFORMED = 1,
+    BURAIGUE_LIMIT_EXCEEDED = 2,
+    BURAIGUE_UNDECLARED = 3,
+    BURAIGUE_MISPLACED_MARK = 4,
+    BURAIGUE_UNPRODUCTIVE = 5,
+    BURAIGUE_UNREACHABLE = 6,
+    BURAIGUE_ITEM_MISMATCH = 7,
+    BURAIGUE_MISSING_LOOKAHEAD = 8,
+    BURAIGUE_CONFLICT = 9,
+    BURAIGUE_CELL_MISMATCH = 10,
+    BURAIGUE_BUFFER_TOO_SMALL = 11,
+    BURAIGUE_SYNTAX_ERROR = 12
+};
+
+/* what is always enough to lend: for an item table, for the tokens of a scan file, for a table book */
+enum { BURAIGUE_ITEMS = 8192, BURAIGUE_TOKENS = 16384, BURAIGUE_BOOK = 65536 };
+
+/* Reads a grammar book into the item table: rule i in the 64 bytes from items[64 * i] on, its left side, length, recognition point and
+   unit flag (1 for U), symbol k at 16 + k, and at 32 + k a 1 where symbol k begins a group. Less than BURAIGUE_ITEMS bytes are too few.
+   Machine stack: 16 KiB. */
+uint64_t buraigue_read_grammar(const uint8_t *book, size_t book_length, uint8_t *items, size_t items_length, uint64_t *place);
+
+/* Reads a scan file with the house letters into its tokens; *place is how many there are. Machine stack: 16 KiB. */
+uint64_t buraigue_read_scans(const uint8_t *file, size_t file_length, uint8_t *tokens, size_t tokens_length, uint64_t *place);
+
+/* Checks a table book against its grammar book, whoever built it. Machine stack: 1,536 KiB. */
+uint64_t buraigue_check_tables(const uint8_t *grammar, size_t grammar_length, const uint8_t *book, size_t book_length, uint64_t *place);
+
+/* Builds the table book of a grammar book; *size is how many bytes of the slice it takes. Machine stack: 384 KiB. */
+uint64_t buraigue_build_tables(const uint8_t *grammar, size_t grammar_length, uint8_t *book, size_t book_length, uint64_t *place,
+                               uint64_t *size);
+
+/* Checks both books, then walks the tokens, 1 to t each, at most 65,535: the rules that it announces stand in listing, *rules counts them
+   and *units those that count a unit; stack is zeros after. How much stack and listing a session needs depends on the grammar: the program
+   run_session lends 1,048,576 of each. Where they are too short the reply is BURAIGUE_BUFFER_TOO_SMALL. Machine stack: 1,536 KiB. */
+uint64_t buraigue_run_session(const uint8_t *grammar, size_t grammar_length, const uint8_t *tables, size_t tables_length,
+                              const uint8_t *tokens, size_t tokens_length, uint8_t *stack, size_t stack_length, uint8_t *listing,
+                              size_t listing_length, uint64_t *place, uint64_t *rules, uint64_t *units);
+
+/* The same over a scan file with the house letters. Machine stack: 1,792 KiB. */
+uint64_t buraigue_run_scans(const uint8_t *grammar, size_t grammar_length, const uint8_t *tables, size_t tables_length,
+                            const uint8_t *file, size_t file_length, uint8_t *stack, size_t stack_length, uint8_t *listing,
+                            size_t listing_length, uint64_t *place, uint64_t *rules, uint64_t *units);
+
+#ifdef __cplusplus
+}
+#endif
+
+#endif
