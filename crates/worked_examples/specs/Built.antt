@@ -15,9 +15,13 @@ use Rattle.worked_examples.specs.Laws.{Computes}
 use Rattle.worked_examples.specs.Computing.{computes}
 
 pub record Built (b : Books) : Type 0 where
-  -- reply 0, and the table book "followed by zeros" in every slice that has room for it
+  -- reply 0, the book's length, and the table book "followed by zeros" in every slice that has room for it
   pub written : (room : ℕ) → length (book (b .tables)) ≤ room
-      → buildOf (book (b .grammar)) room ≡ record { reply = Accepted 0; slice = book (b .tables) ++ replicate (room - length (book (b .tables))) 0 }
+      → buildOf (book (b .grammar)) room ≡ record {
+        reply = Accepted 0;
+        length = length (book (b .tables));
+        slice = book (b .tables) ++ replicate (room - length (book (b .tables))) 0;
+      }
   -- reply 0: the table meets the construction (`exactly`, checker/specs/Exactly.antt)
   pub accepted : verdictOf (book (b .grammar)) (book (b .tables)) ≡ Accepted 0
 

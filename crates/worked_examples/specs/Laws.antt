@@ -23,7 +23,7 @@ use Rattle.table.specs.Memory.{replyOf, asReply}
 use Rattle.read_back.specs.Book.{books-read}
 use Rattle.checker.specs.Checked.{checkedOf, verdictOf}
 use Rattle.checker.specs.Exactly.{accepts}
-use Rattle.builder.specs.Build.{buildFrom, buildOf}
+use Rattle.builder.specs.Build.{textLength, buildFrom, buildOf}
 use Rattle.worked_examples.specs.Books.{book, Books}
 use Rattle.session.specs.Session.{Session, refusedAt, tableSession, afterBooks, session}
 
@@ -63,12 +63,13 @@ module _ {b : Books} {g : Grammar} {n : ℕ} (h : Computes b g n) where
       let e = sym (h .printed) in
       writes g n (reduced .formed) (h .passed) room (subst (λ (x : List ℕ). length x ≤ 65536) e few) (subst (λ (x : List ℕ). length x ≤ room) e l)
 
-  pub built : (room : ℕ) → length s ≤ room → buildOf gs room ≡ record { reply = Accepted 0; slice = s ++ replicate (room - length s) 0 }
+  pub built : (room : ℕ) → length s ≤ room → buildOf gs room ≡ record { reply = Accepted 0; length = length s; slice = s ++ replicate (room - length s) 0 }
   unfolding buildOf
   built room l =
       ap (buildFrom room) (h .reads)
-      ∙ ap₂ (λ (r : Reply) (x : List ℕ). record { reply = r; slice = x }) (replies room l)
+      ∙ ap₂ (λ (r : Reply) (x : List ℕ). record { reply = r; length = textLength (tableText (builderTable g)) r; slice = x }) (replies room l)
       (slice-text g room ∙ ap (λ (x : List ℕ). textSlice x room (builderReply g room)) (sym (table-text g) ∙ text-is) ∙ ap (textSlice s room) (replies room l))
+      ∙ ap (λ (x : List ℕ). record { reply = Accepted 0; length = length x; slice = s ++ replicate (room - length s) 0 }) text-is
 
   built-checked : checkedOf gs (tableText (builderTable g)) ≡ whole g (builderTable g)
   built-checked =
