@@ -1,4 +1,6 @@
 // The inclusions that lookaheads must meet; states whose lookaheads are too few are flagged.
+use symbol::CODES;
+use symbol::Symbol;
 ghost use mathlib.Core.Path.{_≡_};
 ghost use mathlib.Core.List.{List};
 ghost use Prim.Native.Nat.{ℕ, _*_, _<_, _≤_};
@@ -25,11 +27,11 @@ fn covers(grown: &[u8], lookaheads: &[u8], lines: usize, l: usize, codes: usize)
 {
     let mut c = 0;
     while c < codes {
-        if grown[l * 64 + c] == 0 {
+        if grown[l * CODES + c] == 0 {
             c += 1;
             continue;
         }
-        if lookaheads[l * 64 + c] == 0 {
+        if lookaheads[l * CODES + c] == 0 {
             return false;
         }
         c += 1;
@@ -81,8 +83,8 @@ pub fn mark_goal(
     ensures { λ _. ⌜ length (now (narrow .exit)) ≡ 256 ⌝ }
     ensures { λ _. ⌜ ((g : Grammar) (t : Table) (items kinds values gotos : List ℕ) → 1 ≤ strings → Held g t items (now (entries .entry)) (now (kernels .entry)) (now (lookaheads .entry)) kinds values gotos rules strings lines → Narrows (GoalMeets g t) (now (narrow .entry)) (now (narrow .exit))) ⌝ }
 {
-    let mut row = [0u8; 64];
-    row[0] = 1;
+    let mut row = [0u8; CODES];
+    row[Symbol::END] = 1;
     let s = wide(entries[1]);
     let mut grown = [0u8; 65536];
     inclusions::add_lines(
