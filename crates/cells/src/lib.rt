@@ -1,5 +1,7 @@
 // What the items of a state ask of its cells, and whether the cells are so.
 // Inner: for the checker and the builder.
+use symbol::CODES;
+use symbol::Symbol;
 ghost use mathlib.Core.Path.{_≡_};
 ghost use mathlib.Core.Bool.{true};
 ghost use mathlib.Core.List.{List};
@@ -82,7 +84,7 @@ pub fn ask_item(
     ensures { λ b. ⌜ Asks (ItemAsks (now (items .entry)) (now (nul .entry)) (now (fst .entry)) (now (from .entry)) rules codes i k start) (now (asked .entry)) (now (asked .exit)) b ⌝ }
 {
     if items::mark_of(items, count, i) == k {
-        let mut row = [0u8; 64];
+        let mut row = [0u8; CODES];
         carried::item_first(items, count, i, k, codes, nul, fst, from, start, &mut row);
         if !ask_codes(&row, 0, 0, codes, 512 + i, asked) {
             return false;
@@ -136,7 +138,7 @@ fn ask_lines(
             codes,
             i,
             k,
-            l * 64,
+            l * CODES,
             asked,
         ) {
             return false;
@@ -174,7 +176,7 @@ fn ask_rule(
         codes,
         i,
         0,
-        (left - 64) * 64,
+        (left - Symbol::FIRST_NONTERMINAL) * CODES,
         asked,
     ) {
         return false;
@@ -274,14 +276,14 @@ pub fn demand_of(kinds: &[u8], values: &[u8], q: usize, c: usize) -> usize
     requires { ⌜ (16384 ≤ length (now kinds)) × (16384 ≤ length (now values)) × (q < 256) × (c < 64) ⌝ }
     ensures { λ r. ⌜ r ≡ demandAt (now (kinds .entry)) (now (values .entry)) q c ⌝ }
 {
-    let kind = wide(kinds[q * 64 + c]);
+    let kind = wide(kinds[q * CODES + c]);
     if kind == 0 {
         return 0;
     }
     if kind == 1 {
         return 256;
     }
-    kind * 256 + wide(values[q * 64 + c])
+    kind * 256 + wide(values[q * CODES + c])
 }
 
 // Whether the cells of q are what is asked.
@@ -305,13 +307,13 @@ pub fn goto_meets(moves: &[u8], gotos: &[u8], q: usize, b: usize) -> bool
     requires { ⌜ (length (now moves) ≡ 128) × (16384 ≤ length (now gotos)) × (q < 256) × (b < 64) ⌝ }
     ensures { λ r. ⌜ Decides (GotoMeets (now (moves .entry)) (now (gotos .entry)) q b) r ⌝ }
 {
-    if moves[64 + b] == 0 {
-        if gotos[q * 64 + b] != 0 {
+    if moves[Symbol::FIRST_NONTERMINAL + b] == 0 {
+        if gotos[q * CODES + b] != 0 {
             return false;
         }
         return true;
     }
-    if gotos[q * 64 + b] == 0 {
+    if gotos[q * CODES + b] == 0 {
         return false;
     }
     true
@@ -323,7 +325,7 @@ fn gotos_meet(moves: &[u8], gotos: &[u8], q: usize) -> bool
     ensures { λ r. ⌜ Decides ((b : ℕ) → b < 64 → GotoMeets (now (moves .entry)) (now (gotos .entry)) q b) r ⌝ }
 {
     let mut b = 0;
-    while b < 64 {
+    while b < CODES {
         if !goto_meets(moves, gotos, q, b) {
             return false;
         }

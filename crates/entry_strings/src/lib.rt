@@ -43,7 +43,7 @@ fn add_string(
     if table_entries::find_entry(items, rules, strings, numbers, count) != 0 {
         return strings;
     }
-    table_entries::store_row(items, (rules + strings + 1) * 64, numbers, count);
+    table_entries::store_row(items, (rules + strings + 1) * items::ROW, numbers, count);
     strings + 1
 }
 

@@ -1,5 +1,7 @@
 // What the items of a state ask of the lookaheads of others, added as flags at line * 64 + code.
 // Inner: for the checker and the builder.
+use symbol::CODES;
+use symbol::Symbol;
 ghost use mathlib.Core.Path.{_≡_};
 ghost use Prim.Native.Nat.{ℕ, suc, _+_, _*_, _<_, _≤_};
 ghost use lib.ListN.{length};
@@ -43,7 +45,7 @@ fn add_line(
     if !kernel_lines::is_of(kernels, lines, count, l, i, k) {
         return;
     }
-    analysis::add_codes(from, start, codes, grown, l * 64);
+    analysis::add_codes(from, start, codes, grown, l * CODES);
 }
 
 // Asks of the line for item i, dot k in state s, if there is one, the codes that are flagged from `start` on.
@@ -146,7 +148,7 @@ fn add_group(
     if e == 0 {
         return;
     }
-    let mut row = [0u8; 64];
+    let mut row = [0u8; CODES];
     carried::item_first(items, count, i, b, codes, nul, fst, from, start, &mut row);
     let s = wide(entries[e]);
     add_lines(
@@ -335,7 +337,7 @@ fn add_kernel(
             p,
             i,
             k,
-            l * 64,
+            l * CODES,
             grown,
         );
         next = kernel_lines::line_before(kernels, links, lines, l);
@@ -388,7 +390,7 @@ fn add_rule(
         p,
         i,
         0,
-        (left - 64) * 64,
+        (left - Symbol::FIRST_NONTERMINAL) * CODES,
         grown,
     );
 }

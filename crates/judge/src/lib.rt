@@ -2,6 +2,8 @@
 // Inner: for `checker`.
 use reply::Kind;
 use reply::Reply;
+use symbol::CODES;
+use symbol::SYMBOLS;
 ghost use mathlib.Core.Path.{_≡_};
 ghost use mathlib.Core.List.{List};
 ghost use Prim.Native.Nat.{ℕ, suc, _+_, _<_, _≤_};
@@ -54,10 +56,10 @@ fn judge_state(
         → StateJudged g t (FirstBy codes (now (nul .entry)) (now (fst .entry))) (now (kernels .entry)) lines codes q (s .items) (s .agree) (s .cells) (now (grown .entry)) (now (grown .exit))) ⌝ }
 {
     let count = rules + strings;
-    let mut present = [0u8; 64];
-    let mut follow = [0u8; 4096];
-    let mut symbols = [0u8; 128];
-    let mut asked = [0usize; 64];
+    let mut present = [0u8; CODES];
+    let mut follow = [0u8; CODES * CODES];
+    let mut symbols = [0u8; SYMBOLS];
+    let mut asked = [0usize; CODES];
     closure::close_state(
         items,
         count,
@@ -294,8 +296,8 @@ fn judge_entered(
 {
     let count = rules + strings;
     let codes = terminals + 1;
-    let mut nul = [0u8; 128];
-    let mut fst = [0u8; 8192];
+    let mut nul = [0u8; SYMBOLS];
+    let mut fst = [0u8; SYMBOLS * CODES];
     let mut starts = [0u8; 8192];
     let mut through = [0u8; 128];
     let mut links = [0usize; 1280];

@@ -1,5 +1,8 @@
 // What moves from a kernel set, given as the rising numbers item * 16 + dot of its items.
 // Inner: for the builder.
+use symbol::CODES;
+use symbol::SYMBOLS;
+use symbol::Symbol;
 ghost use mathlib.Core.Path.{_≡_};
 ghost use Prim.Native.Nat.{_+_, _*_, _<_, _≤_};
 ghost use mathlib.Core.List.{_++_};
@@ -21,11 +24,11 @@ fn flag_kernel(items: &[u8], count: usize, kernel: &[usize], present: &mut [u8],
         let x = kernel[j];
         held[x] = 1;
         let s = moves::symbol_after(items, count, x / 16, x % 16);
-        if s < 64 {
+        if s < Symbol::FIRST_NONTERMINAL {
             j += 1;
             continue;
         }
-        present[s - 64] = 1;
+        present[s - Symbol::FIRST_NONTERMINAL] = 1;
         j += 1;
     }
 }
@@ -66,7 +69,7 @@ fn list_moved(items: &[u8], count: usize, held: &[u8], moved: &mut [usize]) -> u
             x += 1;
             continue;
         }
-        moved[n] = (x + 1) * 128 + s;
+        moved[n] = (x + 1) * SYMBOLS + s;
         n += 1;
         x += 1;
     }
@@ -87,7 +90,7 @@ pub fn list_moves(
     ensures { λ n. ⌜ n ≤ 4096 ⌝ }
     ensures { λ n. ⌜ ListsMoves (now (items .entry)) rules count (now (kernel .entry)) (take n (now (moved .exit))) ⌝ }
 {
-    let mut present = [0u8; 64];
+    let mut present = [0u8; CODES];
     let mut held = [0u8; 4096];
     flag_kernel(items, count, kernel, &mut present, &mut held);
     closure::close_present(items, count, rules, &mut present);
@@ -105,11 +108,11 @@ pub fn pick_moves(moved: &[usize], n: usize, x: usize, sets: &mut [usize], at: u
     let mut j = 0;
     while j < n {
         let c = moved[j];
-        if c % 128 != x {
+        if c % SYMBOLS != x {
             j += 1;
             continue;
         }
-        sets[at + len] = c / 128;
+        sets[at + len] = c / SYMBOLS;
         len += 1;
         j += 1;
     }

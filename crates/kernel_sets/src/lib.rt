@@ -1,5 +1,8 @@
 // Kernel sets in memory, and what joins them as a state is left. A kernel set is the rising list of the numbers item * 16 + dot of its items.
 // Inner: for the builder.
+use symbol::CODES;
+use symbol::SYMBOLS;
+use symbol::Symbol;
 ghost use mathlib.Core.Path.{_≡_};
 ghost use Prim.Native.Nat.{_+_, _<_, _≤_};
 ghost use lib.ListN.{length, take};
@@ -110,12 +113,12 @@ fn store_next(kinds: &mut [u8], values: &mut [u8], gotos: &mut [u8], q: usize, x
     if v == 0 {
         return;
     }
-    if 64 <= x {
-        gotos[q * 64 + (x - 64)] = v as u8;
+    if Symbol::FIRST_NONTERMINAL <= x {
+        gotos[q * CODES + (x - Symbol::FIRST_NONTERMINAL)] = v as u8;
         return;
     }
-    kinds[q * 64 + x] = 1;
-    values[q * 64 + x] = v as u8;
+    kinds[q * CODES + x] = 1;
+    values[q * CODES + x] = v as u8;
 }
 
 // How many states and kernel lines there are.
@@ -146,7 +149,7 @@ pub fn leave_state(
     let mut found = states;
     let mut end = lines;
     let mut x = 1;
-    while x < 128 {
+    while x < SYMBOLS {
         let visit = visit_symbol(moved, n, x, sets, starts, found, end);
         found = visit.states;
         end = visit.lines;

@@ -1,5 +1,7 @@
 // The builder's lookaheads: the smallest that satisfy the inclusions, by passes over the states.
 // Inner: for `build_memory`.
+use symbol::CODES;
+use symbol::Symbol;
 ghost use mathlib.Core.Path.{_≡_};
 ghost use Prim.Native.Nat.{_+_, _*_, _<_, _≤_};
 ghost use lib.ListN.{length};
@@ -42,8 +44,8 @@ fn ask_state(
     requires { ⌜ (p < 256) × (lines * 64 ≤ length (now lookaheads)) × (lines * 64 ≤ length (now grown)) ⌝ }
     ensures { λ _. ⌜ StateAdds (now (items .entry)) (now (kernels .entry)) (now (lookaheads .entry)) (now (kinds .entry)) (now (values .entry)) (now (gotos .entry)) (now (entries .entry)) (now (uses .entry)) (now (nul .entry)) (now (fst .entry)) rules lines codes p (now (grown .entry)) (now (grown .exit)) ⌝ }
 {
-    let mut present = [0u8; 64];
-    let mut follow = [0u8; 4096];
+    let mut present = [0u8; CODES];
+    let mut follow = [0u8; CODES * CODES];
     closure::close_state(
         items,
         count,
@@ -160,7 +162,7 @@ fn add_flags(
 {
     let mut added: usize = 0;
     let mut y = 0;
-    while y < lines * 64 {
+    while y < lines * CODES {
         if from[y] == 0 {
             y += 1;
             continue;
@@ -169,7 +171,7 @@ fn add_flags(
             y += 1;
             continue;
         }
-        let s = kernel_lines::state_of(kernels, lines, count, y / 64);
+        let s = kernel_lines::state_of(kernels, lines, count, y / CODES);
         flags[y] = 1;
         changed[s] = 1;
         added += 1;
@@ -264,8 +266,8 @@ pub fn find_lookaheads(
 {
     let count = rules + strings;
     reply::clear(lookaheads);
-    let mut row = [0u8; 64];
-    row[0] = 1;
+    let mut row = [0u8; CODES];
+    row[Symbol::END] = 1;
     inclusions::add_lines(
         kernels,
         links,

@@ -1,5 +1,7 @@
 // The inclusions that lookaheads must meet; states whose lookaheads are too few are flagged.
 // Inner: for the checker.
+use symbol::CODES;
+use symbol::Symbol;
 ghost use mathlib.Core.Path.{_≡_};
 ghost use mathlib.Core.List.{List};
 ghost use Prim.Native.Nat.{ℕ, _*_, _<_, _≤_};
@@ -27,11 +29,11 @@ fn covers(grown: &[u8], lookaheads: &[u8], lines: usize, l: usize, codes: usize)
 {
     let mut c = 0;
     while c < codes {
-        if grown[l * 64 + c] == 0 {
+        if grown[l * CODES + c] == 0 {
             c += 1;
             continue;
         }
-        if lookaheads[l * 64 + c] == 0 {
+        if lookaheads[l * CODES + c] == 0 {
             return false;
         }
         c += 1;
@@ -80,8 +82,8 @@ pub fn ask_goal(
     requires { ⌜ (rules ≤ 127) × (2 ≤ length (now entries)) × (lines * 64 ≤ length (now grown)) ⌝ }
     ensures { λ _. ⌜ Adds (GoalAsks (now (kernels .entry)) (now (entries .entry)) rules lines) (now (grown .entry)) (now (grown .exit)) ⌝ }
 {
-    let mut row = [0u8; 64];
-    row[0] = 1;
+    let mut row = [0u8; CODES];
+    row[Symbol::END] = 1;
     let s = wide(entries[1]);
     inclusions::add_lines(
         kernels,

@@ -1,5 +1,7 @@
 // What moves from a state, and on which symbols.
 // Inner: for the checker and the builder.
+use symbol::CODES;
+use symbol::Symbol;
 ghost use mathlib.Core.Path.{_≡_};
 ghost use Prim.Native.Nat.{ℕ, _+_, _-_, _<_, _≤_};
 ghost use mathlib.Core.List.{List};
@@ -40,13 +42,13 @@ pub fn next_of(kinds: &[u8], values: &[u8], gotos: &[u8], q: usize, x: usize) ->
     requires { ⌜ (q < 256) × (x < 128) ⌝ }
     ensures { λ r. ⌜ (r ≡ nextAt (now (kinds .entry)) (now (values .entry)) (now (gotos .entry)) q x) × (r < 256) ⌝ }
 {
-    if 64 <= x {
-        return wide(gotos[q * 64 + (x - 64)]);
+    if Symbol::FIRST_NONTERMINAL <= x {
+        return wide(gotos[q * CODES + (x - Symbol::FIRST_NONTERMINAL)]);
     }
-    if kinds[q * 64 + x] != 1 {
+    if kinds[q * CODES + x] != 1 {
         return 0;
     }
-    wide(values[q * 64 + x])
+    wide(values[q * CODES + x])
 }
 
 // Whether rule i's left side is flagged.
@@ -57,10 +59,10 @@ pub fn is_present(items: &[u8], present: &[u8], count: usize, i: usize) -> bool
     ensures { λ b. ⌜ Decides (Present (now (items .entry)) (now (present .entry)) i) b ⌝ }
 {
     let left = items::left_of(items, count, i);
-    if left < 64 {
+    if left < Symbol::FIRST_NONTERMINAL {
         return false;
     }
-    if present[left - 64] == 0 {
+    if present[left - Symbol::FIRST_NONTERMINAL] == 0 {
         return false;
     }
     true

@@ -1,5 +1,7 @@
 // The cells of the builder's table: announces and pops join the moves, unless items ask two different actions of one cell.
 // Inner: for `build_memory`.
+use symbol::CODES;
+use symbol::SYMBOLS;
 ghost use mathlib.Core.Path.{_≡_};
 ghost use mathlib.Core.Bool.{true};
 ghost use mathlib.Core.List.{List};
@@ -36,8 +38,8 @@ fn fill_state(asked: &[usize], q: usize, kinds: &mut [u8], values: &mut [u8])
     ensures { λ _. ⌜ FillsState (now (asked .entry)) q 64 (now (kinds .entry)) (now (values .entry)) (now (kinds .exit)) (now (values .exit)) ⌝ }
 {
     let mut c = 0;
-    while c < 64 {
-        fill_cell(kinds, values, q * 64 + c, asked[c]);
+    while c < CODES {
+        fill_cell(kinds, values, q * CODES + c, asked[c]);
         c += 1;
     }
 }
@@ -66,9 +68,9 @@ fn ask_state(
         → Decides (CellsAgree g t (FirstBy codes (now (nul .entry)) (now (fst .entry))) q) b × (b ≡ true → HoldsAsked g t (FirstBy codes (now (nul .entry)) (now (fst .entry))) q (now (asked .exit)))) ⌝ }
 {
     let count = rules + strings;
-    let mut present = [0u8; 64];
-    let mut follow = [0u8; 4096];
-    let mut symbols = [0u8; 128];
+    let mut present = [0u8; CODES];
+    let mut follow = [0u8; CODES * CODES];
+    let mut symbols = [0u8; SYMBOLS];
     closure::close_state(
         items,
         count,
@@ -139,7 +141,7 @@ fn settle_state(
     ensures { λ b. ⌜ ((g : Grammar) (entries : List ℕ) (all : ℕ) → HoldsLines g (now (items .entry)) entries (now (kernels .entry)) (now (lookaheads .entry)) (now (nul .entry)) (now (fst .entry)) rules strings lines all codes
         → Decides (Agree g q) b × (b ≡ true → StateFilled g q (now (kinds .entry)) (now (values .entry)) (now (kinds .exit)) (now (values .exit)))) ⌝ }
 {
-    let mut asked = [0usize; 64];
+    let mut asked = [0usize; CODES];
     if !ask_state(
         items,
         kernels,

@@ -1,5 +1,6 @@
 // The moves from a state, against the kernels of the states that they lead to.
 // Inner: for the checker.
+use symbol::SYMBOLS;
 ghost use mathlib.Core.Path.{_≡_};
 ghost use mathlib.Core.List.{List};
 ghost use Prim.Native.Nat.{ℕ, _+_, _<_, _≤_};
@@ -262,7 +263,7 @@ fn targets_only(
     ensures { λ b. ⌜ Decides ((x : ℕ) → 1 ≤ x → x < 128 → TargetOnly (now (items .entry)) (now (kernels .entry)) (now (present .entry)) (now (symbols .entry)) (now (kinds .entry)) (now (values .entry)) (now (gotos .entry)) rules lines q x) b ⌝ }
 {
     let mut x = 1;
-    while x < 128 {
+    while x < SYMBOLS {
         if !target_only(
             items,
             kernels,

@@ -1,5 +1,4 @@
 -- `walker::pop` meets its contract, by the laws of the two ways out and of the one that goes on. Assumes nothing.
-use mathlib.Core.Path.{sym, _∙_}
 use lib.ListN.{drop, length-drop}
 use Prim.Native.Nat.{suc, _+_, _-_}
 use native.Mathlib.Omega.{arith}
@@ -48,7 +47,7 @@ returns-3 c = let a = c .before .before .before .before .before .before .before 
     λ g m n k tokens listing s ec.
     turns-wrong g m n k tokens (a .stack .now) listing (a .p) (a .stack .now) listing
     (pop-wrong (drop (suc (a .symbols)) (tops (a .stack .now) (a .p .height))) (a .code) (omega (arith, length-drop (suc (a .symbols)) (tops (a .stack .now) (a .p .height)), tops-length (a .stack .now) (a .p .height), c .before .before .before .if3 .left, c .before .before .before .before .wide .ensures .0))
-    (λ z. c .before .if4 .taken (c .before .before .wide2 .ensures .0 ∙ z)))
+    (λ z. omega (arith, z, c .before .before .wide2 .ensures .0, c .before .if4 .taken)))
     (c .refused .ensures)
 
 refused-requires : tie.Need-refused-requires
@@ -59,7 +58,7 @@ returns-4 c = let a = c .before .before .before .before .before .before .args in
     λ g m n k tokens listing s ec.
     turns-whole g m n k tokens (a .stack .now) listing (a .p) (a .stack .now)
     (pop-whole (drop (suc (a .symbols)) (tops (a .stack .now) (a .p .height))) (a .code) (omega (arith, length-drop (suc (a .symbols)) (tops (a .stack .now) (a .p .height)), tops-length (a .stack .now) (a .p .height), c .before .before .if3 .left, c .before .before .before .wide .ensures .0))
-    (sym (c .before .wide2 .ensures .0) ∙ c .if4 .left)) s
+    (omega (arith, c .before .wide2 .ensures .0, c .if4 .left))) s
 
 pub pop-spec : {M : Type 1} → statement M
 pop-spec =
