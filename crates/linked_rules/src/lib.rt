@@ -1,5 +1,6 @@
 // The rules as the walker reads them: what an announce of each needs, in a row of 32 bytes.
 // Inner: for `session`.
+use symbol::CODES;
 ghost use mathlib.Core.Path.{_≡_};
 ghost use Prim.Native.Nat.{ℕ, _+_, _*_, _<_, _≤_};
 ghost use lib.ListN.{length, replicate};
@@ -57,7 +58,7 @@ fn link_rule(items: &[u8], count: usize, i: usize, entries: &[u8], uses: &[u8], 
     let groups = count_groups(uses, i);
     link_groups(entries, uses, i, groups, rows);
     rows[i * 32] = items::mark_of(items, count, i) as u8;
-    rows[i * 32 + 1] = (items::left_of(items, count, i) % 64) as u8;
+    rows[i * 32 + 1] = (items::left_of(items, count, i) % CODES) as u8;
     rows[i * 32 + 2] = items::unit_of(items, count, i) as u8;
     rows[i * 32 + 3] = groups as u8;
 }

@@ -1,4 +1,4 @@
--- A session over a scan file: "lengths of all three files, grammar, tables, scan lines, tokens, walk".
+-- A session over a scan file: lengths of all three files, grammar, tables, scan lines, tokens, walk.
 use Prim.Native.Nat.{ℕ}
 use mathlib.Core.Bool.{cond}
 use mathlib.Core.List.{List}

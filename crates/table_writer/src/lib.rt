@@ -1,5 +1,7 @@
 // Writes a table that stands in memory as a table book.
 // Inner: for `builder`.
+use symbol::CODES;
+use symbol::Symbol;
 ghost use mathlib.Core.Path.{_≡_};
 ghost use mathlib.Core.List.{[], _∷_, map};
 ghost use Prim.Native.Nat.{_+_, _*_, _<_, _≤_, min};
@@ -109,7 +111,7 @@ fn put_code(lookaheads: &[u8], l: usize, d: usize, out: &mut [u8], at: usize) ->
     requires { ⌜ (l * 64 + 64 ≤ length (now lookaheads)) × (d < 64) × (at ≤ 65537) ⌝ }
     ensures { λ r. ⌜ Wrote (now (out .entry)) at (fields (setIn (now (lookaheads .entry)) l (d ∷ []))) (now (out .exit)) r ⌝ }
 {
-    if lookaheads[l * 64 + d] == 0 {
+    if lookaheads[l * CODES + d] == 0 {
         return at;
     }
     put_field(out, at, d)
@@ -224,10 +226,23 @@ fn put_action(
     ensures { λ r. ⌜ Wrote (now (out .entry)) at (actionText (lineIf q symbol (actionIn (now (kinds .entry)) (now (values .entry)) (now (gotos .entry)) q symbol) [])) (now (out .exit)) r ⌝ }
 {
     let x = wide(symbol);
-    if x < 64 {
-        return put_cell(kinds[q * 64 + x], wide(values[q * 64 + x]), q, x, out, at);
+    if x < Symbol::FIRST_NONTERMINAL {
+        return put_cell(
+            kinds[q * CODES + x],
+            wide(values[q * CODES + x]),
+            q,
+            x,
+            out,
+            at,
+        );
     }
-    put_goto(wide(gotos[q * 64 + (x - 64)]), q, x, out, at)
+    put_goto(
+        wide(gotos[q * CODES + (x - Symbol::FIRST_NONTERMINAL)]),
+        q,
+        x,
+        out,
+        at,
+    )
 }
 
 // The action lines of state q.
