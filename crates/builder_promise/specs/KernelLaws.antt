@@ -79,28 +79,33 @@ module _ (g : Grammar) where
   -- ---- what an item is
 
   symbols-same : (i : ℕ) → symbols g (source i) ≡ symbolsOf g (bare g) i
-  symbols-same i = go (leb i rules)
+  symbols-same i = go (leb i rules) (stringOf (entryAt (bare g) (i - rules)))
     where
-      go : (b : Bool) → symbols g (cond b (rule i) (entry (stringOf (entryAt (bare g) (i - rules))))) ≡ cond b (rightOf (ruleAt g i)) (stringOf (entryAt (bare g) (i - rules)))
-      go true = refl
-      go false = refl
+      go : (b : Bool) (γ : List ℕ) → symbols g (cond b (rule i) (entry γ)) ≡ cond b (rightOf (ruleAt g i)) γ
+      go true γ = refl
+      go false γ = refl
 
   point-same : (i : ℕ) → point g (source i) ≡ recognitionPoint g (bare g) i
-  point-same i = go (leb i rules)
+  point-same i = go (leb i rules) (stringOf (entryAt (bare g) (i - rules)))
     where
-      go : (b : Bool) → point g (cond b (rule i) (entry (stringOf (entryAt (bare g) (i - rules))))) ≡ cond b (markOf (ruleAt g i)) none
-      go true = refl
-      go false = refl
+      go : (b : Bool) (γ : List ℕ) → point g (cond b (rule i) (entry γ)) ≡ cond b (markOf (ruleAt g i)) none
+      go true γ = refl
+      go false γ = refl
 
   -- ---- what a kernel set holds
 
   module _ (k : Kernel) where
     goes-to : {i n X : ℕ} {β : List ℕ} → table.Goes g (alone g k) i n X β → Goes g (source i) n X
-    goes-to {i = i} {n = n} {β = β} h = record { rest = β; before = ap (drop n) (symbols-same i) ∙ goes-over g (alone g k) (bare g) refl h .before; unmarked = λ e. h .unmarked (sym (point-same i) ∙ e) }
+    goes-to {i = i} {n = n} {β = β} h = record {
+      rest = β;
+      before = ap (drop n) (symbols-same i) ∙ goes-over g (alone g k) (bare g) refl h .before;
+      unmarked = λ e. h .unmarked (sym (point-same i) ∙ e);
+    }
 
     goes-from : {i n X : ℕ} (h : Goes g (source i) n X) → table.Goes g (alone g k) i n X (h .rest)
     goes-from {i = i} {n = n} h =
-        goes-over g (bare g) (alone g k) refl (record { before = sym (ap (drop n) (symbols-same i)) ∙ h .before; unmarked = λ e. h .unmarked (point-same i ∙ e) })
+        goes-over g (bare g) (alone g k) refl
+        (record { before = sym (ap (drop n) (symbols-same i)) ∙ h .before; unmarked = λ e. h .unmarked (point-same i ∙ e) })
 
     has-to : {i n : ℕ} → construction.Has g (alone g k) 1 i n → Has g (items k) (source i) n
     has-to {i = i} {n = n} (construction.in-kernel m) =
@@ -165,7 +170,9 @@ module _ (g : Grammar) where
 
   module _ (W : grammar.WellFormed g) (few : length (entryStrings g) ≤ 127) where
     pub moved-known : (k : Kernel) {X i n : ℕ} → MovedBy g (alone g k) 1 X i n → Known i
-    moved-known k {i = i} (construction.moved h go) = pick (symbols-item g W (bare g) refl i (omega (arith, bounded g W (bare g) refl (goes-over g (alone g k) (bare g) refl go) .within)))
+    moved-known k {i = i} (construction.moved h go) =
+        let b = bounded g W (bare g) refl (goes-over g (alone g k) (bare g) refl go) in
+        pick (symbols-item g W (bare g) refl i (omega (arith, b .within)))
       where
         pick : ((r : Rule) × (ruleAt g i ≡ some r)) ⊎ ((j : ℕ) × (s : ℕ) × (γ : List ℕ) × (i ≡ entryItem g (bare g) j) × EntryAt g (bare g) j s γ) → Known i
         pick (inl h) = known-rule i (h .1)

@@ -47,27 +47,30 @@ module _ (g : Grammar) where
     pub before : drop k (symbols ι) ≡ X ∷ rest
     pub unmarked : point ι ≡ some k → ⊥
 
-  -- "Closure: an item whose dot stands before nonterminal B, and not at its recognition point, [..] adds every rule of B with dot 0"
+  -- "Closure: an item whose dot stands before nonterminal B, and not at its recognition point, [..] adds every rule of B
+  -- with dot 0"
   pub data Has (H : List Dotted) : Item → ℕ → Type 0 where
     in-kernel : {ι : Item} {k : ℕ} → In (dot ι k) H → Has H ι k
-    in-closure : {ι : Item} {k X : ℕ} (j : ℕ) {r : Rule} → Has H ι k → Goes ι k X → ruleAt g j ≡ some r → r .left ≡ X → Has H (rule j) zero
+    in-closure : {ι : Item} {k X : ℕ} (j : ℕ) {r : Rule} → Has H ι k → Goes ι k X → ruleAt g j ≡ some r → r .left ≡ X
+        → Has H (rule j) zero
 
   -- "every item with the dot before X and not at its recognition point moves past X"
   pub data Moved (H : List Dotted) (X : ℕ) : Dotted → Type 0 where
     moved : {ι : Item} {k : ℕ} → Has H ι k → Goes ι k X → Moved H X (dot ι (suc k))
 
-  -- K, which has no item twice, is the kernel set of an entry ("the one kernel item r+k, dot 0"), or of what moves past some X from a
-  -- kernel set that is reached ("exactly the moved items")
+  -- K, which has no item twice, is the kernel set of an entry ("the one kernel item r+k, dot 0"), or what moves past
+  -- some X from a kernel set that is reached ("exactly the moved items"), where something does
   pub data Reached : List Dotted → Type 0 where
     from-entry : {γ : List ℕ} → Wanted g γ → Reached (dot (entry γ) zero ∷ [])
-    from-move : {H K : List Dotted} {X : ℕ} {a : Dotted} → Reached H → Moved H X a → ((b : Dotted) → In b K ↔ Moved H X b) → Once _≡_ K → Reached K
+    from-move : {H K : List Dotted} {X : ℕ} {a : Dotted} → Reached H → Moved H X a
+        → ((b : Dotted) → In b K ↔ Moved H X b) → Once _≡_ K → Reached K
 
-  -- different kernel sets that are reached
+  -- kernel sets that are reached, no two with the same items: "one state for each kernel set"
   pub record States (Ks : List (List Dotted)) : Type 0 where
     pub reached : (K : List Dotted) → In K Ks → Reached K
     pub different : Once Same Ks
 
-  -- more entries, states or kernel lines than a book may have
+  -- more entries, states or kernel lines than a book may have: 127, 255 and 1,023; a kernel line for each item of a kernel set
   pub data TooMany : Type 0 where
     entries : (γs : List (List ℕ)) → ((γ : List ℕ) → In γ γs → Wanted g γ) → Once _≡_ γs → 127 < length γs → TooMany
     states : (Ks : List (List Dotted)) → States Ks → 255 < length Ks → TooMany

@@ -103,21 +103,29 @@ module _ (g : Grammar) where
       state-reached zero q b l h = absurd (omega (arith, b, l))
       state-reached (suc n) q b l h = go (lalr.entry-or g q h) (state-reached n)
         where
-          go : (q ≤ length (entryStrings g)) ⊎ lalr.Reached g q → ((p : ℕ) → p ≤ n → 1 ≤ p → p ≤ length (states g) → Reached g (items g (kernelOf g p)))
-              → Reached g (items g (kernelOf g q))
-          go (inl e) rec = let v = entry-of q l e in subst (Reached g) (sym (entry-items q (v .1))) (from-entry (entry-line g (bare g) refl q (v .1) .3))
+          go : (q ≤ length (entryStrings g)) ⊎ lalr.Reached g q
+              → ((p : ℕ) → p ≤ n → 1 ≤ p → p ≤ length (states g) → Reached g (items g (kernelOf g p))) → Reached g (items g (kernelOf g q))
+          go (inl e) rec =
+              let v = entry-of q l e in
+              subst (Reached g) (sym (entry-items q (v .1))) (from-entry (entry-line g (bare g) refl q (v .1) .3))
           go (inr r) rec =
               let k = kernelOf g (r .from) in
               let X = r .symbol in
               subst (λ (m : Kernel). Reached g (items g m)) (sym (r .kernel))
               (from-move (rec (r .from) (omega (arith, r .earlier, b)) (r .low) (omega (arith, r .earlier, h)))
-              (moved-to g k (move-only g k X (r .some-item .0) (r .some-item .1))) (move-items g W few k X) (items-once g (move g k X) (move-formed k X)))
+              (moved-to g k (move-only g k X (r .some-item .0) (r .some-item .1))) (move-items g W few k X)
+              (items-once g (move g k X) (move-formed k X)))
+
+      formed : (k : Kernel) → In k (states g) → Formed g k
+      formed = by-number (Formed g) kernel-formed
+
+      each-reached : (k : Kernel) → In k (states g) → Reached g (items g k)
+      each-reached = by-number (λ (k : Kernel). Reached g (items g k)) (λ q l h. state-reached q q (omega arith) l h)
 
       all-states : States g (map (items g) (states g))
       all-states = record {
-        reached = λ K m. let r = in-map (items g) (states g) m in
-            subst (Reached g) (sym (r .2)) (by-number (λ (k : Kernel). Reached g (items g k)) (λ q l h. state-reached q q (omega arith) l h) (r .0) (r .1));
-        different = once-map _≡_ Same (items g) (states g) (λ k h m n. items-apart g k h (by-number (Formed g) kernel-formed k m) (by-number (Formed g) kernel-formed h n))
+        reached = λ K m. let r = in-map (items g) (states g) m in subst (Reached g) (sym (r .2)) (each-reached (r .0) (r .1));
+        different = once-map _≡_ Same (items g) (states g) (λ k h m n. items-apart g k h (formed k m) (formed h n))
             (distinct-once (states g) (lalr.states-distinct g));
       }
 
@@ -213,7 +221,9 @@ module _ (g : Grammar) where
                 some-state = λ h m. state-in h (in-cons m);
                 some-set = λ h m. set-in h (in-cons m);
                 as-many = ap suc (c .as-many);
-                as-heavy = omega (arith, c .as-heavy, no-longer K (items g k) (reached-once (reached K here)) (λ a. s .same a .to), length-map k (dotted g));
+                as-heavy =
+                    let n = no-longer K (items g k) (reached-once (reached K here)) (λ a. s .same a .to) in
+                    omega (arith, c .as-heavy, n, length-map k (dotted g));
               }
             where
               state-in : (h : Kernel) → (h ≡ kernelOf g (s .state)) ⊎ In h (c .chosen) → In h (states g)

@@ -84,4 +84,4 @@ module _ (g : Grammar) (t : Table) where
       carries-of (in-closure {i = i} {k = k} {X = X} j {β = β} h go e l) =
           let c = carries-of h in
           let f = some-first i k X (c .0) β go in
-          (f .0, in-closure j (c .1) go e l (f .1))
+          (_, in-closure j (c .1) go e l (f .1))
