@@ -249,11 +249,13 @@ module _ (g : Grammar) (L : Limits g) (ks : List Kernel) (same : states g ≡ ks
           one (inr k) = elim k [ ]
 
       item : (x d : ℕ) → Lookahead g (FirstByRules g) q (itemOf x) (dotOf x) d
-          → In (X * 1024 + v) (announceIf g (bare g) nl fl ks (isMarked g (bare g) nl fl ks x) (itemOf x) d) ⊎ In (X * 1024 + v) (popIf (endOf (entryAt (bare g) (itemOf x - length (g .rules))) (dotOf x)) (dotOf x) d) → Some q X
+          → In (X * 1024 + v) (announceIf g (bare g) nl fl ks (isMarked g (bare g) nl fl ks x) (itemOf x) d)
+          ⊎ In (X * 1024 + v) (popIf (endOf (entryAt (bare g) (itemOf x - length (g .rules))) (dotOf x)) (dotOf x) d) → Some q X
       item x d k (inl n) = announcing x d k (isMarked g (bare g) nl fl ks x) refl n
       item x d k (inr n) = popping x d k (endOf (entryAt (bare g) (itemOf x - length (g .rules))) (dotOf x)) refl n
 
-      go : In (X * 1024 + v) (map (moveAsk g (bare g) nl fl ks q) (movers g (bare g) (kernelIn ks q))) ⊎ In (X * 1024 + v) (lookAsks g (bare g) nl fl ks q ls) → Some q X
+      go : In (X * 1024 + v) (map (moveAsk g (bare g) nl fl ks q) (movers g (bare g) (kernelIn ks q)))
+          ⊎ In (X * 1024 + v) (lookAsks g (bare g) nl fl ks q ls) → Some q X
       go (inl n) = let y = in-map (moveAsk g (bare g) nl fl ks q) (movers g (bare g) (kernelIn ks q)) n in moving (y .0) (y .1) (y .2)
       go (inr n) =
           let y = looks-in g (bare g) nl fl ks q ls (X * 1024 + v) n in

@@ -141,8 +141,8 @@ module _ (g : Grammar) (b : Table) (nl fl : List ℕ) (ks : List Kernel) where
       ap (λ (t : Bool). sameMark (cond t (markOf (ruleAt g i)) none) (length (r .before))) t
       ∙ ap (λ (o : Option Rule). sameMark (markOf o) (length (r .before))) e ∙ eq-eqb (length (r .before)) (length (r .before)) refl
 
-module _ (g : Grammar) (W : grammar.WellFormed g) (few : length (entryStrings g) ≤ 127) (ks : List Kernel) (same : states g ≡ ks) (ok : every (closes g (bare g)) ks ≡ true)
-    (nl fl : List ℕ) (F-is : (β : List ℕ) (d c : ℕ) → In c (firstOf nl fl β d) ↔ FirstByRules g β d c) where
+module _ (g : Grammar) (W : grammar.WellFormed g) (few : length (entryStrings g) ≤ 127) (ks : List Kernel) (same : states g ≡ ks)
+    (ok : every (closes g (bare g)) ks ≡ true) (nl fl : List ℕ) (F-is : (β : List ℕ) (d c : ℕ) → In c (firstOf nl fl β d) ↔ FirstByRules g β d c) where
   abbrev Looked : ℕ → ℕ → ℕ → ℕ → Type 0
   Looked q i k d = Lookahead g (FirstByRules g) q i k d
 
@@ -216,7 +216,8 @@ module _ (g : Grammar) (W : grammar.WellFormed g) (few : length (entryStrings g)
           (omega arith) (omega arith) (of-group (itemOf x) (p .0) (p .1) (p .2) (r .1)
           (subst (λ (z : ℕ). Looked q (itemOf x) z d) (sym (r .2)) h) s F)
 
-      either : In y (onRest g (bare g) nl fl ks (rest g (bare g) x) q x d) ⊎ In y (atMark g (bare g) nl fl ks (isMarked g (bare g) nl fl ks x) (groupsOf (ruleAt g (itemOf x))) d) → Says y
+      either : In y (onRest g (bare g) nl fl ks (rest g (bare g) x) q x d)
+          ⊎ In y (atMark g (bare g) nl fl ks (isMarked g (bare g) nl fl ks x) (groupsOf (ruleAt g (itemOf x))) d) → Says y
       either (inl n) = on (rest g (bare g) x) refl n
       either (inr n) = marked (isMarked g (bare g) nl fl ks x) refl n
 

@@ -129,7 +129,9 @@ module _ (g : Grammar) (W : grammar.WellFormed g) (few : length (entryStrings g)
   discover-extends (suc f) q ks =
       go (ltb q (length ks)) (discover-extends f (suc q) (leave moveFrom (movers g (bare g) (getD ks q [])) (range 1 127) ks))
     where
-      go : (t : Bool) → Extends (leave moveFrom (movers g (bare g) (getD ks q [])) (range 1 127) ks) (discover g (bare g) f (suc q) (leave moveFrom (movers g (bare g) (getD ks q [])) (range 1 127) ks))
+      go : (t : Bool)
+          → Extends (leave moveFrom (movers g (bare g) (getD ks q [])) (range 1 127) ks)
+          (discover g (bare g) f (suc q) (leave moveFrom (movers g (bare g) (getD ks q [])) (range 1 127) ks))
           → Extends ks (cond t (discover g (bare g) f (suc q) (leave moveFrom (movers g (bare g) (getD ks q [])) (range 1 127) ks)) ks)
       go true x = extends-trans (leave-extends moveFrom (range 1 127) (movers g (bare g) (getD ks q [])) ks) x
       go false x = stays ks

@@ -25,7 +25,4 @@ pub mod Place
 pub mod Correct
 pub mod Progress
 pub mod Bounded
-pub mod Starred
-pub mod Smallest
-pub mod Instance
 pub mod Demand3
