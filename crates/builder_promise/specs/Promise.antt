@@ -76,7 +76,7 @@ module _ (g : Grammar) where
 
   -- what is promised of the table
   pub record Construction : Type 0 where
-    -- "the contexts are the least that satisfy the inclusions of document 01": a code stands in a kernel line exactly where the
+    -- "The builder's kernels have the smallest contexts": a code stands in a kernel line exactly where the
     -- inclusions put it (`Lookahead`, an inductive family),
     pub contexts : (q i k d : ℕ) (σ : List ℕ) → KernelAt g table q i k σ → In d σ ↔ Lookahead g (First g) q i k d
     -- they satisfy the inclusions,
@@ -87,24 +87,24 @@ module _ (g : Grammar) where
     -- the entry lines are "the goal alone, then every other distinct group once", and each names the state that has its one item
     pub entries : EntriesMeet g table
     pub entry-states : (e s : ℕ) (γ : List ℕ) → EntryAt g table e s γ → KernelIs g table s (dot (entry γ) zero ∷ [])
-    -- "every state's kernel set is reached" (`Kernels.antt`), and every one that is reached is a state's
+    -- every state's kernel set is reached (`Kernels.antt`), and every one that is reached is a state's
     pub reached : (q : ℕ) → IsState q → (K : List Dotted) × Reached g K × KernelIs g table q K
     pub every-reached : (K : List Dotted) → Reached g K → (q : ℕ) × IsState q × KernelIs g table q K
-    -- "no two states have the same kernel set"
+    -- "with one state for each kernel set"
     pub distinct : (p q : ℕ) → IsState p → IsState q → ((i k : ℕ) → InKernel p i k ↔ InKernel q i k) → p ≡ q
 
 pub record Promise (gs : List ℕ) (g : Grammar) : Type 0 where
   -- where there are no more entries, states and kernel lines than a book may have (`Kernels.antt`)
   pub construction : WithinLimits g → Construction g
-  -- "it refuses 9 exactly where some cell of that construction would hold two different actions, at the lowest such state"
+  -- demand 2: it "refuses for a clash just where two actions meet in a cell": 9 at the lowest such state
   pub refuses-conflict : (room q : ℕ) → (buildOf gs room .reply ≡ refused Conflict q) ↔ (WithinLimits g × LowestConflict g q)
-  -- "a book that it writes": the table's, followed by zeros
+  -- the book is the table's, "followed by zeros"
   pub book-written : (room : ℕ) → buildOf gs room .reply ≡ Accepted 0 → buildOf gs room .slice ≡ text g ++ replicate (room - length (text g)) 0
   -- its length is handed over
   pub book-length : (room : ℕ) → buildOf gs room .reply ≡ Accepted 0 → buildOf gs room .length ≡ length (text g)
-  -- "is accepted": the checker replies 0 to it
+  -- "its books are always accepted": the checker replies 0
   pub book-accepted : (room : ℕ) → buildOf gs room .reply ≡ Accepted 0 → verdictOf gs (text g) ≡ Accepted 0
-  -- "within the limits it refuses nothing else", where the book fits what is lent
+  -- "Within the limits, the builder writes that construction's book", where it fits what is lent
   pub writes : (room : ℕ) → (buildOf gs room .reply ≡ Accepted 0) ↔ (WithinLimits g × NoConflict g × (length (text g) ≤ 65536) × (length (text g) ≤ room))
   -- 2: more entries, states or kernel lines than a book may have, or, with no conflict, more bytes
   pub refuses-many : (room : ℕ) → (buildOf gs room .reply ≡ refused LimitExceeded 0) ↔ (TooMany g ⊎ (WithinLimits g × NoConflict g × (65536 < length (text g))))

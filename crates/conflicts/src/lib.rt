@@ -1,5 +1,7 @@
 // Which two actions the items of a state ask of one cell.
 // Inner: for `explanation`.
+use symbol::CODES;
+use symbol::Symbol;
 ghost use mathlib.Core.Path.{_≡_};
 ghost use mathlib.Core.List.{List};
 ghost use Prim.Native.Nat.{ℕ, suc, _*_, _+_, _<_, _≤_};
@@ -54,7 +56,7 @@ pub fn item_demand(
     requires { ⌜ (i ≤ count) × (i < 256) × (k ≤ 15) × (start + 64 ≤ length (now from)) × (c < 64) ⌝ }
     ensures { λ v. ⌜ Sole (ItemAsks (now (items .entry)) (now (nul .entry)) (now (fst .entry)) (now (from .entry)) rules codes i k start c) v ⌝ }
 {
-    let mut asked = [0usize; 64];
+    let mut asked = [0usize; CODES];
     cells::ask_item(
         items,
         nul,
@@ -76,7 +78,7 @@ fn move_demand(moves: &[u8], codes: usize, c: usize) -> usize
     requires { ⌜ (c < codes) × (codes ≤ length (now moves)) ⌝ }
     ensures { λ v. ⌜ Sole (CodeAsks (now (moves .entry)) 0 1 codes 256 c) v ⌝ }
 {
-    if c == 0 {
+    if c == Symbol::END {
         return 0;
     }
     if moves[c] == 0 {
@@ -121,7 +123,7 @@ fn line_demand(
             codes,
             i,
             k,
-            l * 64,
+            l * CODES,
             c,
         );
         if is_other(v, other) {
@@ -159,7 +161,7 @@ fn rule_demand(
         codes,
         i,
         0,
-        (left - 64) * 64,
+        (left - Symbol::FIRST_NONTERMINAL) * CODES,
         c,
     )
 }

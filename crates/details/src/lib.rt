@@ -1,6 +1,8 @@
 // What exactly is wrong with a state of tables that are refused with 7 or 10.
 // Inner: for `explanation`.
 use fixpoint::Found;
+use symbol::CODES;
+use symbol::SYMBOLS;
 ghost use mathlib.Core.Path.{_≡_};
 ghost use mathlib.Core.List.{List};
 ghost use Prim.Native.Nat.{ℕ, _+_, _<_, _≤_};
@@ -221,7 +223,7 @@ fn find_extra(
     ensures { λ r. ⌜ (r ≡ ItemFault.Nothing → (X : ℕ) → 1 ≤ X → X < 128 → TargetOnly (now (items .entry)) (now (kernels .entry)) (now (present .entry)) (now (symbols .entry)) (now (kinds .entry)) (now (values .entry)) (now (gotos .entry)) rules lines q X) ⌝ }
 {
     let mut x = 1;
-    while x < 128 {
+    while x < SYMBOLS {
         let found = find_extra_at(
             items,
             kernels,
@@ -336,7 +338,7 @@ pub fn find_goto(moves: &[u8], gotos: &[u8], q: usize) -> Found
     ensures { λ r. ⌜ Misses Any (GotoMeets (now (moves .entry)) (now (gotos .entry)) q) 0 64 r ⌝ }
 {
     let mut b = 0;
-    while b < 64 {
+    while b < CODES {
         if !cells::goto_meets(moves, gotos, q, b) {
             return Found::At(b);
         }

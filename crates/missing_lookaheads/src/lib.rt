@@ -1,6 +1,7 @@
 // Which lookahead a kernel line of a state lacks.
 // Inner: for `explanation`.
 use fixpoint::Found;
+use symbol::CODES;
 ghost use mathlib.Core.Path.{_≡_};
 ghost use mathlib.Core.List.{List};
 ghost use Prim.Native.Nat.{ℕ, _+_, _*_, _<_, _≤_};
@@ -31,11 +32,11 @@ fn find_code(asked: &[u8], lookaheads: &[u8], lines: usize, l: usize, codes: usi
 {
     let mut c = 0;
     while c < codes {
-        if asked[l * 64 + c] == 0 {
+        if asked[l * CODES + c] == 0 {
             c += 1;
             continue;
         }
-        if lookaheads[l * 64 + c] == 0 {
+        if lookaheads[l * CODES + c] == 0 {
             return Found::At(c);
         }
         c += 1;
@@ -103,7 +104,7 @@ fn find_from(
         → HoldsUses (now (uses .entry)) g t → LackIs g t (FirstBy codes (now (nul .entry)) (now (fst .entry))) (LookaheadsFrom g t (FirstBy codes (now (nul .entry)) (now (fst .entry))) p q) q r) ⌝ }
 {
     let count = rules + strings;
-    let mut present = [0u8; 64];
+    let mut present = [0u8; CODES];
     let mut follow = [0u8; 4096];
     let mut asked = [0u8; 65536];
     closure::close_state(

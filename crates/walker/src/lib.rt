@@ -9,6 +9,7 @@ ghost use Rattle.walker.specs.Turn.{tops, groupsOver, ruleOver, PushesFr
 use reply::Kind;
 use reply::Refusal;
 use reply::Reply;
+use symbol::CODES;
 use symbol::Symbol;
 
 // What a state does on a code: push the next state and take a token, announce a rule, pop an entry (the value is its
@@ -72,7 +73,7 @@ fn step_at(kinds: &[u8], values: &[u8], state: u8, code: u8) -> Step
     requires { ⌜ (length (now kinds) ≡ 16640) × (length (now values) ≡ 16640) ⌝ }
     ensures { λ r. ⌜ (r .cell ≡ cellAt (now (kinds .entry)) (now (values .entry)) state code) × (r .code ≡ code) ⌝ }
 {
-    let i = wide(state) * 64 + wide(code);
+    let i = wide(state) * CODES + wide(code);
     let kind = kinds[i];
     let value = values[i];
     if kind == 1 {
@@ -112,7 +113,7 @@ fn goto_at(gotos: &[u8], state: u8, left: u8) -> u8
     requires { ⌜ length (now gotos) ≡ 16640 ⌝ }
     ensures { λ r. ⌜ r ≡ gotoOf (now (gotos .entry)) state left ⌝ }
 {
-    gotos[wide(state) * 64 + wide(left)]
+    gotos[wide(state) * CODES + wide(left)]
 }
 
 // The next token, or 0 past the last.

@@ -24,7 +24,7 @@ pub data Told : Type 0 where
   lists : List ℕ → List ℕ → ℕ → Told
   wrong : List ℕ → ℕ → Told
 
--- "abbc: 3,1,5. abbbcc: 3,2,1,5,4. [..] abc: wrong at 2. abb: at 3. no token: at 0."
+-- "★ abbc: 3,1,5. ★ abbbcc: 3,2,1,5,4. [..] ★ abc: wrong at 2. ★ abb: at 3. ★ no token: at 0."
 abbrev pub told-g1 : List Told
 told-g1 =
     lists (1 ∷ 2 ∷ 2 ∷ 3 ∷ []) (3 ∷ 1 ∷ 5 ∷ []) 0 ∷
@@ -34,11 +34,11 @@ told-g1 =
     wrong [] 0 ∷
     []
 
--- "With rule 1 as `^ a / B b / C` [..] abbc lists 1,3,5."
+-- "With rule 1 as `^ a / B b / C` it has 13, and ★ abbc lists 1,3,5."
 abbrev pub told-g1-cut : List Told
 told-g1-cut = lists (1 ∷ 2 ∷ 2 ∷ 3 ∷ []) (1 ∷ 3 ∷ 5 ∷ []) 0 ∷ []
 
--- "1423: 1,2,3,4,5, one unit. 123123: 1,2,3,4,2,3,4, two units. no token: 1, no unit. 1123: wrong at 1."
+-- "★ 1423: 1,2,3,4,5, one unit. ★ 123123: 1,2,3,4,2,3,4, two units. ★ no token: 1, no unit. ★ 1123: wrong at 1."
 abbrev pub told-d : List Told
 told-d =
     lists (1 ∷ 4 ∷ 2 ∷ 3 ∷ []) (1 ∷ 2 ∷ 3 ∷ 4 ∷ 5 ∷ []) 1 ∷
