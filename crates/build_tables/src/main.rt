@@ -3,11 +3,17 @@ use reply::Reply;
 
 fn show(grammar: &[u8]) {
     let mut book = [0u8; 65536];
+    let mut out = program::output();
     let reply = builder::build_tables(grammar, &mut book);
     match reply {
-        Reply::Accepted(_) => program::print_text(&book),
-        Reply::Refused(_) => program::print_pair(reply::number(reply), reply::place(reply) as u64),
+        Reply::Accepted(_) => program::print_text(&mut out, &book),
+        Reply::Refused(_) => program::print_pair(
+            &mut out,
+            reply::number(reply),
+            reply::place(reply) as u64,
+        ),
     }
+    program::flush(&mut out);
 }
 
 fn main() {

@@ -4,6 +4,7 @@ use details::EntryFault;
 use details::ItemFault;
 use fixpoint::Found;
 use missing_lookaheads::Lack;
+use program::OUTPUT;
 use program::print_count;
 use program::print_text;
 ghost use mathlib.Core.Path.{_≡_};
@@ -16,97 +17,118 @@ ghost use Rattle.carried.specs.Rows.{Ready};
 ghost use Rattle.judge.specs.Given.{Sized, Computed};
 
 // What stands before symbol k of item i: its dot, its recognition point, the cut between two groups.
-fn print_marks(items: &[u8], count: usize, i: usize, k: usize, dot: usize)
+fn print_marks(out: &mut [u8; OUTPUT], items: &[u8], count: usize, i: usize, k: usize, dot: usize)
     requires { ⌜ Shaped (now items) count ⌝ }
     requires { ⌜ (i ≤ count) × (k ≤ 15) ⌝ }
 {
     if k == dot {
-        print_text(b" .");
+        print_text(out, b" .");
     }
     if k == items::mark_of(items, count, i) {
-        print_text(b" ^");
+        print_text(out, b" ^");
         return;
     }
     if 15 <= k {
         return;
     }
     if items::start_of(items, count, i, k) != 0 {
-        print_text(b" /");
+        print_text(out, b" /");
     }
 }
 
 // Item i with its dot, as a rule or an entry's string.
-fn print_dotted(items: &[u8], count: usize, rules: usize, i: usize, dot: usize)
+fn print_dotted(
+    out: &mut [u8; OUTPUT],
+    items: &[u8],
+    count: usize,
+    rules: usize,
+    i: usize,
+    dot: usize,
+)
     requires { ⌜ Shaped (now items) count ⌝ }
     requires { ⌜ i ≤ count ⌝ }
 {
     if i <= rules {
-        print_count(b"rule ", i);
-        print_count(b": ", items::left_of(items, count, i));
-        print_text(b" ->");
+        print_count(out, b"rule ", i);
+        print_count(out, b": ", items::left_of(items, count, i));
+        print_text(out, b" ->");
     } else {
-        print_count(b"entry ", i - rules);
-        print_text(b":");
+        print_count(out, b"entry ", i - rules);
+        print_text(out, b":");
     }
     let n = items::length_of(items, count, i);
     let mut k = 0;
     while k < n {
-        print_marks(items, count, i, k, dot);
-        print_count(b" ", items::symbol_of(items, count, i, k));
+        print_marks(out, items, count, i, k, dot);
+        print_count(out, b" ", items::symbol_of(items, count, i, k));
         k += 1;
     }
-    print_marks(items, count, i, n, dot);
+    print_marks(out, items, count, i, n, dot);
 }
 
 // A text, then item i with its dot.
-fn print_item(text: &[u8], items: &[u8], count: usize, rules: usize, i: usize, dot: usize)
+fn print_item(
+    out: &mut [u8; OUTPUT],
+    text: &[u8],
+    items: &[u8],
+    count: usize,
+    rules: usize,
+    i: usize,
+    dot: usize,
+)
     requires { ⌜ Shaped (now items) count ⌝ }
     requires { ⌜ i ≤ count ⌝ }
 {
-    print_text(text);
-    print_count(b"item ", i);
-    print_count(b", dot ", dot);
-    print_text(b" (");
-    print_dotted(items, count, rules, i, dot);
-    print_text(b")");
+    print_text(out, text);
+    print_count(out, b"item ", i);
+    print_count(out, b", dot ", dot);
+    print_text(out, b" (");
+    print_dotted(out, items, count, rules, i, dot);
+    print_text(out, b")");
 }
 
 // An action, by the number that `cells` gives it.
-fn print_action(demand: usize) {
+fn print_action(out: &mut [u8; OUTPUT], demand: usize) {
     if demand == 0 {
-        print_text(b"nothing");
+        print_text(out, b"nothing");
         return;
     }
     if demand < 512 {
-        print_text(b"shift");
+        print_text(out, b"shift");
         return;
     }
     if demand < 768 {
-        print_count(b"announce of rule ", demand - 512);
+        print_count(out, b"announce of rule ", demand - 512);
         return;
     }
     if demand < 1023 {
-        print_count(b"pop of ", demand - 767);
+        print_count(out, b"pop of ", demand - 767);
         return;
     }
-    print_text(b"pop of a count that no entry has");
+    print_text(out, b"pop of a count that no entry has");
 }
 
 // What the replies on lines mean.
-fn print_meaning(number: u64) {
+fn print_meaning(out: &mut [u8; OUTPUT], number: u64) {
     if number == 1 {
-        print_text(b"the line breaks its form, or lines are missing or too many\n");
+        print_text(
+            out,
+            b"the line breaks its form, or lines are missing or too many\n",
+        );
         return;
     }
     if number == 2 {
-        print_text(b"a figure is out of its limits\n");
+        print_text(out, b"a figure is out of its limits\n");
         return;
     }
     if number == 3 {
-        print_text(b"a symbol, letter, rule, item or state is undeclared or of the wrong kind\n");
+        print_text(
+            out,
+            b"a symbol, letter, rule, item or state is undeclared or of the wrong kind\n",
+        );
         return;
     }
-    print_text(b"^ or / is misplaced\n");
+    print_text(out, b"^ or / is misplaced\n");
 }
 
 // The number of the line that begins at `place`.
@@ -145,69 +167,76 @@ fn line_end(book: &[u8], place: usize) -> usize
 }
 
 // A refusal of the line of a book that begins at `place`.
-fn explain_line(name: &[u8], book: &[u8], number: u64, place: usize) {
-    print_text(name);
+fn explain_line(out: &mut [u8; OUTPUT], name: &[u8], book: &[u8], number: u64, place: usize) {
+    print_text(out, name);
     if book.len() <= place {
-        print_text(b": it ends where a line is due\n");
-        print_meaning(number);
+        print_text(out, b": it ends where a line is due\n");
+        print_meaning(out, number);
         return;
     }
-    print_count(b", line ", line_number(book, place));
-    print_text(b": ");
+    print_count(out, b", line ", line_number(book, place));
+    print_text(out, b": ");
     let end = line_end(book, place);
-    print_text(&book[place..end]);
-    print_text(b"\n");
-    print_meaning(number);
+    print_text(out, &book[place..end]);
+    print_text(out, b"\n");
+    print_meaning(out, number);
 }
 
 // A refusal of a book as it is read: 1 to 6.
-pub fn explain_book(name: &[u8], book: &[u8], number: u64, place: usize) {
+pub fn explain_book(out: &mut [u8; OUTPUT], name: &[u8], book: &[u8], number: u64, place: usize) {
     if book.len() > 65536 {
-        print_text(name);
-        print_text(b": it is longer than 65536 bytes\n");
+        print_text(out, name);
+        print_text(out, b": it is longer than 65536 bytes\n");
         return;
     }
     if number <= 4 {
-        explain_line(name, book, number, place);
+        explain_line(out, name, book, number, place);
         return;
     }
-    print_count(b"nonterminal ", place);
+    print_count(out, b"nonterminal ", place);
     if number == 5 {
-        print_text(b" derives no string of terminals\n");
+        print_text(out, b" derives no string of terminals\n");
         return;
     }
-    print_text(b" is not reached from the goal\n");
+    print_text(out, b" is not reached from the goal\n");
 }
 
 // The symbols of item i from one number up to another.
-fn print_symbols(items: &[u8], count: usize, i: usize, from: usize, to: usize)
+fn print_symbols(
+    out: &mut [u8; OUTPUT],
+    items: &[u8],
+    count: usize,
+    i: usize,
+    from: usize,
+    to: usize,
+)
     requires { ⌜ Shaped (now items) count ⌝ }
     requires { ⌜ (i ≤ count) × (to ≤ 15) ⌝ }
 {
     let mut k = from;
     while k < to {
-        print_count(b" ", items::symbol_of(items, count, i, k));
+        print_count(out, b" ", items::symbol_of(items, count, i, k));
         k += 1;
     }
 }
 
 // Reply 7 at place 0.
-fn explain_entries(items: &[u8], rules: usize, strings: usize, goal: usize)
+fn explain_entries(out: &mut [u8; OUTPUT], items: &[u8], rules: usize, strings: usize, goal: usize)
     requires { ⌜ Shaped (now items) (rules + strings) ⌝ }
     requires { ⌜ (rules ≤ 127) × (1 ≤ strings) × (strings ≤ 127) ⌝ }
 {
     let fault = details::find_entry_fault(items, rules, strings, goal);
     match fault {
-        EntryFault::NotGoal => print_text(b"entry 1 is not the goal alone\n"),
+        EntryFault::NotGoal => print_text(out, b"entry 1 is not the goal alone\n"),
         EntryFault::Bare(i, from, to) => {
-            print_count(b"rule ", i);
-            print_text(b": its group");
-            print_symbols(items, rules + strings, i, from, to);
-            print_text(b" has no entry\n");
+            print_count(out, b"rule ", i);
+            print_text(out, b": its group");
+            print_symbols(out, items, rules + strings, i, from, to);
+            print_text(out, b" has no entry\n");
         }
         EntryFault::Unwanted(k) => {
-            print_count(b"entry ", k);
-            print_text(b" is neither the goal nor a group\n");
+            print_count(out, b"entry ", k);
+            print_text(out, b" is neither the goal nor a group\n");
         }
         EntryFault::Nothing => {}
     }
@@ -215,6 +244,7 @@ fn explain_entries(items: &[u8], rules: usize, strings: usize, goal: usize)
 
 // What item i, dot k asks of the cell for code c, where it asks something.
 fn print_demand(
+    out: &mut [u8; OUTPUT],
     items: &[u8],
     nul: &[u8],
     fst: &[u8],
@@ -251,13 +281,14 @@ fn print_demand(
     if demand == 0 {
         return;
     }
-    print_action(demand);
-    print_item(b": ", items, count, rules, i, k);
-    print_text(b"\n");
+    print_action(out, demand);
+    print_item(out, b": ", items, count, rules, i, k);
+    print_text(out, b"\n");
 }
 
 // The kernel items of q that ask something of the cell for code c.
 fn print_line_demands(
+    out: &mut [u8; OUTPUT],
     items: &[u8],
     kernels: &[u8],
     lookaheads: &[u8],
@@ -280,6 +311,7 @@ fn print_line_demands(
             let i = kernel_lines::item_of(kernels, lines, count, l);
             let k = kernel_lines::dot_of(kernels, lines, count, l);
             print_demand(
+                out,
                 items,
                 nul,
                 fst,
@@ -299,6 +331,7 @@ fn print_line_demands(
 
 // The rules that the closure adds and that ask something of it.
 fn print_rule_demands(
+    out: &mut [u8; OUTPUT],
     items: &[u8],
     present: &[u8],
     follow: &[u8],
@@ -318,6 +351,7 @@ fn print_rule_demands(
         if moves::is_present(items, present, count, i) {
             let left = items::left_of(items, count, i);
             print_demand(
+                out,
                 items,
                 nul,
                 fst,
@@ -336,15 +370,16 @@ fn print_rule_demands(
 }
 
 // Where a state goes.
-fn print_goes(x: usize, q: usize, s: usize) {
-    print_count(b"on symbol ", x);
-    print_count(b" state ", q);
-    print_count(b" goes to state ", s);
-    print_text(b", whose kernel is not the moved items: it ");
+fn print_goes(out: &mut [u8; OUTPUT], x: usize, q: usize, s: usize) {
+    print_count(out, b"on symbol ", x);
+    print_count(out, b" state ", q);
+    print_count(out, b" goes to state ", s);
+    print_text(out, b", whose kernel is not the moved items: it ");
 }
 
 // Reply 7 at state q.
 fn explain_items(
+    out: &mut [u8; OUTPUT],
     items: &[u8],
     entries: &[u8],
     kernels: &[u8],
@@ -384,13 +419,14 @@ fn explain_items(
     );
     match fault {
         ItemFault::Unnamed => {
-            print_count(b"state ", q);
-            print_text(b" is neither that of an entry nor named as next\n");
+            print_count(out, b"state ", q);
+            print_text(out, b" is neither that of an entry nor named as next\n");
         }
         ItemFault::Entry(k) => {
-            print_count(b"state ", q);
-            print_count(b" is that of entry ", k);
+            print_count(out, b"state ", q);
+            print_count(out, b" is that of entry ", k);
             print_item(
+                out,
                 b", and its kernel is not the one ",
                 items,
                 count,
@@ -398,18 +434,19 @@ fn explain_items(
                 rules + k,
                 0,
             );
-            print_text(b"\n");
+            print_text(out, b"\n");
         }
         ItemFault::Lost(i, k) => {
             let x = moves::symbol_after(items, count, i, k);
-            print_goes(x, q, moves::next_of(kinds, values, gotos, q, x));
-            print_item(b"lacks ", items, count, rules, i, k + 1);
-            print_text(b"\n");
+            print_goes(out, x, q, moves::next_of(kinds, values, gotos, q, x));
+            print_item(out, b"lacks ", items, count, rules, i, k + 1);
+            print_text(out, b"\n");
         }
         ItemFault::Extra(x, l) => {
-            print_goes(x, q, moves::next_of(kinds, values, gotos, q, x));
+            print_goes(out, x, q, moves::next_of(kinds, values, gotos, q, x));
             let i = kernel_lines::item_of(kernels, lines, count, l);
             print_item(
+                out,
                 b"has ",
                 items,
                 count,
@@ -417,7 +454,7 @@ fn explain_items(
                 i,
                 kernel_lines::dot_of(kernels, lines, count, l),
             );
-            print_text(b", which does not move there\n");
+            print_text(out, b", which does not move there\n");
         }
         ItemFault::Nothing => {}
     }
@@ -425,6 +462,7 @@ fn explain_items(
 
 // Reply 8 at state q.
 fn explain_lookaheads(
+    out: &mut [u8; OUTPUT],
     items: &[u8],
     entries: &[u8],
     kernels: &[u8],
@@ -478,6 +516,7 @@ fn explain_lookaheads(
     };
     let i = kernel_lines::item_of(kernels, lines, count, l);
     print_item(
+        out,
         b"",
         items,
         count,
@@ -485,17 +524,18 @@ fn explain_lookaheads(
         i,
         kernel_lines::dot_of(kernels, lines, count, l),
     );
-    print_count(b": its context lacks code ", c);
+    print_count(out, b": its context lacks code ", c);
     if p == 0 {
-        print_text(b", which the goal's entry must have\n");
+        print_text(out, b", which the goal's entry must have\n");
         return;
     }
-    print_count(b", which the items of state ", p);
-    print_text(b" ask for\n");
+    print_count(out, b", which the items of state ", p);
+    print_text(out, b" ask for\n");
 }
 
 // Reply 9 at state q.
 fn explain_conflict(
+    out: &mut [u8; OUTPUT],
     items: &[u8],
     kernels: &[u8],
     links: &[usize],
@@ -535,14 +575,15 @@ fn explain_conflict(
     let Conflict::On(c, first, second) = conflict else {
         return;
     };
-    print_count(b"state ", q);
-    print_count(b", code ", c);
-    print_text(b": ");
-    print_action(first);
-    print_text(b", and ");
-    print_action(second);
-    print_text(b"\n");
+    print_count(out, b"state ", q);
+    print_count(out, b", code ", c);
+    print_text(out, b": ");
+    print_action(out, first);
+    print_text(out, b", and ");
+    print_action(out, second);
+    print_text(out, b"\n");
     print_line_demands(
+        out,
         items,
         kernels,
         lookaheads,
@@ -555,44 +596,62 @@ fn explain_conflict(
         q,
         c,
     );
-    print_rule_demands(items, present, follow, nul, fst, count, rules, codes, c);
+    print_rule_demands(
+        out,
+        items,
+        present,
+        follow,
+        nul,
+        fst,
+        count,
+        rules,
+        codes,
+        c,
+    );
 }
 
 // A cell that is not what is asked.
-fn print_cell(symbol: usize, asked: usize, there: usize) {
-    print_count(b"on symbol ", symbol);
+fn print_cell(out: &mut [u8; OUTPUT], symbol: usize, asked: usize, there: usize) {
+    print_count(out, b"on symbol ", symbol);
     if there == 0 {
-        print_text(b": the line is missing");
+        print_text(out, b": the line is missing");
     } else if asked == 0 {
-        print_text(b": the line is extra");
+        print_text(out, b": the line is extra");
     } else {
-        print_text(b": the line is different");
+        print_text(out, b": the line is different");
     }
-    print_text(b"; asked: ");
-    print_action(asked);
-    print_text(b"; there: ");
-    print_action(there);
-    print_text(b"\n");
+    print_text(out, b"; asked: ");
+    print_action(out, asked);
+    print_text(out, b"; there: ");
+    print_action(out, there);
+    print_text(out, b"\n");
 }
 
 // A nonterminal's line that is missing or extra.
-fn explain_goto(symbols: &[u8], gotos: &[u8], q: usize)
+fn explain_goto(out: &mut [u8; OUTPUT], symbols: &[u8], gotos: &[u8], q: usize)
     requires { ⌜ (length (now symbols) ≡ 128) × (16384 ≤ length (now gotos)) × (q < 256) ⌝ }
 {
     let goto = details::find_goto(symbols, gotos, q);
     let Found::At(b) = goto else {
         return;
     };
-    print_count(b"on symbol ", 64 + b);
+    print_count(out, b"on symbol ", 64 + b);
     if gotos[q * 64 + b] == 0 {
-        print_text(b": the line is missing; asked: a next state; there: nothing\n");
+        print_text(
+            out,
+            b": the line is missing; asked: a next state; there: nothing\n",
+        );
         return;
     }
-    print_text(b": the line is extra; asked: nothing; there: a next state\n");
+    print_text(
+        out,
+        b": the line is extra; asked: nothing; there: a next state\n",
+    );
 }
 
 // Reply 10 at state q.
 fn explain_cells(
+    out: &mut [u8; OUTPUT],
     items: &[u8],
     kernels: &[u8],
     links: &[usize],
@@ -637,11 +696,12 @@ fn explain_cells(
     );
     let cell = details::find_cell(&asked, kinds, values, codes, q);
     let Found::At(c) = cell else {
-        explain_goto(symbols, gotos, q);
+        explain_goto(out, symbols, gotos, q);
         return;
     };
-    print_cell(c, asked[c], cells::demand_of(kinds, values, q, c));
+    print_cell(out, c, asked[c], cells::demand_of(kinds, values, q, c));
     print_line_demands(
+        out,
         items,
         kernels,
         lookaheads,
@@ -654,11 +714,23 @@ fn explain_cells(
         q,
         c,
     );
-    print_rule_demands(items, present, follow, nul, fst, count, rules, codes, c);
+    print_rule_demands(
+        out,
+        items,
+        present,
+        follow,
+        nul,
+        fst,
+        count,
+        rules,
+        codes,
+        c,
+    );
 }
 
 // A refusal at state q, where what the check computes of the grammar is at hand.
 fn explain_state(
+    out: &mut [u8; OUTPUT],
     items: &[u8],
     entries: &[u8],
     kernels: &[u8],
@@ -687,6 +759,7 @@ fn explain_state(
 {
     if number == 8 {
         explain_lookaheads(
+            out,
             items,
             entries,
             kernels,
@@ -743,6 +816,7 @@ fn explain_state(
     );
     if number == 7 {
         explain_items(
+            out,
             items,
             entries,
             kernels,
@@ -762,6 +836,7 @@ fn explain_state(
     }
     if number == 9 {
         explain_conflict(
+            out,
             items,
             kernels,
             links,
@@ -780,6 +855,7 @@ fn explain_state(
         return;
     }
     explain_cells(
+        out,
         items,
         kernels,
         links,
@@ -802,6 +878,7 @@ fn explain_state(
 
 // A refusal of tables in memory: 7 to 10.
 pub fn explain_memory(
+    out: &mut [u8; OUTPUT],
     items: &[u8],
     entries: &[u8],
     kernels: &[u8],
@@ -823,7 +900,7 @@ pub fn explain_memory(
     requires { ⌜ (terminals ≤ 63) × (states ≤ 255) ⌝ }
 {
     if place == 0 {
-        explain_entries(items, rules, strings, goal);
+        explain_entries(out, items, rules, strings, goal);
         return;
     }
     if place > 255 {
@@ -851,6 +928,7 @@ pub fn explain_memory(
     );
     kernel_lines::link_lines(kernels, lines, count, &mut links);
     explain_state(
+        out,
         items,
         entries,
         kernels,

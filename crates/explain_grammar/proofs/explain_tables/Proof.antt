@@ -77,7 +77,7 @@ slice-aggregate-explain-memory-8 : tie.Need-slice-aggregate-explain-memory-8
 slice-aggregate-explain-memory-8 c = search needs
 
 explain-memory-requires : tie.Need-explain-memory-requires
-explain-memory-requires c κs = let f = c .before .before .before .before .before .before .before .before .before .before .before .before .before .before .before .before .before .before .build .ensures in let e = c .before .before .before .before .before .before .before .before .before .built .given .1 in let h = rw e at f in (memory-sized (h .1) (let z = length-replicate {A = ℕ} 256 0 in omega (arith, z)), memory-small (h .1))
+explain-memory-requires c κs = let f = c .before .before .before .before .before .before .before .before .before .before .before .before .before .before .before .before .before .before .before .build .ensures in let e = c .before .before .before .before .before .before .before .before .before .before .built .given .1 in let h = rw e at f in (memory-sized (h .1) (let z = length-replicate {A = ℕ} 256 0 in omega (arith, z)), memory-small (h .1))
 
 slice-aggregate-print-way : tie.Need-slice-aggregate-print-way
 slice-aggregate-print-way c = search needs
@@ -89,7 +89,7 @@ slice-aggregate-print-way-3 : tie.Need-slice-aggregate-print-way-3
 slice-aggregate-print-way-3 c = search needs
 
 print-way-requires : tie.Need-print-way-requires
-print-way-requires c κs = let f = c .before .before .before .before .before .before .before .before .before .before .before .before .before .before .before .before .before .before .before .before .before .before .build .ensures in let e = c .before .before .before .before .before .before .before .before .before .before .before .before .before .built .given .1 in let h = rw e at f in (record { kinds-room = let z = h .1 .rooms .kinds-room in omega (arith, z); values-room = let z = h .1 .rooms .values-room in omega (arith, z); gotos-room = let z = h .1 .rooms .gotos-room in omega (arith, z) }, (omega (arith, h .0), (let y = memory-small (h .1) in let z = conflict-low (h .1) in omega (arith, z, y .1))))
+print-way-requires c κs = let f = c .before .before .before .before .before .before .before .before .before .before .before .before .before .before .before .before .before .before .before .before .before .before .before .before .build .ensures in let e = c .before .before .before .before .before .before .before .before .before .before .before .before .before .before .before .built .given .1 in let h = rw e at f in (record { kinds-room = let z = h .1 .rooms .kinds-room in omega (arith, z); values-room = let z = h .1 .rooms .values-room in omega (arith, z); gotos-room = let z = h .1 .rooms .gotos-room in omega (arith, z) }, (omega (arith, h .0), (let y = memory-small (h .1) in let z = conflict-low (h .1) in omega (arith, z, y .1))))
 
 returns : tie.Need-returns
 returns c = search needs

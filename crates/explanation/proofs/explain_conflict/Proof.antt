@@ -52,10 +52,10 @@ print-text-requires-3 : tie.Need-print-text-requires-3
 print-text-requires-3 c κs = search needs
 
 print-line-demands-requires : tie.Need-print-line-demands-requires
-print-line-demands-requires c κs = let p = c .before .before .before .before .before .before .before .before .before .before .before .before .before .before .before .before .before .before .before .before .before .before .before .before .before .pre in let f = c .before .before .before .before .before .before .before .before .before .before .before .before .before .before .before .find-conflict .ensures .0 in let e = c .before .before .before .before .before .before .before .before .before .before .before .before .before .conflict .given .1 in let h = rw e at f in (p .0 .lined .some-lines, (p .1 .0, (p .1 .1 .0 .0, p .1 .1 .0 .2, omega (arith, h, p .1 .0 .few-codes))))
+print-line-demands-requires c κs = let p = c .before .before .before .before .before .before .before .before .before .before .before .before .before .before .before .before .before .before .before .before .before .before .before .before .before .before .before .before .before .before .before .before .before .pre in let f = c .before .before .before .before .before .before .before .before .before .before .before .before .before .before .before .before .before .before .before .before .before .before .before .find-conflict .ensures .0 in let e = c .before .before .before .before .before .before .before .before .before .before .before .before .before .before .before .before .before .before .before .before .before .conflict .given .1 in let h = rw e at f in (p .0 .lined .some-lines, (p .1 .0, (p .1 .1 .0 .0, p .1 .1 .0 .2, omega (arith, h, p .1 .0 .few-codes))))
 
 print-rule-demands-requires : tie.Need-print-rule-demands-requires
-print-rule-demands-requires c κs = let p = c .before .before .before .before .before .before .before .before .before .before .before .before .before .before .before .before .before .before .before .before .before .before .before .before .before .before .pre in let f = c .before .before .before .before .before .before .before .before .before .before .before .before .before .before .before .before .find-conflict .ensures .0 in let e = c .before .before .before .before .before .before .before .before .before .before .before .before .before .before .conflict .given .1 in let h = rw e at f in (p .1 .0, ((p .0 .few, p .1 .1 .0 .0, omega (arith, h, p .1 .0 .few-codes)), (p .0 .room, p .1 .1 .1 .0)))
+print-rule-demands-requires c κs = let p = c .before .before .before .before .before .before .before .before .before .before .before .before .before .before .before .before .before .before .before .before .before .before .before .before .before .before .before .before .before .before .before .before .before .before .before .pre in let f = c .before .before .before .before .before .before .before .before .before .before .before .before .before .before .before .before .before .before .before .before .before .before .before .before .before .find-conflict .ensures .0 in let e = c .before .before .before .before .before .before .before .before .before .before .before .before .before .before .before .before .before .before .before .before .before .before .before .conflict .given .1 in let h = rw e at f in (p .1 .0, ((p .0 .few, p .1 .1 .0 .0, omega (arith, h, p .1 .0 .few-codes)), (p .0 .room, p .1 .1 .1 .0)))
 
 returns-2 : tie.Need-returns-2
 returns-2 c = search needs

@@ -37,7 +37,7 @@ add-print-symbols : tie.Need-add-print-symbols
 add-print-symbols c = search needs
 
 print-symbols-requires : tie.Need-print-symbols-requires
-print-symbols-requires c κs = let b = subst (BareIs (c .before .before .before .before .before .before .before .before .before .args .items .now) (c .before .before .before .before .before .before .before .before .before .args .rules) (c .before .before .before .before .before .before .before .before .before .args .strings)) (c .before .before .before .before .before .fault .given .1) (c .before .before .before .before .before .before .before .find-entry-fault .ensures .0) in (c .before .before .before .before .before .before .before .before .before .pre .0, (omega (arith, b .1), b .2))
+print-symbols-requires c κs = let b = subst (BareIs (c .before .before .before .before .before .before .before .before .before .before .before .before .args .items .now) (c .before .before .before .before .before .before .before .before .before .before .before .before .args .rules) (c .before .before .before .before .before .before .before .before .before .before .before .before .args .strings)) (c .before .before .before .before .before .before .before .before .fault .given .1) (c .before .before .before .before .before .before .before .before .before .before .find-entry-fault .ensures .0) in (c .before .before .before .before .before .before .before .before .before .before .before .before .pre .0, (omega (arith, b .1), b .2))
 
 slice-aggregate-print-text-3 : tie.Need-slice-aggregate-print-text-3
 slice-aggregate-print-text-3 c = search needs
