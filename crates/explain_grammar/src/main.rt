@@ -9,6 +9,10 @@ ghost use mathlib.Core.Path.{_≡_};
 ghost use Prim.Native.Nat.{_<_, _≤_};
 ghost use lib.ListN.{length};
 ghost use Rattle.moves.specs.Moves.{Cells};
+ghost use Rattle.judge.specs.Given.{Sized};
+
+// The most conflicts that are told in words.
+const MOST: usize = 20;
 
 // The symbol on which state p goes to state q; 0 where there is none.
 fn symbol_between(kinds: &[u8], values: &[u8], gotos: &[u8], p: usize, q: usize) -> usize
@@ -122,6 +126,74 @@ fn print_way(
     print_text(out, b"\n");
 }
 
+// How many of the conflicts are told in words, of which so many are told.
+fn room_after(found: usize) -> usize {
+    if found < MOST {
+        return MOST - found;
+    }
+    0
+}
+
+// The conflicts of the states from `first` on, and how each state is reached.
+fn explain_conflicts(
+    out: &mut [u8; OUTPUT],
+    items: &[u8],
+    entries: &[u8],
+    kernels: &[u8],
+    lookaheads: &[u8],
+    kinds: &[u8],
+    values: &[u8],
+    gotos: &[u8],
+    named: &[u8],
+    terminals: usize,
+    goal: usize,
+    rules: usize,
+    strings: usize,
+    lines: usize,
+    states: usize,
+    first: usize,
+)
+    requires { ⌜ Sized (now items) (now entries) (now kernels) (now lookaheads) (now kinds) (now values) (now gotos) (now named) rules strings lines ⌝ }
+    requires { ⌜ (terminals ≤ 63) × (states ≤ 255) × (1 ≤ first) ⌝ }
+    requires { ⌜ Cells (now kinds) (now values) (now gotos) ⌝ }
+{
+    let mut found = 0;
+    let mut q = first;
+    while q <= states {
+        let more = explanation::explain_memory(
+            out,
+            items,
+            entries,
+            kernels,
+            lookaheads,
+            kinds,
+            values,
+            gotos,
+            named,
+            terminals,
+            goal,
+            rules,
+            strings,
+            lines,
+            states,
+            9,
+            q,
+            room_after(found),
+        );
+        if more != 0 {
+            if found < MOST {
+                print_way(out, kinds, values, gotos, strings, q);
+            }
+        }
+        found += more;
+        q += 1;
+    }
+    if MOST < found {
+        print_count(out, b"conflicts that are not shown: ", found - MOST);
+        print_text(out, b"\n");
+    }
+}
+
 // A refusal of a grammar that is read: its tables are built again, in memory.
 fn explain_tables(out: &mut [u8; OUTPUT], grammar: &[u8]) {
     let mut items = [0u8; table::ITEMS];
@@ -148,28 +220,24 @@ fn explain_tables(out: &mut [u8; OUTPUT], grammar: &[u8]) {
             b"there would be more than 127 entries, 255 states or 1023 kernel lines\n",
         ),
         Built::Table(_) => print_text(out, b"the table book would be longer than 65536 bytes\n"),
-        Built::Conflict(q, counts) => {
-            explanation::explain_memory(
-                out,
-                &items,
-                &entries,
-                &kernels,
-                &lookaheads,
-                &kinds,
-                &values,
-                &gotos,
-                &named,
-                counts.grammar.terminals,
-                counts.grammar.goal,
-                counts.grammar.rules,
-                counts.entries,
-                counts.kernels,
-                counts.states,
-                9,
-                q,
-            );
-            print_way(out, &kinds, &values, &gotos, counts.entries, q);
-        }
+        Built::Conflict(q, counts) => explain_conflicts(
+            out,
+            &items,
+            &entries,
+            &kernels,
+            &lookaheads,
+            &kinds,
+            &values,
+            &gotos,
+            &named,
+            counts.grammar.terminals,
+            counts.grammar.goal,
+            counts.grammar.rules,
+            counts.entries,
+            counts.kernels,
+            counts.states,
+            q,
+        ),
     }
 }
 
@@ -178,13 +246,9 @@ fn explain(out: &mut [u8; OUTPUT], grammar: &[u8], number: u64, place: usize) {
     let mut items = [0u8; grammar::TABLE];
     let answer = grammar::read_grammar(grammar, &mut items);
     match answer {
-        GrammarReply::Refused(_) => explanation::explain_book(
-            out,
-            b"grammar book",
-            grammar,
-            number,
-            place,
-        ),
+        GrammarReply::Refused(_) => {
+            line_words::explain_grammar_book(out, grammar, number, place)
+        }
         GrammarReply::Read(_) => explain_tables(out, grammar),
     }
 }

@@ -49,6 +49,7 @@ fn explain_tables(out: &mut [u8; OUTPUT], grammar: &[u8], book: &[u8], number: u
         counts.states,
         number,
         place,
+        64,
     );
 }
 
@@ -60,17 +61,25 @@ fn explain(out: &mut [u8; OUTPUT], grammar: &[u8], book: &[u8], number: u64, pla
     }
     // Both lengths come before all else.
     if book.len() > 65536 {
-        explanation::explain_book(out, b"table book", book, number, place);
+        line_words::explain_table_book(out, 0, 0, 0, book, number, place);
         return;
     }
     let mut items = [0u8; grammar::TABLE];
     let answer = grammar::read_grammar(grammar, &mut items);
-    if let GrammarReply::Refused(_) = answer {
-        explanation::explain_book(out, b"grammar book", grammar, number, place);
+    let GrammarReply::Read(h) = answer else {
+        line_words::explain_grammar_book(out, grammar, number, place);
         return;
-    }
+    };
     if number <= 4 {
-        explanation::explain_book(out, b"table book", book, number, place);
+        line_words::explain_table_book(
+            out,
+            h.terminals,
+            h.nonterminals,
+            h.rules,
+            book,
+            number,
+            place,
+        );
         return;
     }
     explain_tables(out, grammar, book, number, place);

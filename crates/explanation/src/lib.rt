@@ -1,5 +1,4 @@
 // Refusals in words: the line, the item, the code, the actions.
-use conflicts::Conflict;
 use details::EntryFault;
 use details::ItemFault;
 use fixpoint::Found;
@@ -108,99 +107,6 @@ fn print_action(out: &mut [u8; OUTPUT], demand: usize) {
     print_text(out, b"pop of a count that no entry has");
 }
 
-// What the replies on lines mean.
-fn print_meaning(out: &mut [u8; OUTPUT], number: u64) {
-    if number == 1 {
-        print_text(
-            out,
-            b"the line breaks its form, or lines are missing or too many\n",
-        );
-        return;
-    }
-    if number == 2 {
-        print_text(out, b"a figure is out of its limits\n");
-        return;
-    }
-    if number == 3 {
-        print_text(
-            out,
-            b"a symbol, letter, rule, item or state is undeclared or of the wrong kind\n",
-        );
-        return;
-    }
-    print_text(out, b"^ or / is misplaced\n");
-}
-
-// The number of the line that begins at `place`.
-fn line_number(book: &[u8], place: usize) -> usize
-    requires { ⌜ place ≤ length (now book) ⌝ }
-{
-    let mut n = 1;
-    let mut i = 0;
-    while i < place {
-        if book[i] != b'\n' {
-            i += 1;
-            continue;
-        }
-        n += 1;
-        i += 1;
-    }
-    n
-}
-
-// The end of that line, or of what can be shown of it.
-fn line_end(book: &[u8], place: usize) -> usize
-    requires { ⌜ place ≤ length (now book) ⌝ }
-    ensures { λ r. ⌜ (place ≤ r) × (r ≤ length (now (book .entry))) ⌝ }
-{
-    let mut i = place;
-    while i < book.len() {
-        if book[i] < b' ' {
-            return i;
-        }
-        if book[i] > b'~' {
-            return i;
-        }
-        i += 1;
-    }
-    i
-}
-
-// A refusal of the line of a book that begins at `place`.
-fn explain_line(out: &mut [u8; OUTPUT], name: &[u8], book: &[u8], number: u64, place: usize) {
-    print_text(out, name);
-    if book.len() <= place {
-        print_text(out, b": it ends where a line is due\n");
-        print_meaning(out, number);
-        return;
-    }
-    print_count(out, b", line ", line_number(book, place));
-    print_text(out, b": ");
-    let end = line_end(book, place);
-    print_text(out, &book[place..end]);
-    print_text(out, b"\n");
-    print_meaning(out, number);
-}
-
-// A refusal of a book as it is read: 1 to 6.
-pub fn explain_book(out: &mut [u8; OUTPUT], name: &[u8], book: &[u8], number: u64, place: usize) {
-    if book.len() > 65536 {
-        print_text(out, name);
-        print_text(out, b": it is longer than 65536 bytes\n");
-        return;
-    }
-    if number <= 4 {
-        explain_line(out, name, book, number, place);
-        return;
-    }
-    print_count(out, b"nonterminal ", place);
-    if number == 5 {
-        print_text(out, b" derives no string of terminals\n");
-        return;
-    }
-    print_text(out, b" is not reached from the goal\n");
-}
-
 // The symbols of item i from one number up to another.
 fn print_symbols(
     out: &mut [u8; OUTPUT],
@@ -220,6 +126,68 @@ fn print_symbols(
     }
 }
 
+// The number of the group of rule i in which symbol `from` stands.
+fn group_number(items: &[u8], count: usize, i: usize, from: usize) -> usize
+    requires { ⌜ Shaped (now items) count ⌝ }
+    requires { ⌜ i ≤ count ⌝ }
+{
+    let mut j = 0;
+    let mut k = 0;
+    while k < 15 {
+        if from < k {
+            return j;
+        }
+        if items::start_of(items, count, i, k) == 0 {
+            k += 1;
+            continue;
+        }
+        j += 1;
+        k += 1;
+    }
+    j
+}
+
+// Entry k with its string.
+fn print_entry(out: &mut [u8; OUTPUT], items: &[u8], rules: usize, strings: usize, k: usize)
+    requires { ⌜ Shaped (now items) (rules + strings) ⌝ }
+    requires { ⌜ (rules ≤ 127) × (strings ≤ 127) ⌝ }
+{
+    print_count(out, b"entry ", k);
+    if strings < k {
+        return;
+    }
+    let count = rules + strings;
+    let n = items::length_of(items, count, rules + k);
+    print_text(out, b", string");
+    print_symbols(out, items, count, rules + k, 0, n);
+    print_text(out, b",");
+}
+
+fn wide(b: u8) -> usize {
+    b as usize
+}
+
+// Who uses entry k, by what each group uses; the goal's is used by none.
+fn print_user(out: &mut [u8; OUTPUT], uses: &[u8], k: usize) {
+    let mut x = 16;
+    while x < uses.len() {
+        if wide(uses[x]) == k {
+            print_count(out, b"; entry ", k);
+            print_count(out, b" is group ", x % 16 + 1);
+            print_count(out, b" of rule ", x / 16);
+            return;
+        }
+        x += 1;
+    }
+}
+
+// Who uses item i, where it is an entry's.
+fn print_item_user(out: &mut [u8; OUTPUT], uses: &[u8], rules: usize, i: usize) {
+    if rules < i {
+        print_user(out, uses, i - rules);
+    }
+}
+
 // Reply 7 at place 0.
 fn explain_entries(out: &mut [u8; OUTPUT], items: &[u8], rules: usize, strings: usize, goal: usize)
     requires { ⌜ Shaped (now items) (rules + strings) ⌝ }
@@ -227,15 +195,21 @@ fn explain_entries(out: &mut [u8; OUTPUT], items: &[u8], rules: usize, strings: 
 {
     let fault = details::find_entry_fault(items, rules, strings, goal);
     match fault {
-        EntryFault::NotGoal => print_text(out, b"entry 1 is not the goal alone\n"),
+        EntryFault::NotGoal => {
+            print_entry(out, items, rules, strings, 1);
+            print_count(out, b" is not the goal ", goal);
+            print_text(out, b" alone\n");
+        }
         EntryFault::Bare(i, from, to) => {
+            let count = rules + strings;
             print_count(out, b"rule ", i);
-            print_text(out, b": its group");
-            print_symbols(out, items, rules + strings, i, from, to);
-            print_text(out, b" has no entry\n");
+            print_count(out, b": its group ", group_number(items, count, i, from));
+            print_text(out, b", string");
+            print_symbols(out, items, count, i, from, to);
+            print_text(out, b", has no entry\n");
         }
         EntryFault::Unwanted(k) => {
-            print_count(out, b"entry ", k);
+            print_entry(out, items, rules, strings, k);
             print_text(out, b" is neither the goal nor a group\n");
         }
         EntryFault::Nothing => {}
@@ -388,6 +362,7 @@ fn explain_items(
     values: &[u8],
     gotos: &[u8],
     named: &[u8],
+    uses: &[u8],
     present: &[u8],
     symbols: &[u8],
     rules: usize,
@@ -434,12 +409,14 @@ fn explain_items(
                 rules + k,
                 0,
             );
+            print_user(out, uses, k);
             print_text(out, b"\n");
         }
         ItemFault::Lost(i, k) => {
             let x = moves::symbol_after(items, count, i, k);
             print_goes(out, x, q, moves::next_of(kinds, values, gotos, q, x));
             print_item(out, b"lacks ", items, count, rules, i, k + 1);
+            print_item_user(out, uses, rules, i);
             print_text(out, b"\n");
         }
         ItemFault::Extra(x, l) => {
@@ -454,7 +431,9 @@ fn explain_items(
                 i,
                 kernel_lines::dot_of(kernels, lines, count, l),
             );
-            print_text(out, b", which does not move there\n");
+            print_text(out, b", which does not move there");
+            print_item_user(out, uses, rules, i);
+            print_text(out, b"\n");
         }
         ItemFault::Nothing => {}
     }
@@ -530,15 +509,157 @@ fn explain_lookaheads(
         return;
     }
     print_count(out, b", which the items of state ", p);
-    print_text(out, b" ask for\n");
+    print_text(out, b" ask for");
+    print_item_user(out, uses, rules, i);
+    print_text(out, b"\n");
 }
 
-// Reply 9 at state q.
-fn explain_conflict(
+// Two different actions that items ask of one cell, as far as they are found; 0 for nothing.
+struct Pair {
+    first: usize,
+    second: usize,
+}
+
+fn add_demand(p: Pair, v: usize) -> Pair {
+    if v == 0 {
+        return p;
+    }
+    if p.first == 0 {
+        return Pair {
+            first: v,
+            second: 0,
+        };
+    }
+    if p.second != 0 {
+        return p;
+    }
+    if v == p.first {
+        return p;
+    }
+    Pair {
+        first: p.first,
+        second: v,
+    }
+}
+
+// What the moves of a state ask of the cell for code c.
+fn move_pair(symbols: &[u8], c: usize) -> Pair
+    requires { ⌜ (length (now symbols) ≡ 128) × (c < 64) ⌝ }
+{
+    let mut shift = 0;
+    if c != 0 {
+        if symbols[c] != 0 {
+            shift = 256;
+        }
+    }
+    Pair {
+        first: shift,
+        second: 0,
+    }
+}
+
+// What the kernel items of q ask of it too.
+fn add_lines(
+    items: &[u8],
+    kernels: &[u8],
+    lookaheads: &[u8],
+    nul: &[u8],
+    fst: &[u8],
+    count: usize,
+    rules: usize,
+    lines: usize,
+    codes: usize,
+    q: usize,
+    c: usize,
+    moved: Pair,
+) -> Pair
+    requires { ⌜ Lines (now kernels) lines count ⌝ }
+    requires { ⌜ Ready (now items) (now nul) (now fst) count codes ⌝ }
+    requires { ⌜ (count < 256) × (lines * 64 ≤ length (now lookaheads)) × (c < 64) ⌝ }
+{
+    let mut p = moved;
+    let mut l = lines;
+    while 0 < l {
+        l -= 1;
+        if kernel_lines::state_of(kernels, lines, count, l) == q {
+            let i = kernel_lines::item_of(kernels, lines, count, l);
+            let k = kernel_lines::dot_of(kernels, lines, count, l);
+            let v = conflicts::item_demand(
+                items,
+                nul,
+                fst,
+                lookaheads,
+                count,
+                rules,
+                codes,
+                i,
+                k,
+                l * 64,
+                c,
+            );
+            p = add_demand(p, v);
+        }
+    }
+    p
+}
+
+// And the rules that the closure adds.
+fn add_rules(
+    items: &[u8],
+    present: &[u8],
+    follow: &[u8],
+    nul: &[u8],
+    fst: &[u8],
+    count: usize,
+    rules: usize,
+    codes: usize,
+    c: usize,
+    asked: Pair,
+) -> Pair
+    requires { ⌜ Ready (now items) (now nul) (now fst) count codes ⌝ }
+    requires { ⌜ (rules ≤ count) × (count < 256) × (c < 64) ⌝ }
+    requires { ⌜ (length (now present) ≡ 64) × (length (now follow) ≡ 4096) ⌝ }
+{
+    let mut p = asked;
+    let mut i = 1;
+    while i <= rules {
+        if moves::is_present(items, present, count, i) {
+            let left = items::left_of(items, count, i);
+            let v = conflicts::item_demand(
+                items,
+                nul,
+                fst,
+                follow,
+                count,
+                rules,
+                codes,
+                i,
+                0,
+                (left - 64) * 64,
+                c,
+            );
+            p = add_demand(p, v);
+        }
+        i += 1;
+    }
+    p
+}
+
+fn print_conflict(out: &mut [u8; OUTPUT], q: usize, c: usize, p: Pair) {
+    print_count(out, b"state ", q);
+    print_count(out, b", code ", c);
+    print_text(out, b": ");
+    print_action(out, p.first);
+    print_text(out, b", and ");
+    print_action(out, p.second);
+    print_text(out, b"\n");
+}
+
+// Reply 9 at state q: each code whose cell would hold two actions, as far as there is room. Answers their number.
+fn explain_conflicts(
     out: &mut [u8; OUTPUT],
     items: &[u8],
     kernels: &[u8],
-    links: &[usize],
     lookaheads: &[u8],
     present: &[u8],
     follow: &[u8],
@@ -550,64 +671,81 @@ fn explain_conflict(
     lines: usize,
     codes: usize,
     q: usize,
-)
-    requires { ⌜ Readable (now items) (now kernels) (now links) (now present) count rules lines ⌝ }
+    room: usize,
+) -> usize
+    requires { ⌜ Lines (now kernels) lines count ⌝ }
     requires { ⌜ Ready (now items) (now nul) (now fst) count codes ⌝ }
-    requires { ⌜ (count < 256) × (q < 256) × (lines * 64 ≤ length (now lookaheads)) ⌝ }
-    requires { ⌜ (length (now follow) ≡ 4096) × (length (now symbols) ≡ 128) ⌝ }
+    requires { ⌜ (rules ≤ count) × (count < 256) × (lines * 64 ≤ length (now lookaheads)) ⌝ }
+    requires { ⌜ (length (now present) ≡ 64) × (length (now follow) ≡ 4096) × (length (now symbols) ≡ 128) ⌝ }
+    ensures { λ r. ⌜ r ≤ 64 ⌝ }
 {
-    let conflict = conflicts::find_conflict(
-        items,
-        kernels,
-        links,
-        lookaheads,
-        present,
-        follow,
-        symbols,
-        nul,
-        fst,
-        count,
-        rules,
-        lines,
-        codes,
-        q,
-    );
-    let Conflict::On(c, first, second) = conflict else {
-        return;
-    };
-    print_count(out, b"state ", q);
-    print_count(out, b", code ", c);
-    print_text(out, b": ");
-    print_action(out, first);
-    print_text(out, b", and ");
-    print_action(out, second);
-    print_text(out, b"\n");
-    print_line_demands(
-        out,
-        items,
-        kernels,
-        lookaheads,
-        nul,
-        fst,
-        count,
-        rules,
-        lines,
-        codes,
-        q,
-        c,
-    );
-    print_rule_demands(
-        out,
-        items,
-        present,
-        follow,
-        nul,
-        fst,
-        count,
-        rules,
-        codes,
-        c,
-    );
+    let mut found = 0;
+    let mut c = 0;
+    while c < codes {
+        let moved = move_pair(symbols, c);
+        let asked = add_lines(
+            items,
+            kernels,
+            lookaheads,
+            nul,
+            fst,
+            count,
+            rules,
+            lines,
+            codes,
+            q,
+            c,
+            moved,
+        );
+        let p = add_rules(
+            items,
+            present,
+            follow,
+            nul,
+            fst,
+            count,
+            rules,
+            codes,
+            c,
+            asked,
+        );
+        if p.second == 0 {
+            c += 1;
+            continue;
+        }
+        if found < room {
+            print_conflict(out, q, c, p);
+            print_line_demands(
+                out,
+                items,
+                kernels,
+                lookaheads,
+                nul,
+                fst,
+                count,
+                rules,
+                lines,
+                codes,
+                q,
+                c,
+            );
+            print_rule_demands(
+                out,
+                items,
+                present,
+                follow,
+                nul,
+                fst,
+                count,
+                rules,
+                codes,
+                c,
+            );
+        }
+        found += 1;
+        c += 1;
+    }
+    found
 }
 
 // A cell that is not what is asked.
@@ -752,10 +890,12 @@ fn explain_state(
     states: usize,
     number: u64,
     q: usize,
-)
+    room: usize,
+) -> usize
     requires { ⌜ Sized (now items) (now entries) (now kernels) (now lookaheads) (now kinds) (now values) (now gotos) (now named) rules strings lines ⌝ }
     requires { ⌜ Computed (now items) (now kernels) (now links) (now uses) (now nul) (now fst) (now starts) (now through) rules lines codes ⌝ }
     requires { ⌜ (1 ≤ codes) × (states ≤ 255) × (q < 256) ⌝ }
+    ensures { λ r. ⌜ r ≤ 64 ⌝ }
 {
     if number == 8 {
         explain_lookaheads(
@@ -781,7 +921,7 @@ fn explain_state(
             states,
             q,
         );
-        return;
+        return 0;
     }
     let count = rules + strings;
     let mut present = [0u8; 64];
@@ -825,6 +965,7 @@ fn explain_state(
             values,
             gotos,
             named,
+            uses,
             &present,
             &symbols,
             rules,
@@ -832,14 +973,13 @@ fn explain_state(
             lines,
             q,
         );
-        return;
+        return 0;
     }
     if number == 9 {
-        explain_conflict(
+        return explain_conflicts(
             out,
             items,
             kernels,
-            links,
             lookaheads,
             &present,
             &follow,
@@ -851,8 +991,8 @@ fn explain_state(
             lines,
             codes,
             q,
+            room,
         );
-        return;
     }
     explain_cells(
         out,
@@ -874,9 +1014,10 @@ fn explain_state(
         codes,
         q,
     );
+    0
 }
 
-// A refusal of tables in memory: 7 to 10.
+// A refusal of tables in memory: 7 to 10. Of conflicts as many are told as there is room for, and their number is the answer.
 pub fn explain_memory(
     out: &mut [u8; OUTPUT],
     items: &[u8],
@@ -895,16 +1036,18 @@ pub fn explain_memory(
     states: usize,
     number: u64,
     place: usize,
-)
+    room: usize,
+) -> usize
     requires { ⌜ Sized (now items) (now entries) (now kernels) (now lookaheads) (now kinds) (now values) (now gotos) (now named) rules strings lines ⌝ }
     requires { ⌜ (terminals ≤ 63) × (states ≤ 255) ⌝ }
+    ensures { λ r. ⌜ r ≤ 64 ⌝ }
 {
     if place == 0 {
         explain_entries(out, items, rules, strings, goal);
-        return;
+        return 0;
     }
     if place > 255 {
-        return;
+        return 0;
     }
     let count = rules + strings;
     let codes = terminals + 1;
@@ -950,5 +1093,6 @@ pub fn explain_memory(
         states,
         number,
         place,
-    );
+        room,
+    )
 }

@@ -1,8 +1,8 @@
+-- `explanation::explain_entries` is safe and ends. Assumes nothing.
 use native.Mathlib.Omega.{arith}
-use borrow.Author.Needs.{needs}
-use Rattle.details.specs.Entries.{BareIs}
 use mathlib.Core.Path.{subst}
-use Prim.Native.Nat.{_+_}
+use Rattle.details.specs.Entries.{BareIs}
+use borrow.Author.Needs.{needs}
 use Rattle.explanation.proofs.explain_entries.Statement.{statement}
 use Rattle.explanation.proofs.explain_entries.Tie as tie
 
@@ -11,6 +11,15 @@ find-entry-fault-requires c κs = search needs
 
 enum-told : tie.Need-enum-told
 enum-told c = search needs
+
+print-entry-requires : tie.Need-print-entry-requires
+print-entry-requires c κs = (c .before .before .before .before .before .pre .0, (c .before .before .before .before .before .pre .1 .0, c .before .before .before .before .before .pre .1 .2))
+
+slice-aggregate-print-count : tie.Need-slice-aggregate-print-count
+slice-aggregate-print-count c = search needs
+
+print-count-requires : tie.Need-print-count-requires
+print-count-requires c κs = search needs
 
 slice-aggregate-print-text : tie.Need-slice-aggregate-print-text
 slice-aggregate-print-text c = search needs
@@ -21,11 +30,24 @@ print-text-requires c κs = search needs
 enum-known-fault : tie.Need-enum-known-fault
 enum-known-fault c = search needs
 
-slice-aggregate-print-count : tie.Need-slice-aggregate-print-count
-slice-aggregate-print-count c = search needs
+add-count : tie.Need-add-count
+add-count c = search needs
 
-print-count-requires : tie.Need-print-count-requires
-print-count-requires c κs = search needs
+slice-aggregate-print-count-2 : tie.Need-slice-aggregate-print-count-2
+slice-aggregate-print-count-2 c = search needs
+
+print-count-requires-2 : tie.Need-print-count-requires-2
+print-count-requires-2 c κs = search needs
+
+slice-aggregate-print-count-3 : tie.Need-slice-aggregate-print-count-3
+slice-aggregate-print-count-3 c = search needs
+
+group-number-requires : tie.Need-group-number-requires
+group-number-requires c κs = let b = subst (BareIs (c .before .before .before .before .before .before .before .before .before .before .args .items .now) (c .before .before .before .before .before .before .before .before .before .before .args .rules) (c .before .before .before .before .before .before .before .before .before .before .args .strings)) (c .before .before .before .before .before .before .fault .given .1) (c .before .before .before .before .before .before .before .before .find-entry-fault .ensures .0) in
+    (c .before .before .before .before .before .before .before .before .before .before .pre .0, omega (arith, b .1))
+
+print-count-requires-3 : tie.Need-print-count-requires-3
+print-count-requires-3 c κs = search needs
 
 slice-aggregate-print-text-2 : tie.Need-slice-aggregate-print-text-2
 slice-aggregate-print-text-2 c = search needs
@@ -33,11 +55,9 @@ slice-aggregate-print-text-2 c = search needs
 print-text-requires-2 : tie.Need-print-text-requires-2
 print-text-requires-2 c κs = search needs
 
-add-print-symbols : tie.Need-add-print-symbols
-add-print-symbols c = search needs
-
 print-symbols-requires : tie.Need-print-symbols-requires
-print-symbols-requires c κs = let b = subst (BareIs (c .before .before .before .before .before .before .before .before .before .before .before .before .args .items .now) (c .before .before .before .before .before .before .before .before .before .before .before .before .args .rules) (c .before .before .before .before .before .before .before .before .before .before .before .before .args .strings)) (c .before .before .before .before .before .before .before .before .fault .given .1) (c .before .before .before .before .before .before .before .before .before .before .find-entry-fault .ensures .0) in (c .before .before .before .before .before .before .before .before .before .before .before .before .pre .0, (omega (arith, b .1), b .2))
+print-symbols-requires c κs = let b = subst (BareIs (c .before .before .before .before .before .before .before .before .before .before .before .before .before .before .before .before .args .items .now) (c .before .before .before .before .before .before .before .before .before .before .before .before .before .before .before .before .args .rules) (c .before .before .before .before .before .before .before .before .before .before .before .before .before .before .before .before .args .strings)) (c .before .before .before .before .before .before .before .before .before .before .before .before .fault .given .1) (c .before .before .before .before .before .before .before .before .before .before .before .before .before .before .find-entry-fault .ensures .0) in
+    (c .before .before .before .before .before .before .before .before .before .before .before .before .before .before .before .before .pre .0, (omega (arith, b .1), b .2))
 
 slice-aggregate-print-text-3 : tie.Need-slice-aggregate-print-text-3
 slice-aggregate-print-text-3 c = search needs
@@ -48,11 +68,8 @@ print-text-requires-3 c κs = search needs
 enum-known-fault-2 : tie.Need-enum-known-fault-2
 enum-known-fault-2 c = search needs
 
-slice-aggregate-print-count-2 : tie.Need-slice-aggregate-print-count-2
-slice-aggregate-print-count-2 c = search needs
-
-print-count-requires-2 : tie.Need-print-count-requires-2
-print-count-requires-2 c κs = search needs
+print-entry-requires-2 : tie.Need-print-entry-requires-2
+print-entry-requires-2 c κs = (c .before .before .before .before .before .before .pre .0, (c .before .before .before .before .before .before .pre .1 .0, c .before .before .before .before .before .before .pre .1 .2))
 
 slice-aggregate-print-text-4 : tie.Need-slice-aggregate-print-text-4
 slice-aggregate-print-text-4 c = search needs
@@ -81,20 +98,25 @@ explain-entries-spec =
     (tie.spec
     find-entry-fault-requires
     enum-told
+    print-entry-requires
+    slice-aggregate-print-count
+    print-count-requires
     slice-aggregate-print-text
     print-text-requires
     enum-known-fault
-    slice-aggregate-print-count
-    print-count-requires
+    add-count
+    slice-aggregate-print-count-2
+    print-count-requires-2
+    slice-aggregate-print-count-3
+    group-number-requires
+    print-count-requires-3
     slice-aggregate-print-text-2
     print-text-requires-2
-    add-print-symbols
     print-symbols-requires
     slice-aggregate-print-text-3
     print-text-requires-3
     enum-known-fault-2
-    slice-aggregate-print-count-2
-    print-count-requires-2
+    print-entry-requires-2
     slice-aggregate-print-text-4
     print-text-requires-4
     enum-told-2

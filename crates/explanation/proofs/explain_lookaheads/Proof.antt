@@ -56,6 +56,15 @@ slice-aggregate-print-text-2 c = search needs
 print-text-requires-2 : tie.Need-print-text-requires-2
 print-text-requires-2 c κs = search needs
 
+print-item-user-requires : tie.Need-print-item-user-requires
+print-item-user-requires c κs = search needs
+
+slice-aggregate-print-text-3 : tie.Need-slice-aggregate-print-text-3
+slice-aggregate-print-text-3 c = search needs
+
+print-text-requires-3 : tie.Need-print-text-requires-3
+print-text-requires-3 c κs = search needs
+
 returns-3 : tie.Need-returns-3
 returns-3 c = search needs
 
@@ -81,4 +90,7 @@ explain-lookaheads-spec =
     print-count-requires-2
     slice-aggregate-print-text-2
     print-text-requires-2
+    print-item-user-requires
+    slice-aggregate-print-text-3
+    print-text-requires-3
     returns-3)
