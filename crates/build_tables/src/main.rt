@@ -1,18 +1,21 @@
 // build_tables GRAMMAR: builds the table book of a grammar book and prints it, or the refusal's number and place.
-use libc::STDOUT_FILENO;
 use reply::Reply;
 
 fn show(grammar: &[u8]) {
     let mut book = [0u8; 65536];
+    let mut out = program::output();
     let built = builder::build_tables(grammar, &mut book);
     let n = built.length;
     let reply = built.reply;
     match reply {
-        Reply::Accepted(_) => {
-            io::write_all(STDOUT_FILENO, &book[..n]);
-        }
-        Reply::Refused(_) => program::print_pair(reply::number(reply), reply::place(reply) as u64),
+        Reply::Accepted(_) => program::print_text(&mut out, &book[..n]),
+        Reply::Refused(_) => program::print_pair(
+            &mut out,
+            reply::number(reply),
+            reply::place(reply) as u64,
+        ),
     }
+    program::flush(&mut out);
 }
 
 fn main() {

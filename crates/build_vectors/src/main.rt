@@ -17,44 +17,52 @@ fn count_set(bytes: &[u8]) -> usize {
     n
 }
 
-fn show(grammar: &[u8], out: &mut [u8]) {
-    let built = builder::build_tables(grammar, out);
+fn show(out: &mut [u8; program::OUTPUT], grammar: &[u8], book: &mut [u8]) {
+    let built = builder::build_tables(grammar, book);
     let reply = built.reply;
-    program::print_pair(reply::number(reply), reply::place(reply) as u64);
-    program::print_number(count_set(out) as u64);
-    program::print_text(out);
+    program::print_pair(out, reply::number(reply), reply::place(reply) as u64);
+    program::print_number(out, count_set(book) as u64);
+    program::print_text(out, book);
 }
 
-fn show_in(grammar: &[u8], out: &mut [u8], room: usize)
-    requires { ⌜ room ≤ length (now out) ⌝ }
+fn show_in(out: &mut [u8; program::OUTPUT], grammar: &[u8], book: &mut [u8], room: usize)
+    requires { ⌜ room ≤ length (now book) ⌝ }
 {
-    show(grammar, &mut out[..room]);
+    show(out, grammar, &mut book[..room]);
 }
 
-fn run(i: usize, room: usize)
+fn run(i: usize, room: usize, usage: &[u8])
     requires { ⌜ room ≤ 65536 ⌝ }
 {
     let mut grammar = [0u8; 65537];
-    let mut out = [7u8; 65536];
-    let input = program::read_argument(
-        i,
-        b"GRAMMAR",
-        b"usage: build_vectors (GRAMMAR LENGTH,)..\n",
-        &mut grammar,
-    );
+    let mut book = [7u8; 65536];
+    let input = program::read_argument(i, b"GRAMMAR", usage, &mut grammar);
     if input.failed {
         return;
     }
-    program::print_argument(i);
     let n = input.size;
-    show_in(&grammar[..n], &mut out, room);
+    let mut out = program::output();
+    program::print_argument(&mut out, i);
+    program::print_text(&mut out, b"\n");
+    show_in(&mut out, &grammar[..n], &mut book, room);
+    program::flush(&mut out);
 }
 
 fn main() {
-    let pairs = os::arg_count() / 2;
+    let usage = b"usage: build_vectors (GRAMMAR LENGTH,)..\n";
+    let count = os::arg_count();
+    if count < 2 {
+        program::tell_missing(b"GRAMMAR", usage);
+        return;
+    }
+    if count % 2 == 0 {
+        program::tell_missing(b"LENGTH", usage);
+        return;
+    }
+    let cases = count / 2;
     let mut k = 0;
-    while k < pairs {
-        run(2 * k + 1, program::argument_number(2 * k + 2));
+    while k < cases {
+        run(2 * k + 1, program::argument_number(2 * k + 2), usage);
         k += 1;
     }
 }

@@ -1,8 +1,10 @@
 // check_tables GRAMMAR TABLES: checks a table book against its grammar book, and prints the reply's number and place.
 
 fn show(grammar: &[u8], book: &[u8]) {
+    let mut out = program::output();
     let reply = checker::check_tables(grammar, book);
-    program::print_pair(reply::number(reply), reply::place(reply) as u64);
+    program::print_pair(&mut out, reply::number(reply), reply::place(reply) as u64);
+    program::flush(&mut out);
 }
 
 fn main() {

@@ -1,21 +1,12 @@
 // Checks each pair of a grammar book and a table book that two arguments name, and prints a line for each: the table book's name,
 // and the reply's number and place.
-use libc::STDOUT_FILENO;
 
-fn show(grammar: &[u8], book: &[u8]) {
+fn show(out: &mut [u8; program::OUTPUT], grammar: &[u8], book: &[u8]) {
     let reply = checker::check_tables(grammar, book);
-    program::print_pair(reply::number(reply), reply::place(reply) as u64);
+    program::print_pair(out, reply::number(reply), reply::place(reply) as u64);
 }
 
-fn print_argument(i: usize) {
-    let mut name = io::buffer();
-    let n = os::arg(i, &mut name);
-    io::write_all(STDOUT_FILENO, &name[..n]);
-    io::write_all(STDOUT_FILENO, b" ");
-}
-
-fn run(i: usize, next: usize) {
-    let usage = b"usage: check_vectors (GRAMMAR TABLES)..\n";
+fn run(i: usize, next: usize, usage: &[u8]) {
     let mut grammar = [0u8; 65537];
     let first = program::read_argument(i, b"GRAMMAR", usage, &mut grammar);
     if first.failed {
@@ -26,27 +17,30 @@ fn run(i: usize, next: usize) {
     if second.failed {
         return;
     }
-    print_argument(next);
     let n = first.size;
     let m = second.size;
-    show(&grammar[..n], &book[..m]);
-}
-
-// Runs on the arguments `before` and i, and answers 0; where `before` is 0, i is a grammar book's, and is the answer.
-fn take(before: usize, i: usize) -> usize {
-    if before == 0 {
-        return i;
-    }
-    run(before, i);
-    0
+    let mut out = program::output();
+    program::print_argument(&mut out, next);
+    program::print_text(&mut out, b" ");
+    show(&mut out, &grammar[..n], &book[..m]);
+    program::flush(&mut out);
 }
 
 fn main() {
+    let usage = b"usage: check_vectors (GRAMMAR TABLES)..\n";
     let count = os::arg_count();
-    let mut before = 0;
-    let mut i = 1;
-    while i < count {
-        before = take(before, i);
-        i += 1;
+    if count < 2 {
+        program::tell_missing(b"GRAMMAR", usage);
+        return;
+    }
+    if count % 2 == 0 {
+        program::tell_missing(b"TABLES", usage);
+        return;
+    }
+    let cases = count / 2;
+    let mut k = 0;
+    while k < cases {
+        run(2 * k + 1, 2 * k + 2, usage);
+        k += 1;
     }
 }

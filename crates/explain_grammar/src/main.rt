@@ -1,6 +1,7 @@
 // explain_grammar GRAMMAR..: builds the tables of each grammar book, prints the reply's number and place, and tells in words why there are none.
 use build_memory::Built;
 use grammar::GrammarReply;
+use program::OUTPUT;
 use program::print_count;
 use program::print_text;
 use reply::Reply;
@@ -8,6 +9,10 @@ ghost use mathlib.Core.Path.{_≡_};
 ghost use Prim.Native.Nat.{_<_, _≤_};
 ghost use lib.ListN.{length};
 ghost use Rattle.moves.specs.Moves.{Cells};
+ghost use Rattle.judge.specs.Given.{Sized};
+
+// The most conflicts that are told in words.
+const MOST: usize = 20;
 
 // The symbol on which state p goes to state q; 0 where there is none.
 fn symbol_between(kinds: &[u8], values: &[u8], gotos: &[u8], p: usize, q: usize) -> usize
@@ -76,7 +81,14 @@ fn wide(x: u8) -> usize
 }
 
 // The symbols on the way.
-fn print_symbols(kinds: &[u8], values: &[u8], gotos: &[u8], way: &[u8], first: usize)
+fn print_symbols(
+    out: &mut [u8; OUTPUT],
+    kinds: &[u8],
+    values: &[u8],
+    gotos: &[u8],
+    way: &[u8],
+    first: usize,
+)
     requires { ⌜ Cells (now kinds) (now values) (now gotos) ⌝ }
     requires { ⌜ length (now way) ≡ 256 ⌝ }
 {
@@ -84,31 +96,106 @@ fn print_symbols(kinds: &[u8], values: &[u8], gotos: &[u8], way: &[u8], first: u
     while i < 255 {
         let p = wide(way[i]);
         let s = wide(way[i + 1]);
-        print_count(b" ", symbol_between(kinds, values, gotos, p, s));
+        print_count(out, b" ", symbol_between(kinds, values, gotos, p, s));
         i += 1;
     }
 }
 
 // How state q is reached.
-fn print_way(kinds: &[u8], values: &[u8], gotos: &[u8], strings: usize, q: usize)
+fn print_way(
+    out: &mut [u8; OUTPUT],
+    kinds: &[u8],
+    values: &[u8],
+    gotos: &[u8],
+    strings: usize,
+    q: usize,
+)
     requires { ⌜ Cells (now kinds) (now values) (now gotos) ⌝ }
     requires { ⌜ (1 ≤ q) × (q < 256) ⌝ }
 {
     let mut way = [0u8; 256];
     let first = find_way(kinds, values, gotos, strings, q, &mut way);
-    print_count(b"state ", q);
+    print_count(out, b"state ", q);
     if first == 255 {
-        print_count(b" is that of entry ", q);
+        print_count(out, b" is that of entry ", q);
     } else {
-        print_count(b" is reached from entry ", wide(way[first]));
-        print_text(b", over");
-        print_symbols(kinds, values, gotos, &way, first);
+        print_count(out, b" is reached from entry ", wide(way[first]));
+        print_text(out, b", over");
+        print_symbols(out, kinds, values, gotos, &way, first);
     }
-    print_text(b"\n");
+    print_text(out, b"\n");
+}
+
+// How many of the conflicts are told in words, of which so many are told.
+fn room_after(found: usize) -> usize {
+    if found < MOST {
+        return MOST - found;
+    }
+    0
+}
+
+// The conflicts of the states from `first` on, and how each state is reached.
+fn explain_conflicts(
+    out: &mut [u8; OUTPUT],
+    items: &[u8],
+    entries: &[u8],
+    kernels: &[u8],
+    lookaheads: &[u8],
+    kinds: &[u8],
+    values: &[u8],
+    gotos: &[u8],
+    named: &[u8],
+    terminals: usize,
+    goal: usize,
+    rules: usize,
+    strings: usize,
+    lines: usize,
+    states: usize,
+    first: usize,
+)
+    requires { ⌜ Sized (now items) (now entries) (now kernels) (now lookaheads) (now kinds) (now values) (now gotos) (now named) rules strings lines ⌝ }
+    requires { ⌜ (terminals ≤ 63) × (states ≤ 255) × (1 ≤ first) ⌝ }
+    requires { ⌜ Cells (now kinds) (now values) (now gotos) ⌝ }
+{
+    let mut found = 0;
+    let mut q = first;
+    while q <= states {
+        let more = explanation::explain_memory(
+            out,
+            items,
+            entries,
+            kernels,
+            lookaheads,
+            kinds,
+            values,
+            gotos,
+            named,
+            terminals,
+            goal,
+            rules,
+            strings,
+            lines,
+            states,
+            9,
+            q,
+            room_after(found),
+        );
+        if more != 0 {
+            if found < MOST {
+                print_way(out, kinds, values, gotos, strings, q);
+            }
+        }
+        found += more;
+        q += 1;
+    }
+    if MOST < found {
+        print_count(out, b"conflicts that are not shown: ", found - MOST);
+        print_text(out, b"\n");
+    }
 }
 
 // A refusal of a grammar that is read: its tables are built again, in memory.
-fn explain_tables(grammar: &[u8]) {
+fn explain_tables(out: &mut [u8; OUTPUT], grammar: &[u8]) {
     let mut items = [0u8; table::ITEMS];
     let mut entries = [0u8; table::ENTRY_STATES];
     let mut kernels = [0u8; table::KERNELS];
@@ -129,45 +216,40 @@ fn explain_tables(grammar: &[u8]) {
     );
     match built {
         Built::Refused(_) => print_text(
+            out,
             b"there would be more than 127 entries, 255 states or 1023 kernel lines\n",
         ),
-        Built::Table(_) => print_text(b"the table book would be longer than 65536 bytes\n"),
-        Built::Conflict(q, counts) => {
-            explanation::explain_memory(
-                &items,
-                &entries,
-                &kernels,
-                &lookaheads,
-                &kinds,
-                &values,
-                &gotos,
-                &named,
-                counts.grammar.terminals,
-                counts.grammar.goal,
-                counts.grammar.rules,
-                counts.entries,
-                counts.kernels,
-                counts.states,
-                9,
-                q,
-            );
-            print_way(&kinds, &values, &gotos, counts.entries, q);
-        }
+        Built::Table(_) => print_text(out, b"the table book would be longer than 65536 bytes\n"),
+        Built::Conflict(q, counts) => explain_conflicts(
+            out,
+            &items,
+            &entries,
+            &kernels,
+            &lookaheads,
+            &kinds,
+            &values,
+            &gotos,
+            &named,
+            counts.grammar.terminals,
+            counts.grammar.goal,
+            counts.grammar.rules,
+            counts.entries,
+            counts.kernels,
+            counts.states,
+            q,
+        ),
     }
 }
 
 // Why there are no tables.
-fn explain(grammar: &[u8], number: u64, place: usize) {
+fn explain(out: &mut [u8; OUTPUT], grammar: &[u8], number: u64, place: usize) {
     let mut items = [0u8; grammar::TABLE];
     let answer = grammar::read_grammar(grammar, &mut items);
     match answer {
-        GrammarReply::Refused(_) => explanation::explain_book(
-            b"grammar book",
-            grammar,
-            number,
-            place,
-        ),
-        GrammarReply::Read(_) => explain_tables(grammar),
+        GrammarReply::Refused(_) => {
+            line_words::explain_grammar_book(out, grammar, number, place)
+        }
+        GrammarReply::Read(_) => explain_tables(out, grammar),
     }
 }
 
@@ -177,11 +259,13 @@ fn show(grammar: &[u8]) {
     let reply = built.reply;
     let number = reply::number(reply);
     let place = reply::place(reply);
-    program::print_pair(number, place as u64);
+    let mut out = program::output();
+    program::print_pair(&mut out, number, place as u64);
     match reply {
-        Reply::Accepted(_) => print_text(b"the tables can be built\n"),
-        Reply::Refused(_) => explain(grammar, number, place),
+        Reply::Accepted(_) => print_text(&mut out, b"the tables can be built\n"),
+        Reply::Refused(_) => explain(&mut out, grammar, number, place),
     }
+    program::flush(&mut out);
 }
 
 // Reads the grammar book that argument i names.

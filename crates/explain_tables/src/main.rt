@@ -1,11 +1,12 @@
 // explain_tables (GRAMMAR TABLES)..: checks each table book against its grammar book, prints the reply's number and place, and tells in words
 // why the tables are refused.
 use grammar::GrammarReply;
+use program::OUTPUT;
 use program::print_text;
 use table::TableReply;
 
 // A refusal with 7 to 10: both books are read again.
-fn explain_tables(grammar: &[u8], book: &[u8], number: u64, place: usize) {
+fn explain_tables(out: &mut [u8; OUTPUT], grammar: &[u8], book: &[u8], number: u64, place: usize) {
     let mut items = [0u8; table::ITEMS];
     let mut entries = [0u8; table::ENTRY_STATES];
     let mut kernels = [0u8; table::KERNELS];
@@ -31,6 +32,7 @@ fn explain_tables(grammar: &[u8], book: &[u8], number: u64, place: usize) {
     };
     let heading = counts.grammar;
     explanation::explain_memory(
+        out,
         &items,
         &entries,
         &kernels,
@@ -47,44 +49,54 @@ fn explain_tables(grammar: &[u8], book: &[u8], number: u64, place: usize) {
         counts.states,
         number,
         place,
+        64,
     );
 }
 
 // Why both books are refused with that number at that place.
-fn explain(grammar: &[u8], book: &[u8], number: u64, place: usize) {
+fn explain(out: &mut [u8; OUTPUT], grammar: &[u8], book: &[u8], number: u64, place: usize) {
     if number == 0 {
-        print_text(b"the tables meet the construction\n");
+        print_text(out, b"the tables meet the construction\n");
         return;
     }
     // Both lengths come before all else.
     if book.len() > 65536 {
-        explanation::explain_book(b"table book", book, number, place);
+        line_words::explain_table_book(out, 0, 0, 0, book, number, place);
         return;
     }
     let mut items = [0u8; grammar::TABLE];
     let answer = grammar::read_grammar(grammar, &mut items);
-    if let GrammarReply::Refused(_) = answer {
-        explanation::explain_book(b"grammar book", grammar, number, place);
+    let GrammarReply::Read(h) = answer else {
+        line_words::explain_grammar_book(out, grammar, number, place);
         return;
-    }
+    };
     if number <= 4 {
-        explanation::explain_book(b"table book", book, number, place);
+        line_words::explain_table_book(
+            out,
+            h.terminals,
+            h.nonterminals,
+            h.rules,
+            book,
+            number,
+            place,
+        );
         return;
     }
-    explain_tables(grammar, book, number, place);
+    explain_tables(out, grammar, book, number, place);
 }
 
 fn show(grammar: &[u8], book: &[u8]) {
     let reply = checker::check_tables(grammar, book);
     let number = reply::number(reply);
     let place = reply::place(reply);
-    program::print_pair(number, place as u64);
-    explain(grammar, book, number, place);
+    let mut out = program::output();
+    program::print_pair(&mut out, number, place as u64);
+    explain(&mut out, grammar, book, number, place);
+    program::flush(&mut out);
 }
 
 // Reads both books, which the arguments i and `next` name.
-fn run(i: usize, next: usize) {
-    let usage = b"usage: explain_tables (GRAMMAR TABLES)..\n";
+fn run(i: usize, next: usize, usage: &[u8]) {
     // One byte more than a book may have.
     let mut grammar = [0u8; 65537];
     let first = program::read_argument(i, b"GRAMMAR", usage, &mut grammar);
@@ -101,29 +113,21 @@ fn run(i: usize, next: usize) {
     show(&grammar[..n], &book[..m]);
 }
 
-// Runs on the arguments `before` and i, and answers 0; where `before` is 0, i is a grammar book's, and is the answer.
-fn take(before: usize, i: usize) -> usize {
-    if before == 0 {
-        return i;
-    }
-    run(before, i);
-    0
-}
-
 fn main() {
+    let usage = b"usage: explain_tables (GRAMMAR TABLES)..\n";
     let count = os::arg_count();
     if count < 2 {
-        run(1, 2);
+        program::tell_missing(b"GRAMMAR", usage);
         return;
     }
-    let mut before = 0;
-    let mut i = 1;
-    while i < count {
-        before = take(before, i);
-        i += 1;
+    if count % 2 == 0 {
+        program::tell_missing(b"TABLES", usage);
+        return;
     }
-    // A grammar book without its table book.
-    if before != 0 {
-        run(before, i);
+    let cases = count / 2;
+    let mut k = 0;
+    while k < cases {
+        run(2 * k + 1, 2 * k + 2, usage);
+        k += 1;
     }
 }

@@ -1,10 +1,10 @@
 // Refusals in words: the line, the item, the code, the actions.
 // Inner: for the programs that explain.
-use conflicts::Conflict;
 use details::ItemFault;
 use entry_list::EntryFault;
 use fixpoint::Found;
 use missing_lookaheads::Lack;
+use program::OUTPUT;
 use program::print_count;
 use program::print_text;
 ghost use mathlib.Core.Path.{_≡_};
@@ -17,199 +17,202 @@ ghost use Rattle.carried.specs.Rows.{Ready};
 ghost use Rattle.judge.specs.Given.{Sized, Computed};
 
 // What stands before symbol k of item i: its dot, its recognition point, the cut between two groups.
-fn print_marks(items: &[u8], count: usize, i: usize, k: usize, dot: usize)
+fn print_marks(out: &mut [u8; OUTPUT], items: &[u8], count: usize, i: usize, k: usize, dot: usize)
     requires { ⌜ Shaped (now items) count ⌝ }
     requires { ⌜ (i ≤ count) × (k ≤ 15) ⌝ }
 {
     if k == dot {
-        print_text(b" .");
+        print_text(out, b" .");
     }
     if k == items::mark_of(items, count, i) {
-        print_text(b" ^");
+        print_text(out, b" ^");
         return;
     }
     if 15 <= k {
         return;
     }
     if items::start_of(items, count, i, k) != 0 {
-        print_text(b" /");
+        print_text(out, b" /");
     }
 }
 
 // Item i with its dot, as a rule or an entry's string.
-fn print_dotted(items: &[u8], count: usize, rules: usize, i: usize, dot: usize)
+fn print_dotted(
+    out: &mut [u8; OUTPUT],
+    items: &[u8],
+    count: usize,
+    rules: usize,
+    i: usize,
+    dot: usize,
+)
     requires { ⌜ Shaped (now items) count ⌝ }
     requires { ⌜ i ≤ count ⌝ }
 {
     if i <= rules {
-        print_count(b"rule ", i);
-        print_count(b": ", items::left_of(items, count, i));
-        print_text(b" ->");
+        print_count(out, b"rule ", i);
+        print_count(out, b": ", items::left_of(items, count, i));
+        print_text(out, b" ->");
     } else {
-        print_count(b"entry ", i - rules);
-        print_text(b":");
+        print_count(out, b"entry ", i - rules);
+        print_text(out, b":");
     }
     let n = items::length_of(items, count, i);
     let mut k = 0;
     while k < n {
-        print_marks(items, count, i, k, dot);
-        print_count(b" ", items::symbol_of(items, count, i, k));
+        print_marks(out, items, count, i, k, dot);
+        print_count(out, b" ", items::symbol_of(items, count, i, k));
         k += 1;
     }
-    print_marks(items, count, i, n, dot);
+    print_marks(out, items, count, i, n, dot);
 }
 
 // A text, then item i with its dot.
-fn print_item(text: &[u8], items: &[u8], count: usize, rules: usize, i: usize, dot: usize)
+fn print_item(
+    out: &mut [u8; OUTPUT],
+    text: &[u8],
+    items: &[u8],
+    count: usize,
+    rules: usize,
+    i: usize,
+    dot: usize,
+)
     requires { ⌜ Shaped (now items) count ⌝ }
     requires { ⌜ i ≤ count ⌝ }
 {
-    print_text(text);
-    print_count(b"item ", i);
-    print_count(b", dot ", dot);
-    print_text(b" (");
-    print_dotted(items, count, rules, i, dot);
-    print_text(b")");
+    print_text(out, text);
+    print_count(out, b"item ", i);
+    print_count(out, b", dot ", dot);
+    print_text(out, b" (");
+    print_dotted(out, items, count, rules, i, dot);
+    print_text(out, b")");
 }
 
 // An action, by the number that `cells` gives it.
-fn print_action(demand: usize) {
+fn print_action(out: &mut [u8; OUTPUT], demand: usize) {
     if demand == 0 {
-        print_text(b"nothing");
+        print_text(out, b"nothing");
         return;
     }
     if demand < 512 {
-        print_text(b"shift");
+        print_text(out, b"shift");
         return;
     }
     if demand < 768 {
-        print_count(b"announce of rule ", demand - 512);
+        print_count(out, b"announce of rule ", demand - 512);
         return;
     }
     if demand < 1023 {
-        print_count(b"pop of ", demand - 767);
+        print_count(out, b"pop of ", demand - 767);
         return;
     }
-    print_text(b"pop of a count that no entry has");
-}
-
-// What the replies on lines mean.
-fn print_meaning(number: u64) {
-    if number == 1 {
-        print_text(b"the line breaks its form, or lines are missing or too many\n");
-        return;
-    }
-    if number == 2 {
-        print_text(b"a figure is out of its limits\n");
-        return;
-    }
-    if number == 3 {
-        print_text(b"a symbol, letter, rule, item or state is undeclared or of the wrong kind\n");
-        return;
-    }
-    print_text(b"^ or / is misplaced\n");
-}
-
-// The number of the line that begins at `place`.
-fn line_number(book: &[u8], place: usize) -> usize
-    requires { ⌜ place ≤ length (now book) ⌝ }
-{
-    let mut n = 1;
-    let mut i = 0;
-    while i < place {
-        if book[i] != b'\n' {
-            i += 1;
-            continue;
-        }
-        n += 1;
-        i += 1;
-    }
-    n
-}
-
-// The end of that line, or of what can be shown of it.
-fn line_end(book: &[u8], place: usize) -> usize
-    requires { ⌜ place ≤ length (now book) ⌝ }
-    ensures { λ r. ⌜ (place ≤ r) × (r ≤ length (now (book .entry))) ⌝ }
-{
-    let mut i = place;
-    while i < book.len() {
-        if book[i] < b' ' {
-            return i;
-        }
-        if book[i] > b'~' {
-            return i;
-        }
-        i += 1;
-    }
-    i
-}
-
-// A refusal of the line of a book that begins at `place`.
-fn explain_line(name: &[u8], book: &[u8], number: u64, place: usize) {
-    print_text(name);
-    if book.len() <= place {
-        print_text(b": it ends where a line is due\n");
-        print_meaning(number);
-        return;
-    }
-    print_count(b", line ", line_number(book, place));
-    print_text(b": ");
-    let end = line_end(book, place);
-    print_text(&book[place..end]);
-    print_text(b"\n");
-    print_meaning(number);
-}
-
-// A refusal of a book as it is read: 1 to 6.
-pub fn explain_book(name: &[u8], book: &[u8], number: u64, place: usize) {
-    if book.len() > 65536 {
-        print_text(name);
-        print_text(b": it is longer than 65536 bytes\n");
-        return;
-    }
-    if number <= 4 {
-        explain_line(name, book, number, place);
-        return;
-    }
-    print_count(b"nonterminal ", place);
-    if number == 5 {
-        print_text(b" derives no string of terminals\n");
-        return;
-    }
-    print_text(b" is not reached from the goal\n");
+    print_text(out, b"pop of a count that no entry has");
 }
 
 // The symbols of item i from one number up to another.
-fn print_symbols(items: &[u8], count: usize, i: usize, from: usize, to: usize)
+fn print_symbols(
+    out: &mut [u8; OUTPUT],
+    items: &[u8],
+    count: usize,
+    i: usize,
+    from: usize,
+    to: usize,
+)
     requires { ⌜ Shaped (now items) count ⌝ }
     requires { ⌜ (i ≤ count) × (to ≤ 15) ⌝ }
 {
     let mut k = from;
     while k < to {
-        print_count(b" ", items::symbol_of(items, count, i, k));
+        print_count(out, b" ", items::symbol_of(items, count, i, k));
         k += 1;
     }
 }
 
+// The number of the group of rule i in which symbol `from` stands.
+fn group_number(items: &[u8], count: usize, i: usize, from: usize) -> usize
+    requires { ⌜ Shaped (now items) count ⌝ }
+    requires { ⌜ i ≤ count ⌝ }
+{
+    let mut j = 0;
+    let mut k = 0;
+    while k < 15 {
+        if from < k {
+            return j;
+        }
+        if items::start_of(items, count, i, k) == 0 {
+            k += 1;
+            continue;
+        }
+        j += 1;
+        k += 1;
+    }
+    j
+}
+
+// Entry k with its string.
+fn print_entry(out: &mut [u8; OUTPUT], items: &[u8], rules: usize, strings: usize, k: usize)
+    requires { ⌜ Shaped (now items) (rules + strings) ⌝ }
+    requires { ⌜ (rules ≤ 127) × (strings ≤ 127) ⌝ }
+{
+    print_count(out, b"entry ", k);
+    if strings < k {
+        return;
+    }
+    let count = rules + strings;
+    let n = items::length_of(items, count, rules + k);
+    print_text(out, b", string");
+    print_symbols(out, items, count, rules + k, 0, n);
+    print_text(out, b",");
+}
+
+fn wide(b: u8) -> usize {
+    b as usize
+}
+
+// Who uses entry k, by what each group uses; the goal's is used by none.
+fn print_user(out: &mut [u8; OUTPUT], uses: &[u8], k: usize) {
+    let mut x = 16;
+    while x < uses.len() {
+        if wide(uses[x]) == k {
+            print_count(out, b"; entry ", k);
+            print_count(out, b" is group ", x % 16 + 1);
+            print_count(out, b" of rule ", x / 16);
+            return;
+        }
+        x += 1;
+    }
+}
+
+// Who uses item i, where it is an entry's.
+fn print_item_user(out: &mut [u8; OUTPUT], uses: &[u8], rules: usize, i: usize) {
+    if rules < i {
+        print_user(out, uses, i - rules);
+    }
+}
+
 // Reply 7 at place 0.
-fn explain_entries(items: &[u8], rules: usize, strings: usize, goal: usize)
+fn explain_entries(out: &mut [u8; OUTPUT], items: &[u8], rules: usize, strings: usize, goal: usize)
     requires { ⌜ Shaped (now items) (rules + strings) ⌝ }
     requires { ⌜ (rules ≤ 127) × (1 ≤ strings) × (strings ≤ 127) ⌝ }
 {
     let mut uses = [0u8; 2048];
     let fault = entry_list::find_entry_fault(items, rules, strings, goal, &mut uses);
     match fault {
-        EntryFault::NotGoal => print_text(b"entry 1 is not the goal alone\n"),
+        EntryFault::NotGoal => {
+            print_entry(out, items, rules, strings, 1);
+            print_count(out, b" is not the goal ", goal);
+            print_text(out, b" alone\n");
+        }
         EntryFault::Bare(i, from, to) => {
-            print_count(b"rule ", i);
-            print_text(b": its group");
-            print_symbols(items, rules + strings, i, from, to);
-            print_text(b" has no entry\n");
+            let count = rules + strings;
+            print_count(out, b"rule ", i);
+            print_count(out, b": its group ", group_number(items, count, i, from));
+            print_text(out, b", string");
+            print_symbols(out, items, count, i, from, to);
+            print_text(out, b", has no entry\n");
         }
         EntryFault::Unwanted(k) => {
-            print_count(b"entry ", k);
-            print_text(b" is neither the goal nor a group\n");
+            print_entry(out, items, rules, strings, k);
+            print_text(out, b" is neither the goal nor a group\n");
         }
         EntryFault::Nothing => {}
     }
@@ -217,6 +220,7 @@ fn explain_entries(items: &[u8], rules: usize, strings: usize, goal: usize)
 
 // What item i, dot k asks of the cell for code c, where it asks something.
 fn print_demand(
+    out: &mut [u8; OUTPUT],
     items: &[u8],
     nul: &[u8],
     fst: &[u8],
@@ -253,13 +257,14 @@ fn print_demand(
     if demand == 0 {
         return;
     }
-    print_action(demand);
-    print_item(b": ", items, count, rules, i, k);
-    print_text(b"\n");
+    print_action(out, demand);
+    print_item(out, b": ", items, count, rules, i, k);
+    print_text(out, b"\n");
 }
 
 // The kernel items of q that ask something of the cell for code c.
 fn print_line_demands(
+    out: &mut [u8; OUTPUT],
     items: &[u8],
     kernels: &[u8],
     lookaheads: &[u8],
@@ -282,6 +287,7 @@ fn print_line_demands(
             let i = kernel_lines::item_of(kernels, lines, count, l);
             let k = kernel_lines::dot_of(kernels, lines, count, l);
             print_demand(
+                out,
                 items,
                 nul,
                 fst,
@@ -301,6 +307,7 @@ fn print_line_demands(
 
 // The rules that the closure adds and that ask something of it.
 fn print_rule_demands(
+    out: &mut [u8; OUTPUT],
     items: &[u8],
     present: &[u8],
     follow: &[u8],
@@ -320,6 +327,7 @@ fn print_rule_demands(
         if moves::is_present(items, present, count, i) {
             let left = items::left_of(items, count, i);
             print_demand(
+                out,
                 items,
                 nul,
                 fst,
@@ -338,15 +346,16 @@ fn print_rule_demands(
 }
 
 // Where a state goes.
-fn print_goes(x: usize, q: usize, s: usize) {
-    print_count(b"on symbol ", x);
-    print_count(b" state ", q);
-    print_count(b" goes to state ", s);
-    print_text(b", whose kernel is not the moved items: it ");
+fn print_goes(out: &mut [u8; OUTPUT], x: usize, q: usize, s: usize) {
+    print_count(out, b"on symbol ", x);
+    print_count(out, b" state ", q);
+    print_count(out, b" goes to state ", s);
+    print_text(out, b", whose kernel is not the moved items: it ");
 }
 
 // Reply 7 at state q.
 fn explain_items(
+    out: &mut [u8; OUTPUT],
     items: &[u8],
     entries: &[u8],
     kernels: &[u8],
@@ -355,6 +364,7 @@ fn explain_items(
     values: &[u8],
     gotos: &[u8],
     named: &[u8],
+    uses: &[u8],
     present: &[u8],
     symbols: &[u8],
     rules: usize,
@@ -386,13 +396,14 @@ fn explain_items(
     );
     match fault {
         ItemFault::Unnamed => {
-            print_count(b"state ", q);
-            print_text(b" is neither that of an entry nor named as next\n");
+            print_count(out, b"state ", q);
+            print_text(out, b" is neither that of an entry nor named as next\n");
         }
         ItemFault::Entry(k) => {
-            print_count(b"state ", q);
-            print_count(b" is that of entry ", k);
+            print_count(out, b"state ", q);
+            print_count(out, b" is that of entry ", k);
             print_item(
+                out,
                 b", and its kernel is not the one ",
                 items,
                 count,
@@ -400,18 +411,21 @@ fn explain_items(
                 rules + k,
                 0,
             );
-            print_text(b"\n");
+            print_user(out, uses, k);
+            print_text(out, b"\n");
         }
         ItemFault::Lost(i, k) => {
             let x = moves::symbol_after(items, count, i, k);
-            print_goes(x, q, moves::next_of(kinds, values, gotos, q, x));
-            print_item(b"lacks ", items, count, rules, i, k + 1);
-            print_text(b"\n");
+            print_goes(out, x, q, moves::next_of(kinds, values, gotos, q, x));
+            print_item(out, b"lacks ", items, count, rules, i, k + 1);
+            print_item_user(out, uses, rules, i);
+            print_text(out, b"\n");
         }
         ItemFault::Extra(x, l) => {
-            print_goes(x, q, moves::next_of(kinds, values, gotos, q, x));
+            print_goes(out, x, q, moves::next_of(kinds, values, gotos, q, x));
             let i = kernel_lines::item_of(kernels, lines, count, l);
             print_item(
+                out,
                 b"has ",
                 items,
                 count,
@@ -419,7 +433,9 @@ fn explain_items(
                 i,
                 kernel_lines::dot_of(kernels, lines, count, l),
             );
-            print_text(b", which does not move there\n");
+            print_text(out, b", which does not move there");
+            print_item_user(out, uses, rules, i);
+            print_text(out, b"\n");
         }
         ItemFault::Nothing => {}
     }
@@ -427,6 +443,7 @@ fn explain_items(
 
 // Reply 8 at state q.
 fn explain_lookaheads(
+    out: &mut [u8; OUTPUT],
     items: &[u8],
     entries: &[u8],
     kernels: &[u8],
@@ -480,6 +497,7 @@ fn explain_lookaheads(
     };
     let i = kernel_lines::item_of(kernels, lines, count, l);
     print_item(
+        out,
         b"",
         items,
         count,
@@ -487,20 +505,163 @@ fn explain_lookaheads(
         i,
         kernel_lines::dot_of(kernels, lines, count, l),
     );
-    print_count(b": its context lacks code ", c);
+    print_count(out, b": its context lacks code ", c);
     if p == 0 {
-        print_text(b", which the goal's entry must have\n");
+        print_text(out, b", which the goal's entry must have\n");
         return;
     }
-    print_count(b", which the items of state ", p);
-    print_text(b" ask for\n");
+    print_count(out, b", which the items of state ", p);
+    print_text(out, b" ask for");
+    print_item_user(out, uses, rules, i);
+    print_text(out, b"\n");
 }
 
-// Reply 9 at state q.
-fn explain_conflict(
+// Two different actions that items ask of one cell, as far as they are found; 0 for nothing.
+struct Pair {
+    first: usize,
+    second: usize,
+}
+
+fn add_demand(p: Pair, v: usize) -> Pair {
+    if v == 0 {
+        return p;
+    }
+    if p.first == 0 {
+        return Pair {
+            first: v,
+            second: 0,
+        };
+    }
+    if p.second != 0 {
+        return p;
+    }
+    if v == p.first {
+        return p;
+    }
+    Pair {
+        first: p.first,
+        second: v,
+    }
+}
+
+// What the moves of a state ask of the cell for code c.
+fn move_pair(symbols: &[u8], c: usize) -> Pair
+    requires { ⌜ (length (now symbols) ≡ 128) × (c < 64) ⌝ }
+{
+    let mut shift = 0;
+    if c != 0 {
+        if symbols[c] != 0 {
+            shift = 256;
+        }
+    }
+    Pair {
+        first: shift,
+        second: 0,
+    }
+}
+
+// What the kernel items of q ask of it too.
+fn add_lines(
     items: &[u8],
     kernels: &[u8],
-    links: &[usize],
+    lookaheads: &[u8],
+    nul: &[u8],
+    fst: &[u8],
+    count: usize,
+    rules: usize,
+    lines: usize,
+    codes: usize,
+    q: usize,
+    c: usize,
+    moved: Pair,
+) -> Pair
+    requires { ⌜ Lines (now kernels) lines count ⌝ }
+    requires { ⌜ Ready (now items) (now nul) (now fst) count codes ⌝ }
+    requires { ⌜ (count < 256) × (lines * 64 ≤ length (now lookaheads)) × (c < 64) ⌝ }
+{
+    let mut p = moved;
+    let mut l = lines;
+    while 0 < l {
+        l -= 1;
+        if kernel_lines::state_of(kernels, lines, count, l) == q {
+            let i = kernel_lines::item_of(kernels, lines, count, l);
+            let k = kernel_lines::dot_of(kernels, lines, count, l);
+            let v = conflicts::item_demand(
+                items,
+                nul,
+                fst,
+                lookaheads,
+                count,
+                rules,
+                codes,
+                i,
+                k,
+                l * 64,
+                c,
+            );
+            p = add_demand(p, v);
+        }
+    }
+    p
+}
+
+// And the rules that the closure adds.
+fn add_rules(
+    items: &[u8],
+    present: &[u8],
+    follow: &[u8],
+    nul: &[u8],
+    fst: &[u8],
+    count: usize,
+    rules: usize,
+    codes: usize,
+    c: usize,
+    asked: Pair,
+) -> Pair
+    requires { ⌜ Ready (now items) (now nul) (now fst) count codes ⌝ }
+    requires { ⌜ (rules ≤ count) × (count < 256) × (c < 64) ⌝ }
+    requires { ⌜ (length (now present) ≡ 64) × (length (now follow) ≡ 4096) ⌝ }
+{
+    let mut p = asked;
+    let mut i = 1;
+    while i <= rules {
+        if moves::is_present(items, present, count, i) {
+            let left = items::left_of(items, count, i);
+            let v = conflicts::item_demand(
+                items,
+                nul,
+                fst,
+                follow,
+                count,
+                rules,
+                codes,
+                i,
+                0,
+                (left - 64) * 64,
+                c,
+            );
+            p = add_demand(p, v);
+        }
+        i += 1;
+    }
+    p
+}
+
+fn print_conflict(out: &mut [u8; OUTPUT], q: usize, c: usize, p: Pair) {
+    print_count(out, b"state ", q);
+    print_count(out, b", code ", c);
+    print_text(out, b": ");
+    print_action(out, p.first);
+    print_text(out, b", and ");
+    print_action(out, p.second);
+    print_text(out, b"\n");
+}
+
+// Reply 9 at state q: each code whose cell would hold two actions, as far as there is room. Answers their number.
+fn explain_conflicts(
+    out: &mut [u8; OUTPUT],
+    items: &[u8],
+    kernels: &[u8],
     lookaheads: &[u8],
     present: &[u8],
     follow: &[u8],
@@ -512,89 +673,125 @@ fn explain_conflict(
     lines: usize,
     codes: usize,
     q: usize,
-)
-    requires { ⌜ Readable (now items) (now kernels) (now links) (now present) count rules lines ⌝ }
+    room: usize,
+) -> usize
+    requires { ⌜ Lines (now kernels) lines count ⌝ }
     requires { ⌜ Ready (now items) (now nul) (now fst) count codes ⌝ }
-    requires { ⌜ (count < 256) × (q < 256) × (lines * 64 ≤ length (now lookaheads)) ⌝ }
-    requires { ⌜ (length (now follow) ≡ 4096) × (length (now symbols) ≡ 128) ⌝ }
+    requires { ⌜ (rules ≤ count) × (count < 256) × (lines * 64 ≤ length (now lookaheads)) ⌝ }
+    requires { ⌜ (length (now present) ≡ 64) × (length (now follow) ≡ 4096) × (length (now symbols) ≡ 128) ⌝ }
+    ensures { λ r. ⌜ r ≤ 64 ⌝ }
 {
-    let conflict = conflicts::find_conflict(
-        items,
-        kernels,
-        links,
-        lookaheads,
-        present,
-        follow,
-        symbols,
-        nul,
-        fst,
-        count,
-        rules,
-        lines,
-        codes,
-        q,
-    );
-    let Conflict::On(c, first, second) = conflict else {
-        return;
-    };
-    print_count(b"state ", q);
-    print_count(b", code ", c);
-    print_text(b": ");
-    print_action(first);
-    print_text(b", and ");
-    print_action(second);
-    print_text(b"\n");
-    print_line_demands(
-        items,
-        kernels,
-        lookaheads,
-        nul,
-        fst,
-        count,
-        rules,
-        lines,
-        codes,
-        q,
-        c,
-    );
-    print_rule_demands(items, present, follow, nul, fst, count, rules, codes, c);
+    let mut found = 0;
+    let mut c = 0;
+    while c < codes {
+        let moved = move_pair(symbols, c);
+        let asked = add_lines(
+            items,
+            kernels,
+            lookaheads,
+            nul,
+            fst,
+            count,
+            rules,
+            lines,
+            codes,
+            q,
+            c,
+            moved,
+        );
+        let p = add_rules(
+            items,
+            present,
+            follow,
+            nul,
+            fst,
+            count,
+            rules,
+            codes,
+            c,
+            asked,
+        );
+        if p.second == 0 {
+            c += 1;
+            continue;
+        }
+        if found < room {
+            print_conflict(out, q, c, p);
+            print_line_demands(
+                out,
+                items,
+                kernels,
+                lookaheads,
+                nul,
+                fst,
+                count,
+                rules,
+                lines,
+                codes,
+                q,
+                c,
+            );
+            print_rule_demands(
+                out,
+                items,
+                present,
+                follow,
+                nul,
+                fst,
+                count,
+                rules,
+                codes,
+                c,
+            );
+        }
+        found += 1;
+        c += 1;
+    }
+    found
 }
 
 // A cell that is not what is asked.
-fn print_cell(symbol: usize, asked: usize, there: usize) {
-    print_count(b"on symbol ", symbol);
+fn print_cell(out: &mut [u8; OUTPUT], symbol: usize, asked: usize, there: usize) {
+    print_count(out, b"on symbol ", symbol);
     if there == 0 {
-        print_text(b": the line is missing");
+        print_text(out, b": the line is missing");
     } else if asked == 0 {
-        print_text(b": the line is extra");
+        print_text(out, b": the line is extra");
     } else {
-        print_text(b": the line is different");
+        print_text(out, b": the line is different");
     }
-    print_text(b"; asked: ");
-    print_action(asked);
-    print_text(b"; there: ");
-    print_action(there);
-    print_text(b"\n");
+    print_text(out, b"; asked: ");
+    print_action(out, asked);
+    print_text(out, b"; there: ");
+    print_action(out, there);
+    print_text(out, b"\n");
 }
 
 // A nonterminal's line that is missing or extra.
-fn explain_goto(symbols: &[u8], gotos: &[u8], q: usize)
+fn explain_goto(out: &mut [u8; OUTPUT], symbols: &[u8], gotos: &[u8], q: usize)
     requires { ⌜ (length (now symbols) ≡ 128) × (16384 ≤ length (now gotos)) × (q < 256) ⌝ }
 {
     let goto = details::find_goto(symbols, gotos, q);
     let Found::At(b) = goto else {
         return;
     };
-    print_count(b"on symbol ", 64 + b);
+    print_count(out, b"on symbol ", 64 + b);
     if gotos[q * 64 + b] == 0 {
-        print_text(b": the line is missing; asked: a next state; there: nothing\n");
+        print_text(
+            out,
+            b": the line is missing; asked: a next state; there: nothing\n",
+        );
         return;
     }
-    print_text(b": the line is extra; asked: nothing; there: a next state\n");
+    print_text(
+        out,
+        b": the line is extra; asked: nothing; there: a next state\n",
+    );
 }
 
 // Reply 10 at state q.
 fn explain_cells(
+    out: &mut [u8; OUTPUT],
     items: &[u8],
     kernels: &[u8],
     links: &[usize],
@@ -639,11 +836,12 @@ fn explain_cells(
     );
     let cell = details::find_cell(&asked, kinds, values, codes, q);
     let Found::At(c) = cell else {
-        explain_goto(symbols, gotos, q);
+        explain_goto(out, symbols, gotos, q);
         return;
     };
-    print_cell(c, asked[c], cells::demand_of(kinds, values, q, c));
+    print_cell(out, c, asked[c], cells::demand_of(kinds, values, q, c));
     print_line_demands(
+        out,
         items,
         kernels,
         lookaheads,
@@ -656,11 +854,23 @@ fn explain_cells(
         q,
         c,
     );
-    print_rule_demands(items, present, follow, nul, fst, count, rules, codes, c);
+    print_rule_demands(
+        out,
+        items,
+        present,
+        follow,
+        nul,
+        fst,
+        count,
+        rules,
+        codes,
+        c,
+    );
 }
 
 // A refusal at state q, where what the check computes of the grammar is at hand.
 fn explain_state(
+    out: &mut [u8; OUTPUT],
     items: &[u8],
     entries: &[u8],
     kernels: &[u8],
@@ -682,13 +892,16 @@ fn explain_state(
     states: usize,
     number: u64,
     q: usize,
-)
+    room: usize,
+) -> usize
     requires { ⌜ Sized (now items) (now entries) (now kernels) (now lookaheads) (now kinds) (now values) (now gotos) (now named) rules strings lines ⌝ }
     requires { ⌜ Computed (now items) (now kernels) (now links) (now uses) (now nul) (now fst) (now starts) (now through) rules lines codes ⌝ }
     requires { ⌜ (1 ≤ codes) × (states ≤ 255) × (q < 256) ⌝ }
+    ensures { λ r. ⌜ r ≤ 64 ⌝ }
 {
     if number == 8 {
         explain_lookaheads(
+            out,
             items,
             entries,
             kernels,
@@ -710,7 +923,7 @@ fn explain_state(
             states,
             q,
         );
-        return;
+        return 0;
     }
     let count = rules + strings;
     let mut present = [0u8; 64];
@@ -745,6 +958,7 @@ fn explain_state(
     );
     if number == 7 {
         explain_items(
+            out,
             items,
             entries,
             kernels,
@@ -753,6 +967,7 @@ fn explain_state(
             values,
             gotos,
             named,
+            uses,
             &present,
             &symbols,
             rules,
@@ -760,13 +975,13 @@ fn explain_state(
             lines,
             q,
         );
-        return;
+        return 0;
     }
     if number == 9 {
-        explain_conflict(
+        return explain_conflicts(
+            out,
             items,
             kernels,
-            links,
             lookaheads,
             &present,
             &follow,
@@ -778,10 +993,11 @@ fn explain_state(
             lines,
             codes,
             q,
+            room,
         );
-        return;
     }
     explain_cells(
+        out,
         items,
         kernels,
         links,
@@ -800,10 +1016,12 @@ fn explain_state(
         codes,
         q,
     );
+    0
 }
 
-// A refusal of tables in memory: 7 to 10.
+// A refusal of tables in memory: 7 to 10. Of conflicts as many are told as there is room for, and their number is the answer.
 pub fn explain_memory(
+    out: &mut [u8; OUTPUT],
     items: &[u8],
     entries: &[u8],
     kernels: &[u8],
@@ -820,16 +1038,18 @@ pub fn explain_memory(
     states: usize,
     number: u64,
     place: usize,
-)
+    room: usize,
+) -> usize
     requires { ⌜ Sized (now items) (now entries) (now kernels) (now lookaheads) (now kinds) (now values) (now gotos) (now named) rules strings lines ⌝ }
     requires { ⌜ (terminals ≤ 63) × (states ≤ 255) ⌝ }
+    ensures { λ r. ⌜ r ≤ 64 ⌝ }
 {
     if place == 0 {
-        explain_entries(items, rules, strings, goal);
-        return;
+        explain_entries(out, items, rules, strings, goal);
+        return 0;
     }
     if place > 255 {
-        return;
+        return 0;
     }
     let count = rules + strings;
     let codes = terminals + 1;
@@ -853,6 +1073,7 @@ pub fn explain_memory(
     );
     kernel_lines::link_lines(kernels, lines, count, &mut links);
     explain_state(
+        out,
         items,
         entries,
         kernels,
@@ -874,5 +1095,6 @@ pub fn explain_memory(
         states,
         number,
         place,
-    );
+        room,
+    )
 }

@@ -2,8 +2,10 @@
 
 fn show(book: &[u8]) {
     let mut items = [0u8; grammar::TABLE];
+    let mut out = program::output();
     let reply = grammar::as_reply(grammar::read_grammar(book, &mut items));
-    program::print_pair(reply::number(reply), reply::place(reply) as u64);
+    program::print_pair(&mut out, reply::number(reply), reply::place(reply) as u64);
+    program::flush(&mut out);
 }
 
 fn main() {

@@ -3,9 +3,11 @@
 
 fn show(file: &[u8]) {
     let mut tokens = io::large_buffer();
+    let mut out = program::output();
     let reply = scans::read_scans(file, &mut tokens);
-    program::print_pair(reply::number(reply), reply::place(reply) as u64);
-    program::print_bytes(&tokens);
+    program::print_pair(&mut out, reply::number(reply), reply::place(reply) as u64);
+    program::print_bytes(&mut out, &tokens);
+    program::flush(&mut out);
 }
 
 fn main() {

@@ -17,15 +17,18 @@ fn lend() -> [u8; LENT]
 fn show(grammar: &[u8], tables: &[u8], scans: &[u8]) {
     let mut stack = lend();
     let mut listing = lend();
+    let mut out = program::output();
     let answer = scan_session::run_scans(grammar, tables, scans, &mut stack, &mut listing);
     let reply = walker::as_reply(answer);
     program::print_session(
+        &mut out,
         reply::number(reply),
         reply::place(reply) as u64,
         walker::rule_count(answer) as u64,
         walker::unit_count(answer) as u64,
         &listing,
     );
+    program::flush(&mut out);
 }
 
 fn main() {

@@ -20,6 +20,7 @@ fn run_with(
 }
 
 fn show(
+    out: &mut [u8; program::OUTPUT],
     grammar: &[u8],
     tables: &[u8],
     input: &[u8],
@@ -30,17 +31,19 @@ fn show(
     let answer = run_with(grammar, tables, input, scans, stack, listing);
     let reply = walker::as_reply(answer);
     program::print_session(
+        out,
         reply::number(reply),
         reply::place(reply) as u64,
         walker::rule_count(answer) as u64,
         walker::unit_count(answer) as u64,
         listing,
     );
-    program::print_bytes(stack);
+    program::print_bytes(out, stack);
 }
 
 // Lends the first bytes of both slices.
 fn show_in(
+    out: &mut [u8; program::OUTPUT],
     grammar: &[u8],
     tables: &[u8],
     input: &[u8],
@@ -53,6 +56,7 @@ fn show_in(
     requires { ⌜ (n ≤ length (now stack)) × (k ≤ length (now listing)) ⌝ }
 {
     show(
+        out,
         grammar,
         tables,
         input,
@@ -62,13 +66,25 @@ fn show_in(
     );
 }
 
-// Lends slices that are not zeros.
-fn show_lent(grammar: &[u8], tables: &[u8], input: &[u8], scans: usize, n: usize, k: usize)
+// Lends slices that are not zeros, and prints argument i first.
+fn show_lent(
+    i: usize,
+    grammar: &[u8],
+    tables: &[u8],
+    input: &[u8],
+    scans: usize,
+    n: usize,
+    k: usize,
+)
     requires { ⌜ (n ≤ 65536) × (k ≤ 65536) ⌝ }
 {
     let mut stack = [7u8; 65536];
     let mut listing = [7u8; 65536];
+    let mut out = program::output();
+    program::print_argument(&mut out, i);
+    program::print_text(&mut out, b"\n");
     show_in(
+        &mut out,
         grammar,
         tables,
         input,
@@ -78,12 +94,12 @@ fn show_lent(grammar: &[u8], tables: &[u8], input: &[u8], scans: usize, n: usize
         &mut listing,
         k,
     );
+    program::flush(&mut out);
 }
 
-fn run(i: usize, scans: usize, n: usize, k: usize)
+fn run(i: usize, scans: usize, n: usize, k: usize, usage: &[u8])
     requires { ⌜ (i + 5 < 18446744073709551616) × (n ≤ 65536) × (k ≤ 65536) ⌝ }
 {
-    let usage = b"usage: session_vectors (GRAMMAR TABLES INPUT SCANS, STACK, LISTING,)..\n";
     let mut grammar = [0u8; 65537];
     let mut tables = [0u8; 65537];
     let mut input = [0u8; 65537];
@@ -99,27 +115,36 @@ fn run(i: usize, scans: usize, n: usize, k: usize)
     if third.failed {
         return;
     }
-    program::print_argument(i + 2);
     let a = first.size;
     let b = second.size;
     let c = third.size;
-    show_lent(&grammar[..a], &tables[..b], &input[..c], scans, n, k);
+    show_lent(i + 2, &grammar[..a], &tables[..b], &input[..c], scans, n, k);
 }
 
-fn run_case(i: usize)
+fn run_case(i: usize, usage: &[u8])
     requires { ⌜ i + 5 < 18446744073709551616 ⌝ }
 {
     let scans = program::argument_number(i + 3);
     let n = program::argument_number(i + 4);
     let k = program::argument_number(i + 5);
-    run(i, scans, n, k);
+    run(i, scans, n, k, usage);
 }
 
 fn main() {
-    let cases = os::arg_count() / 6;
+    let usage = b"usage: session_vectors (GRAMMAR TABLES INPUT SCANS, STACK, LISTING,)..\n";
+    let count = os::arg_count();
+    if count < 2 {
+        program::tell_missing(b"GRAMMAR", usage);
+        return;
+    }
+    if count % 6 != 1 {
+        program::tell_missing(b"an argument of the last case", usage);
+        return;
+    }
+    let cases = count / 6;
     let mut k = 0;
     while k < cases {
-        run_case(6 * k + 1);
+        run_case(6 * k + 1, usage);
         k += 1;
     }
 }

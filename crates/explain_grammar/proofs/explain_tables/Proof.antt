@@ -2,7 +2,7 @@
 use Prim.Native.Nat.{ℕ}
 use native.Mathlib.Omega.{arith}
 use lib.ListN.{length-replicate}
-use Rattle.build_memory.proofs.MemoryLaws.{memory-sized, memory-small, conflict-low}
+use Rattle.build_memory.proofs.MemoryLaws.{memory-sized, memory-small}
 use borrow.Author.Needs.{needs}
 use Rattle.explain_grammar.proofs.explain_tables.Statement.{statement}
 use Rattle.explain_grammar.proofs.explain_tables.Tie as tie
@@ -52,44 +52,46 @@ print-text-requires-2 c κs = search needs
 enum-known-built : tie.Need-enum-known-built
 enum-known-built c = search needs
 
-slice-aggregate-explain-memory : tie.Need-slice-aggregate-explain-memory
-slice-aggregate-explain-memory c = search needs
+slice-aggregate-explain-conflicts : tie.Need-slice-aggregate-explain-conflicts
+slice-aggregate-explain-conflicts c = search needs
 
-slice-aggregate-explain-memory-2 : tie.Need-slice-aggregate-explain-memory-2
-slice-aggregate-explain-memory-2 c = search needs
+slice-aggregate-explain-conflicts-2 : tie.Need-slice-aggregate-explain-conflicts-2
+slice-aggregate-explain-conflicts-2 c = search needs
 
-slice-aggregate-explain-memory-3 : tie.Need-slice-aggregate-explain-memory-3
-slice-aggregate-explain-memory-3 c = search needs
+slice-aggregate-explain-conflicts-3 : tie.Need-slice-aggregate-explain-conflicts-3
+slice-aggregate-explain-conflicts-3 c = search needs
 
-slice-aggregate-explain-memory-4 : tie.Need-slice-aggregate-explain-memory-4
-slice-aggregate-explain-memory-4 c = search needs
+slice-aggregate-explain-conflicts-4 : tie.Need-slice-aggregate-explain-conflicts-4
+slice-aggregate-explain-conflicts-4 c = search needs
 
-slice-aggregate-explain-memory-5 : tie.Need-slice-aggregate-explain-memory-5
-slice-aggregate-explain-memory-5 c = search needs
+slice-aggregate-explain-conflicts-5 : tie.Need-slice-aggregate-explain-conflicts-5
+slice-aggregate-explain-conflicts-5 c = search needs
 
-slice-aggregate-explain-memory-6 : tie.Need-slice-aggregate-explain-memory-6
-slice-aggregate-explain-memory-6 c = search needs
+slice-aggregate-explain-conflicts-6 : tie.Need-slice-aggregate-explain-conflicts-6
+slice-aggregate-explain-conflicts-6 c = search needs
 
-slice-aggregate-explain-memory-7 : tie.Need-slice-aggregate-explain-memory-7
-slice-aggregate-explain-memory-7 c = search needs
+slice-aggregate-explain-conflicts-7 : tie.Need-slice-aggregate-explain-conflicts-7
+slice-aggregate-explain-conflicts-7 c = search needs
 
-slice-aggregate-explain-memory-8 : tie.Need-slice-aggregate-explain-memory-8
-slice-aggregate-explain-memory-8 c = search needs
+slice-aggregate-explain-conflicts-8 : tie.Need-slice-aggregate-explain-conflicts-8
+slice-aggregate-explain-conflicts-8 c = search needs
 
-explain-memory-requires : tie.Need-explain-memory-requires
-explain-memory-requires c κs = let f = c .before .before .before .before .before .before .before .before .before .before .before .before .before .before .before .before .before .before .build .ensures in let e = c .before .before .before .before .before .before .before .before .before .built .given .1 in let h = rw e at f in (memory-sized (h .1) (let z = length-replicate {A = ℕ} 256 0 in omega (arith, z)), memory-small (h .1))
-
-slice-aggregate-print-way : tie.Need-slice-aggregate-print-way
-slice-aggregate-print-way c = search needs
-
-slice-aggregate-print-way-2 : tie.Need-slice-aggregate-print-way-2
-slice-aggregate-print-way-2 c = search needs
-
-slice-aggregate-print-way-3 : tie.Need-slice-aggregate-print-way-3
-slice-aggregate-print-way-3 c = search needs
-
-print-way-requires : tie.Need-print-way-requires
-print-way-requires c κs = let f = c .before .before .before .before .before .before .before .before .before .before .before .before .before .before .before .before .before .before .before .before .before .before .build .ensures in let e = c .before .before .before .before .before .before .before .before .before .before .before .before .before .built .given .1 in let h = rw e at f in (record { kinds-room = let z = h .1 .rooms .kinds-room in omega (arith, z); values-room = let z = h .1 .rooms .values-room in omega (arith, z); gotos-room = let z = h .1 .rooms .gotos-room in omega (arith, z) }, (omega (arith, h .0), (let y = memory-small (h .1) in let z = conflict-low (h .1) in omega (arith, z, y .1))))
+explain-conflicts-requires : tie.Need-explain-conflicts-requires
+explain-conflicts-requires c κs =
+    let f = c .before .before .before .before .before .before .before .before .before .before .before .before .before .before .before .before .before .before .before .build .ensures in
+    let e = c .before .before .before .before .before .before .before .before .before .before .built .given .1 in
+    let h = rw e at f in
+    let m = memory-small (h .1) in (
+      memory-sized (h .1) (let z = length-replicate {A = ℕ} 256 0 in omega (arith, z)),
+      (
+        (m .0, m .1, omega (arith, h .0)),
+        record {
+          kinds-room = let z = h .1 .rooms .kinds-room in omega (arith, z);
+          values-room = let z = h .1 .rooms .values-room in omega (arith, z);
+          gotos-room = let z = h .1 .rooms .gotos-room in omega (arith, z);
+        },
+      ),
+    )
 
 returns : tie.Need-returns
 returns c = search needs
@@ -119,19 +121,15 @@ explain-tables-spec =
     slice-aggregate-print-text-2
     print-text-requires-2
     enum-known-built
-    slice-aggregate-explain-memory
-    slice-aggregate-explain-memory-2
-    slice-aggregate-explain-memory-3
-    slice-aggregate-explain-memory-4
-    slice-aggregate-explain-memory-5
-    slice-aggregate-explain-memory-6
-    slice-aggregate-explain-memory-7
-    slice-aggregate-explain-memory-8
-    explain-memory-requires
-    slice-aggregate-print-way
-    slice-aggregate-print-way-2
-    slice-aggregate-print-way-3
-    print-way-requires
+    slice-aggregate-explain-conflicts
+    slice-aggregate-explain-conflicts-2
+    slice-aggregate-explain-conflicts-3
+    slice-aggregate-explain-conflicts-4
+    slice-aggregate-explain-conflicts-5
+    slice-aggregate-explain-conflicts-6
+    slice-aggregate-explain-conflicts-7
+    slice-aggregate-explain-conflicts-8
+    explain-conflicts-requires
     returns
     returns-2
     returns-3)

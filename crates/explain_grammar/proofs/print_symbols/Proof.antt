@@ -5,10 +5,10 @@ use Rattle.explain_grammar.proofs.print_symbols.Statement.{statement}
 use Rattle.explain_grammar.proofs.print_symbols.Tie as tie
 
 abbrev Inv-loop : tie.InvT-loop
-Inv-loop kinds values gotos way first i₀ arg i = Unit {0}
+Inv-loop out₀ kinds values gotos way first i₀ arg out i = Unit {0}
 
 abbrev μ-loop : tie.MeasureT-loop
-μ-loop kinds values gotos way first i₀ arg i = 255 - i
+μ-loop out₀ kinds values gotos way first i₀ arg out i = 255 - i
 
 loop-holds : tie.Need-loop-holds Inv-loop μ-loop
 loop-holds c = search needs

@@ -91,7 +91,7 @@ slice-aggregate-explain-memory-8 : tie.Need-slice-aggregate-explain-memory-8
 slice-aggregate-explain-memory-8 c = search needs
 
 explain-memory-requires : tie.Need-explain-memory-requires
-explain-memory-requires c κs = let l = loaded (now (c .before .before .before .before .before .before .before .before .before .before .before .before .before .before .before .before .before .before .before .before .before .before .before .before .before .before .before .before .before .before .before .args .grammar)) (now (c .before .before .before .before .before .before .before .before .before .before .before .before .before .before .before .before .before .before .before .before .before .before .before .before .before .before .before .before .before .before .before .args .book)) {b = fresh} roomy (c .before .before .before .before .before .before .before .before .before .before .before .before .before .before .before .before .before .before .before .before .read-tables .ensures) (c .before .before .before .before .before .before .before .before .before .before .answer .given .1) in (loaded-sized l roomy, loaded-low l)
+explain-memory-requires c κs = let l = loaded (now (c .before .before .before .before .before .before .before .before .before .before .before .before .before .before .before .before .before .before .before .before .before .before .before .before .before .before .before .before .before .before .before .before .args .grammar)) (now (c .before .before .before .before .before .before .before .before .before .before .before .before .before .before .before .before .before .before .before .before .before .before .before .before .before .before .before .before .before .before .before .before .args .book)) {b = fresh} roomy (c .before .before .before .before .before .before .before .before .before .before .before .before .before .before .before .before .before .before .before .before .before .read-tables .ensures) (c .before .before .before .before .before .before .before .before .before .before .before .answer .given .1) in (loaded-sized l roomy, loaded-low l)
 
 returns-2 : tie.Need-returns-2
 returns-2 c = search needs

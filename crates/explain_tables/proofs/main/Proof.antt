@@ -1,43 +1,62 @@
-use Prim.Native.Nat.{_-_}
+-- `explain_tables::main` is safe and ends. Assumes nothing.
+use Prim.Native.Nat.{_*_, _<_, _-_}
 use borrow.Author.Needs.{needs}
 use Rattle.explain_tables.proofs.main.Statement.{statement}
 use Rattle.explain_tables.proofs.main.Tie as tie
 
 abbrev Inv-loop : tie.InvT-loop
-Inv-loop count before₀ i₀ before i = Unit {0}
+Inv-loop usage count cases k₀ k = 2 * cases < 18446744073709551616
 
 abbrev μ-loop : tie.MeasureT-loop
-μ-loop count before₀ i₀ before i = count - i
+μ-loop usage count cases k₀ k = cases - k
 
 arg-count-requires : tie.Need-arg-count-requires Inv-loop μ-loop
 arg-count-requires c κs = search needs
 
-run-requires : tie.Need-run-requires Inv-loop μ-loop
-run-requires c κs = search needs
+slice-aggregate-tell-missing : tie.Need-slice-aggregate-tell-missing Inv-loop μ-loop
+slice-aggregate-tell-missing c = search needs
+
+tell-missing-requires : tie.Need-tell-missing-requires Inv-loop μ-loop
+tell-missing-requires c κs = search needs
 
 returns : tie.Need-returns Inv-loop μ-loop
 returns c = search needs
 
+slice-aggregate-tell-missing-2 : tie.Need-slice-aggregate-tell-missing-2 Inv-loop μ-loop
+slice-aggregate-tell-missing-2 c = search needs
+
+tell-missing-requires-2 : tie.Need-tell-missing-requires-2 Inv-loop μ-loop
+tell-missing-requires-2 c κs = search needs
+
+returns-2 : tie.Need-returns-2 Inv-loop μ-loop
+returns-2 c = search needs
+
 loop-holds : tie.Need-loop-holds Inv-loop μ-loop
 loop-holds c = search needs
 
-take-requires : tie.Need-take-requires Inv-loop μ-loop
-take-requires c κs = search needs
+mul-run : tie.Need-mul-run Inv-loop μ-loop
+mul-run c = search needs
 
-add-i : tie.Need-add-i Inv-loop μ-loop
-add-i c = search needs
+add-run : tie.Need-add-run Inv-loop μ-loop
+add-run c = search needs
+
+mul-run-2 : tie.Need-mul-run-2 Inv-loop μ-loop
+mul-run-2 c = search needs
+
+add-run-2 : tie.Need-add-run-2 Inv-loop μ-loop
+add-run-2 c = search needs
+
+run-requires : tie.Need-run-requires Inv-loop μ-loop
+run-requires c κs = search needs
+
+add-k : tie.Need-add-k Inv-loop μ-loop
+add-k c = search needs
 
 loop-less : tie.Need-loop-less Inv-loop μ-loop
 loop-less c = search needs
 
 loop-again : tie.Need-loop-again Inv-loop μ-loop
 loop-again c = search needs
-
-run-requires-2 : tie.Need-run-requires-2 Inv-loop μ-loop
-run-requires-2 c κs = search needs
-
-returns-2 : tie.Need-returns-2 Inv-loop μ-loop
-returns-2 c = search needs
 
 returns-3 : tie.Need-returns-3 Inv-loop μ-loop
 returns-3 c = search needs
@@ -49,13 +68,19 @@ main-spec =
     Inv-loop
     μ-loop
     arg-count-requires
-    run-requires
+    slice-aggregate-tell-missing
+    tell-missing-requires
     returns
+    slice-aggregate-tell-missing-2
+    tell-missing-requires-2
+    returns-2
     loop-holds
-    take-requires
-    add-i
+    mul-run
+    add-run
+    mul-run-2
+    add-run-2
+    run-requires
+    add-k
     loop-less
     loop-again
-    run-requires-2
-    returns-2
     returns-3)

@@ -23,28 +23,28 @@ enum-told : tie.Need-enum-told
 enum-told c = search needs
 
 explain-goto-requires : tie.Need-explain-goto-requires
-explain-goto-requires c κs = (c .before .before .before .before .before .before .before .before .before .before .before .before .before .before .before .before .before .before .before .pre .1 .1 .1 .1 .1, c .before .before .before .before .before .before .before .before .before .before .before .before .before .before .before .before .before .before .before .pre .1 .1 .0 .gotos-room, c .before .before .before .before .before .before .before .before .before .before .before .before .before .before .before .before .before .before .before .pre .1 .1 .1 .0 .1)
+explain-goto-requires c κs = (c .before .before .before .before .before .before .before .before .before .before .before .before .before .before .before .before .before .before .before .before .pre .1 .1 .1 .1 .1, c .before .before .before .before .before .before .before .before .before .before .before .before .before .before .before .before .before .before .before .before .pre .1 .1 .0 .gotos-room, c .before .before .before .before .before .before .before .before .before .before .before .before .before .before .before .before .before .before .before .before .pre .1 .1 .1 .0 .1)
 
 returns : tie.Need-returns
 returns c = search needs
 
 mul-print-cell : tie.Need-mul-print-cell
-mul-print-cell c = omega (arith, c .before .before .before .find-cell .ensures .found _ (c .before .cell .given .1) .1, c .before .before .before .before .before .before .before .before .before .before .before .before .before .before .before .before .before .before .before .before .pre .1 .0 .few-codes)
+mul-print-cell c = omega (arith, c .before .before .before .before .find-cell .ensures .found _ (c .before .before .cell .given .1) .1, c .before .before .before .before .before .before .before .before .before .before .before .before .before .before .before .before .before .before .before .before .before .pre .1 .0 .few-codes)
 
 array-read-print-cell : tie.Need-array-read-print-cell
-array-read-print-cell c = omega (arith, c .before .before .before .find-cell .ensures .found _ (c .before .cell .given .1) .1, c .before .before .before .before .before .before .before .before .before .before .before .before .before .before .before .before .before .before .before .before .pre .1 .0 .few-codes, c .before .before .before .before .before .before .ask-cells .ensures .0)
+array-read-print-cell c = omega (arith, c .before .before .before .before .find-cell .ensures .found _ (c .before .before .cell .given .1) .1, c .before .before .before .before .before .before .before .before .before .before .before .before .before .before .before .before .before .before .before .before .before .pre .1 .0 .few-codes, c .before .before .before .before .before .before .before .ask-cells .ensures .0)
 
 demand-of-requires : tie.Need-demand-of-requires
-demand-of-requires c κs = (c .before .before .before .before .before .before .before .before .before .before .before .before .before .before .before .before .before .before .before .before .pre .1 .1 .0 .kinds-room, c .before .before .before .before .before .before .before .before .before .before .before .before .before .before .before .before .before .before .before .before .pre .1 .1 .0 .values-room, c .before .before .before .before .before .before .before .before .before .before .before .before .before .before .before .before .before .before .before .before .pre .1 .1 .1 .0 .1, omega (arith, c .before .before .before .find-cell .ensures .found _ (c .before .cell .given .1) .1, c .before .before .before .before .before .before .before .before .before .before .before .before .before .before .before .before .before .before .before .before .pre .1 .0 .few-codes))
+demand-of-requires c κs = (c .before .before .before .before .before .before .before .before .before .before .before .before .before .before .before .before .before .before .before .before .before .pre .1 .1 .0 .kinds-room, c .before .before .before .before .before .before .before .before .before .before .before .before .before .before .before .before .before .before .before .before .before .pre .1 .1 .0 .values-room, c .before .before .before .before .before .before .before .before .before .before .before .before .before .before .before .before .before .before .before .before .before .pre .1 .1 .1 .0 .1, omega (arith, c .before .before .before .before .find-cell .ensures .found _ (c .before .before .cell .given .1) .1, c .before .before .before .before .before .before .before .before .before .before .before .before .before .before .before .before .before .before .before .before .before .pre .1 .0 .few-codes))
 
 print-cell-requires : tie.Need-print-cell-requires
 print-cell-requires c κs = search needs
 
 print-line-demands-requires : tie.Need-print-line-demands-requires
-print-line-demands-requires c κs = let p = c .before .before .before .before .before .before .before .before .before .before .before .before .before .before .before .before .before .before .before .before .before .before .pre in (p .0 .lined .some-lines, (p .1 .0, (p .1 .1 .1 .0 .0, p .1 .1 .1 .0 .2, omega (arith, c .before .before .before .before .before .find-cell .ensures .found _ (c .before .before .before .cell .given .1) .1, p .1 .0 .few-codes))))
+print-line-demands-requires c κs = let p = c .before .before .before .before .before .before .before .before .before .before .before .before .before .before .before .before .before .before .before .before .before .before .before .before .pre in (p .0 .lined .some-lines, (p .1 .0, (p .1 .1 .1 .0 .0, p .1 .1 .1 .0 .2, omega (arith, c .before .before .before .before .before .before .before .find-cell .ensures .found _ (c .before .before .before .before .before .cell .given .1) .1, p .1 .0 .few-codes))))
 
 print-rule-demands-requires : tie.Need-print-rule-demands-requires
-print-rule-demands-requires c κs = let p = c .before .before .before .before .before .before .before .before .before .before .before .before .before .before .before .before .before .before .before .before .before .before .before .pre in (p .1 .0, ((p .0 .few, p .1 .1 .1 .0 .0, omega (arith, c .before .before .before .before .before .before .find-cell .ensures .found _ (c .before .before .before .before .cell .given .1) .1, p .1 .0 .few-codes)), (p .0 .room, p .1 .1 .1 .1 .0)))
+print-rule-demands-requires c κs = let p = c .before .before .before .before .before .before .before .before .before .before .before .before .before .before .before .before .before .before .before .before .before .before .before .before .before .before .pre in (p .1 .0, ((p .0 .few, p .1 .1 .1 .0 .0, omega (arith, c .before .before .before .before .before .before .before .before .before .find-cell .ensures .found _ (c .before .before .before .before .before .before .before .cell .given .1) .1, p .1 .0 .few-codes)), (p .0 .room, p .1 .1 .1 .1 .0)))
 
 returns-2 : tie.Need-returns-2
 returns-2 c = search needs

@@ -13,6 +13,15 @@ find-entry-fault-requires c κs = (c .before .before .pre .0, (c .before .before
 enum-told : tie.Need-enum-told
 enum-told c = search needs
 
+print-entry-requires : tie.Need-print-entry-requires
+print-entry-requires c κs = let s = c .before .before .before .before .before .before .before in (s .pre .0, (s .pre .1 .0, s .pre .1 .2))
+
+slice-aggregate-print-count : tie.Need-slice-aggregate-print-count
+slice-aggregate-print-count c = search needs
+
+print-count-requires : tie.Need-print-count-requires
+print-count-requires c κs = search needs
+
 slice-aggregate-print-text : tie.Need-slice-aggregate-print-text
 slice-aggregate-print-text c = search needs
 
@@ -22,11 +31,26 @@ print-text-requires c κs = search needs
 enum-known-fault : tie.Need-enum-known-fault
 enum-known-fault c = search needs
 
-slice-aggregate-print-count : tie.Need-slice-aggregate-print-count
-slice-aggregate-print-count c = search needs
+add-count : tie.Need-add-count
+add-count c = search needs
 
-print-count-requires : tie.Need-print-count-requires
-print-count-requires c κs = search needs
+slice-aggregate-print-count-2 : tie.Need-slice-aggregate-print-count-2
+slice-aggregate-print-count-2 c = search needs
+
+print-count-requires-2 : tie.Need-print-count-requires-2
+print-count-requires-2 c κs = search needs
+
+slice-aggregate-print-count-3 : tie.Need-slice-aggregate-print-count-3
+slice-aggregate-print-count-3 c = search needs
+
+group-number-requires : tie.Need-group-number-requires
+group-number-requires c κs =
+    let s = c .before .before .before .before .before .before in
+    let b = s .before .before .before .find-entry-fault .ensures .0 .1 .group _ _ _ (s .fault .given .1) in
+    (s .before .before .before .before .before .before .pre .0, omega (arith, b .1))
+
+print-count-requires-3 : tie.Need-print-count-requires-3
+print-count-requires-3 c κs = search needs
 
 slice-aggregate-print-text-2 : tie.Need-slice-aggregate-print-text-2
 slice-aggregate-print-text-2 c = search needs
@@ -34,12 +58,11 @@ slice-aggregate-print-text-2 c = search needs
 print-text-requires-2 : tie.Need-print-text-requires-2
 print-text-requires-2 c κs = search needs
 
-add-print-symbols : tie.Need-add-print-symbols
-add-print-symbols c = search needs
-
 print-symbols-requires : tie.Need-print-symbols-requires
-print-symbols-requires c κs = let b = c .before .before .before .before .before .before .before .before .find-entry-fault .ensures .0 .1 .group _ _ _ (c .before .before .before .before .before .fault .given .1) in
-    (c .before .before .before .before .before .before .before .before .before .before .before .pre .0, (omega (arith, b .1), b .3))
+print-symbols-requires c κs =
+    let s = c .before .before .before .before .before .before .before .before .before .before .before .before in
+    let b = s .before .before .before .find-entry-fault .ensures .0 .1 .group _ _ _ (s .fault .given .1) in
+    (s .before .before .before .before .before .before .pre .0, (omega (arith, b .1), b .3))
 
 slice-aggregate-print-text-3 : tie.Need-slice-aggregate-print-text-3
 slice-aggregate-print-text-3 c = search needs
@@ -50,11 +73,8 @@ print-text-requires-3 c κs = search needs
 enum-known-fault-2 : tie.Need-enum-known-fault-2
 enum-known-fault-2 c = search needs
 
-slice-aggregate-print-count-2 : tie.Need-slice-aggregate-print-count-2
-slice-aggregate-print-count-2 c = search needs
-
-print-count-requires-2 : tie.Need-print-count-requires-2
-print-count-requires-2 c κs = search needs
+print-entry-requires-2 : tie.Need-print-entry-requires-2
+print-entry-requires-2 c κs = let s = c .before .before .before .before .before .before .before .before in (s .pre .0, (s .pre .1 .0, s .pre .1 .2))
 
 slice-aggregate-print-text-4 : tie.Need-slice-aggregate-print-text-4
 slice-aggregate-print-text-4 c = search needs
@@ -84,20 +104,25 @@ explain-entries-spec =
     slice-aggregate-find-entry-fault
     find-entry-fault-requires
     enum-told
+    print-entry-requires
+    slice-aggregate-print-count
+    print-count-requires
     slice-aggregate-print-text
     print-text-requires
     enum-known-fault
-    slice-aggregate-print-count
-    print-count-requires
+    add-count
+    slice-aggregate-print-count-2
+    print-count-requires-2
+    slice-aggregate-print-count-3
+    group-number-requires
+    print-count-requires-3
     slice-aggregate-print-text-2
     print-text-requires-2
-    add-print-symbols
     print-symbols-requires
     slice-aggregate-print-text-3
     print-text-requires-3
     enum-known-fault-2
-    slice-aggregate-print-count-2
-    print-count-requires-2
+    print-entry-requires-2
     slice-aggregate-print-text-4
     print-text-requires-4
     enum-told-2

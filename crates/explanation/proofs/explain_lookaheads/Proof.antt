@@ -24,10 +24,10 @@ slice-aggregate-print-item : tie.Need-slice-aggregate-print-item
 slice-aggregate-print-item c = search needs
 
 dot-of-requires : tie.Need-dot-of-requires
-dot-of-requires c κs = let f = c .before .before .before .before .before .find-lack .ensures .0 in let e = c .before .before .before .lack .given .1 in let h = rw e at f in (c .before .before .before .before .before .before .before .before .before .before .before .before .before .before .before .before .before .before .before .before .pre .0 .some-lines, h .low)
+dot-of-requires c κs = let f = c .before .before .before .before .before .before .find-lack .ensures .0 in let e = c .before .before .before .before .lack .given .1 in let h = rw e at f in (c .before .before .before .before .before .before .before .before .before .before .before .before .before .before .before .before .before .before .before .before .before .pre .0 .some-lines, h .low)
 
 print-item-requires : tie.Need-print-item-requires
-print-item-requires c κs = (c .before .before .before .before .before .before .before .before .before .before .before .before .before .before .before .before .before .before .before .before .before .pre .0 .shaped, c .before .before .item-of .ensures .1)
+print-item-requires c κs = (c .before .before .before .before .before .before .before .before .before .before .before .before .before .before .before .before .before .before .before .before .before .before .pre .0 .shaped, c .before .before .before .item-of .ensures .1)
 
 slice-aggregate-print-count : tie.Need-slice-aggregate-print-count
 slice-aggregate-print-count c = search needs
@@ -56,6 +56,15 @@ slice-aggregate-print-text-2 c = search needs
 print-text-requires-2 : tie.Need-print-text-requires-2
 print-text-requires-2 c κs = search needs
 
+print-item-user-requires : tie.Need-print-item-user-requires
+print-item-user-requires c κs = search needs
+
+slice-aggregate-print-text-3 : tie.Need-slice-aggregate-print-text-3
+slice-aggregate-print-text-3 c = search needs
+
+print-text-requires-3 : tie.Need-print-text-requires-3
+print-text-requires-3 c κs = search needs
+
 returns-3 : tie.Need-returns-3
 returns-3 c = search needs
 
@@ -81,4 +90,7 @@ explain-lookaheads-spec =
     print-count-requires-2
     slice-aggregate-print-text-2
     print-text-requires-2
+    print-item-user-requires
+    slice-aggregate-print-text-3
+    print-text-requires-3
     returns-3)

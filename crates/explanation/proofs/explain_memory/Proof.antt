@@ -7,7 +7,7 @@ use Rattle.explanation.proofs.explain_memory.Statement.{statement}
 use Rattle.explanation.proofs.explain_memory.Tie as tie
 
 explain-entries-requires : tie.Need-explain-entries-requires
-explain-entries-requires c κs = let S = c .before .before .before .before .before .before .before .before .before .pre .0 in (S .shaped, (S .few-rules, S .some-strings, S .few-strings))
+explain-entries-requires c κs = let S = c .before .before .before .before .before .before .before .before .before .before .pre .0 in (S .shaped, (S .few-rules, S .some-strings, S .few-strings))
 
 returns : tie.Need-returns
 returns c = search needs
@@ -76,11 +76,11 @@ slice-aggregate-explain-state-6 : tie.Need-slice-aggregate-explain-state-6
 slice-aggregate-explain-state-6 c = search needs
 
 explain-state-requires : tie.Need-explain-state-requires
-explain-state-requires c κs = let S = c .before .before .before .before .before .before .before .before .before .before .before .before .before .before .before .before .before .before .before .before .before .before .before .before .before .before .before .before .before .before .before .before .before .before .pre .0 in let k = c .before .before .before .before .before .before .before .before .before .before .before .before .before .before .before .before .before .before .find-sets .kept in let m = c .before .before .before .before .before .before .before .before .before .before .before .prepare-rules in (
+explain-state-requires c κs = let S = c .before .before .before .before .before .before .before .before .before .before .before .before .before .before .before .before .before .before .before .before .before .before .before .before .before .before .before .before .before .before .before .before .before .before .before .pre .0 in let k = c .before .before .before .before .before .before .before .before .before .before .before .before .before .before .before .before .before .before .before .find-sets .kept in let m = c .before .before .before .before .before .before .before .before .before .before .before .before .prepare-rules in (
   S,
   (
-    record { linked = c .before .before .before .before .before .before .before .link-lines .ensures; uses-room = c .before .before .before .before .before .before .before .before .before .before .before .before .before .before .before .before .before .before .before .before .before .before .entries-meet .ensures .0; nul-room = k .1 .1 .1 .0; fst-room = k .1 .1 .1 .1 .0; starts-room = m .kept .1 .1 .1 .1 .1 .1 .0; through-room = m .kept .1 .1 .1 .1 .1 .1 .1 .0; prepared = m .ensures; few-codes = few-codes-of (c .before .before .before .before .before .before .before .before .before .before .before .before .before .before .before .before .before .before .before .before .before .before .before .before .before .before .before .before .before .before .before .before .before .before .pre .1 .0) },
-    (omega arith, c .before .before .before .before .before .before .before .before .before .before .before .before .before .before .before .before .before .before .before .before .before .before .before .before .before .before .before .before .before .before .before .before .before .before .pre .1 .1, omega (arith, c .before .before .before .before .before .before .before .before .before .before .before .before .before .before .before .before .before .before .before .before .before .before .before .before .if2 .left)),
+    record { linked = c .before .before .before .before .before .before .before .before .link-lines .ensures; uses-room = c .before .before .before .before .before .before .before .before .before .before .before .before .before .before .before .before .before .before .before .before .before .before .before .entries-meet .ensures .0; nul-room = k .1 .1 .1 .0; fst-room = k .1 .1 .1 .1 .0; starts-room = m .kept .1 .1 .1 .1 .1 .1 .0; through-room = m .kept .1 .1 .1 .1 .1 .1 .1 .0; prepared = m .ensures; few-codes = few-codes-of (c .before .before .before .before .before .before .before .before .before .before .before .before .before .before .before .before .before .before .before .before .before .before .before .before .before .before .before .before .before .before .before .before .before .before .before .pre .1 .0) },
+    (omega arith, c .before .before .before .before .before .before .before .before .before .before .before .before .before .before .before .before .before .before .before .before .before .before .before .before .before .before .before .before .before .before .before .before .before .before .before .pre .1 .1, omega (arith, c .before .before .before .before .before .before .before .before .before .before .before .before .before .before .before .before .before .before .before .before .before .before .before .before .before .if2 .left)),
   ),
 )
 

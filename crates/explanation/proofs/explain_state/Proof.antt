@@ -6,7 +6,7 @@ use Rattle.explanation.proofs.explain_state.Statement.{statement}
 use Rattle.explanation.proofs.explain_state.Tie as tie
 
 explain-lookaheads-requires : tie.Need-explain-lookaheads-requires
-explain-lookaheads-requires c κs = c .before .before .before .before .before .before .before .before .before .before .before .before .before .before .before .pre
+explain-lookaheads-requires c κs = c .before .before .before .before .before .before .before .before .before .before .before .before .before .before .before .before .pre
 
 returns : tie.Need-returns
 returns c = search needs
@@ -39,22 +39,31 @@ slice-aggregate-explain-items-2 : tie.Need-slice-aggregate-explain-items-2
 slice-aggregate-explain-items-2 c = search needs
 
 explain-items-requires : tie.Need-explain-items-requires
-explain-items-requires c κs = let S = c .before .before .before .before .before .before .before .before .before .before .before .before .before .before .before .before .before .before .before .before .before .before .before .before .before .before .before .pre .0 in let C = c .before .before .before .before .before .before .before .before .before .before .before .before .before .before .before .before .before .before .before .before .before .before .before .before .before .before .before .pre .1 .0 in let low = c .before .before .before .before .before .before .before .before .before .before .before .before .before .before .before .before .before .before .before .before .before .before .before .before .before .before .before .pre .1 .1 .2 in (readable-of S C (c .before .before .before .before .before .before .before .before .before .close-state .kept .1 .1 .1 .1 .1 .1 .1 .1 .1 .1 .1 .1 .0), (S .cells-room, ((in-room low (S .named-room), c .before .before .before .before .flag-moves .ensures .0), (low, S .few-rules, S .few-strings, in-room (omega (arith, S .few-strings)) (S .entries-room)))))
+explain-items-requires c κs = let S = c .before .before .before .before .before .before .before .before .before .before .before .before .before .before .before .before .before .before .before .before .before .before .before .before .before .before .before .before .pre .0 in let C = c .before .before .before .before .before .before .before .before .before .before .before .before .before .before .before .before .before .before .before .before .before .before .before .before .before .before .before .before .pre .1 .0 in let low = c .before .before .before .before .before .before .before .before .before .before .before .before .before .before .before .before .before .before .before .before .before .before .before .before .before .before .before .before .pre .1 .1 .2 in (readable-of S C (c .before .before .before .before .before .before .before .before .before .before .close-state .kept .1 .1 .1 .1 .1 .1 .1 .1 .1 .1 .1 .1 .0), (S .cells-room, ((in-room low (S .named-room), c .before .before .before .before .before .flag-moves .ensures .0), (low, S .few-rules, S .few-strings, in-room (omega (arith, S .few-strings)) (S .entries-room)))))
 
 returns-2 : tie.Need-returns-2
 returns-2 c = search needs
 
-slice-aggregate-explain-conflict : tie.Need-slice-aggregate-explain-conflict
-slice-aggregate-explain-conflict c = search needs
+slice-aggregate-explain-conflicts : tie.Need-slice-aggregate-explain-conflicts
+slice-aggregate-explain-conflicts c = search needs
 
-slice-aggregate-explain-conflict-2 : tie.Need-slice-aggregate-explain-conflict-2
-slice-aggregate-explain-conflict-2 c = search needs
+slice-aggregate-explain-conflicts-2 : tie.Need-slice-aggregate-explain-conflicts-2
+slice-aggregate-explain-conflicts-2 c = search needs
 
-slice-aggregate-explain-conflict-3 : tie.Need-slice-aggregate-explain-conflict-3
-slice-aggregate-explain-conflict-3 c = search needs
+slice-aggregate-explain-conflicts-3 : tie.Need-slice-aggregate-explain-conflicts-3
+slice-aggregate-explain-conflicts-3 c = search needs
 
-explain-conflict-requires : tie.Need-explain-conflict-requires
-explain-conflict-requires c κs = let S = c .before .before .before .before .before .before .before .before .before .before .before .before .before .before .before .before .before .before .before .before .before .before .before .before .before .before .before .before .before .pre .0 in let C = c .before .before .before .before .before .before .before .before .before .before .before .before .before .before .before .before .before .before .before .before .before .before .before .before .before .before .before .before .before .pre .1 .0 in let low = c .before .before .before .before .before .before .before .before .before .before .before .before .before .before .before .before .before .before .before .before .before .before .before .before .before .before .before .before .before .pre .1 .1 .2 in (readable-of S C (c .before .before .before .before .before .before .before .before .before .before .before .close-state .kept .1 .1 .1 .1 .1 .1 .1 .1 .1 .1 .1 .1 .0), (ready-of S C, ((few-items (S .few-rules) (S .few-strings), low, S .codes-room), (c .before .before .before .before .before .before .before .before .before .before .before .close-state .kept .1 .1 .1 .1 .1 .1 .1 .1 .1 .1 .1 .1 .1 .0, c .before .before .before .before .before .before .flag-moves .ensures .0))))
+explain-conflicts-requires : tie.Need-explain-conflicts-requires
+explain-conflicts-requires c κs =
+    let S = c .before .before .before .before .before .before .before .before .before .before .before .before .before .before .before .before .before .before .before .before .before .before .before .before .before .before .before .before .before .before .pre .0 in
+    let C = c .before .before .before .before .before .before .before .before .before .before .before .before .before .before .before .before .before .before .before .before .before .before .before .before .before .before .before .before .before .before .pre .1 .0 in
+    let k = c .before .before .before .before .before .before .before .before .before .before .before .before .close-state .kept .1 .1 .1 .1 .1 .1 .1 .1 .1 .1 .1 .1 in (
+      S .some-lines,
+      (
+        ready-of S C,
+        ((within _ _, few-items (S .few-rules) (S .few-strings), S .codes-room), (k .0, k .1 .0, c .before .before .before .before .before .before .before .flag-moves .ensures .0)),
+      ),
+    )
 
 returns-3 : tie.Need-returns-3
 returns-3 c = search needs
@@ -69,7 +78,7 @@ slice-aggregate-explain-cells-3 : tie.Need-slice-aggregate-explain-cells-3
 slice-aggregate-explain-cells-3 c = search needs
 
 explain-cells-requires : tie.Need-explain-cells-requires
-explain-cells-requires c κs = let S = c .before .before .before .before .before .before .before .before .before .before .before .before .before .before .before .before .before .before .before .before .before .before .before .before .before .before .before .before .before .pre .0 in let C = c .before .before .before .before .before .before .before .before .before .before .before .before .before .before .before .before .before .before .before .before .before .before .before .before .before .before .before .before .before .pre .1 .0 in let low = c .before .before .before .before .before .before .before .before .before .before .before .before .before .before .before .before .before .before .before .before .before .before .before .before .before .before .before .before .before .pre .1 .1 .2 in (readable-of S C (c .before .before .before .before .before .before .before .before .before .before .before .close-state .kept .1 .1 .1 .1 .1 .1 .1 .1 .1 .1 .1 .1 .0), (ready-of S C, (S .cells-room, ((few-items (S .few-rules) (S .few-strings), low, S .codes-room), (c .before .before .before .before .before .before .before .before .before .before .before .close-state .kept .1 .1 .1 .1 .1 .1 .1 .1 .1 .1 .1 .1 .1 .0, c .before .before .before .before .before .before .flag-moves .ensures .0)))))
+explain-cells-requires c κs = let S = c .before .before .before .before .before .before .before .before .before .before .before .before .before .before .before .before .before .before .before .before .before .before .before .before .before .before .before .before .before .before .pre .0 in let C = c .before .before .before .before .before .before .before .before .before .before .before .before .before .before .before .before .before .before .before .before .before .before .before .before .before .before .before .before .before .before .pre .1 .0 in let low = c .before .before .before .before .before .before .before .before .before .before .before .before .before .before .before .before .before .before .before .before .before .before .before .before .before .before .before .before .before .before .pre .1 .1 .2 in (readable-of S C (c .before .before .before .before .before .before .before .before .before .before .before .before .close-state .kept .1 .1 .1 .1 .1 .1 .1 .1 .1 .1 .1 .1 .0), (ready-of S C, (S .cells-room, ((few-items (S .few-rules) (S .few-strings), low, S .codes-room), (c .before .before .before .before .before .before .before .before .before .before .before .before .close-state .kept .1 .1 .1 .1 .1 .1 .1 .1 .1 .1 .1 .1 .1 .0, c .before .before .before .before .before .before .before .flag-moves .ensures .0)))))
 
 returns-4 : tie.Need-returns-4
 returns-4 c = search needs
@@ -91,10 +100,10 @@ explain-state-spec =
     slice-aggregate-explain-items-2
     explain-items-requires
     returns-2
-    slice-aggregate-explain-conflict
-    slice-aggregate-explain-conflict-2
-    slice-aggregate-explain-conflict-3
-    explain-conflict-requires
+    slice-aggregate-explain-conflicts
+    slice-aggregate-explain-conflicts-2
+    slice-aggregate-explain-conflicts-3
+    explain-conflicts-requires
     returns-3
     slice-aggregate-explain-cells
     slice-aggregate-explain-cells-2

@@ -1,26 +1,14 @@
-use mathlib.Core.Path.{_≡_, refl, sym, ap, subst, _∙_}
-use mathlib.Core.Logic.{⊎-elim}
-use Prim.Native.Nat.{ℕ, zero, suc, _+_, _*_, _≤_, _<_, _-_}
+use Prim.Native.Nat.{_-_}
 use native.Mathlib.Omega.{arith}
-use borrow.Author.Count.{below-more, below-none}
-use lib.ListN.{length, getD, set, length-set, replicate}
 use borrow.Author.Needs.{needs}
 use Rattle.explanation.proofs.print_dotted.Statement.{statement}
 use Rattle.explanation.proofs.print_dotted.Tie as tie
-use Rattle.explanation.proofs.print_dotted.Reads as reads
-use Rattle.explanation.proofs.print_dotted.Lts as lts
-use Rattle.explanation.proofs.print_marks.Reads as print-marks-reads
-use Rattle.items.proofs.left_of.Reads as left-of-reads
-use Rattle.items.proofs.length_of.Reads as length-of-reads
-use Rattle.items.proofs.symbol_of.Reads as symbol-of-reads
-use Rattle.program.proofs.print_count.Reads as print-count-reads
-use Rattle.program.proofs.print_text.Reads as print-text-reads
 
 abbrev Inv-loop : tie.InvT-loop
-Inv-loop items count rules i dot n k₀ t13 k = Unit {0}
+Inv-loop out₀ items count rules i dot n k₀ t13 out k = Unit {0}
 
 abbrev μ-loop : tie.MeasureT-loop
-μ-loop items count rules i dot n k₀ t13 k = n - k
+μ-loop out₀ items count rules i dot n k₀ t13 out k = n - k
 
 slice-aggregate-print-count : tie.Need-slice-aggregate-print-count Inv-loop μ-loop
 slice-aggregate-print-count c = search needs
@@ -71,7 +59,7 @@ slice-aggregate-print-count-4 : tie.Need-slice-aggregate-print-count-4 Inv-loop 
 slice-aggregate-print-count-4 c = search needs
 
 symbol-of-requires : tie.Need-symbol-of-requires Inv-loop μ-loop
-symbol-of-requires c κs = search needs
+symbol-of-requires c κs = (c .before .before .before .before .before .before .before .before .before .pre .0, (c .before .before .before .before .before .before .before .before .before .pre .1, omega (arith, c .before .before .before .before .loop-test .taken, c .before .before .before .before .before .before .length-of .ensures .1)))
 
 print-count-requires-4 : tie.Need-print-count-requires-4 Inv-loop μ-loop
 print-count-requires-4 c κs = search needs

@@ -5,10 +5,10 @@ use Rattle.explanation.proofs.print_line_demands.Statement.{statement}
 use Rattle.explanation.proofs.print_line_demands.Tie as tie
 
 abbrev Inv-loop : tie.InvT-loop
-Inv-loop items kernels lookaheads nul fst count rules lines codes q c l₀ l = Unit {0}
+Inv-loop out₀ items kernels lookaheads nul fst count rules lines codes q c l₀ out l = Unit {0}
 
 abbrev μ-loop : tie.MeasureT-loop
-μ-loop items kernels lookaheads nul fst count rules lines codes q c l₀ l = lines - l
+μ-loop out₀ items kernels lookaheads nul fst count rules lines codes q c l₀ out l = lines - l
 
 loop-holds : tie.Need-loop-holds Inv-loop μ-loop
 loop-holds c = search needs
@@ -26,7 +26,7 @@ mul-print-demand : tie.Need-mul-print-demand Inv-loop μ-loop
 mul-print-demand c = search needs
 
 print-demand-requires : tie.Need-print-demand-requires Inv-loop μ-loop
-print-demand-requires c κs = let p = c .before .before .before .before .before .before .before .before .before .before .before .pre in let i = c .before .item-of .ensures .1 in (p .1 .0, (i, omega (arith, i, p .1 .1 .0), c .dot-of .ensures .1, omega (arith, c .before .before .before .before .loop-test .taken, p .1 .1 .1), p .1 .1 .2))
+print-demand-requires c κs = let p = c .before .before .before .before .before .before .before .before .before .before .before .before .pre in let i = c .before .before .item-of .ensures .1 in (p .1 .0, (i, omega (arith, i, p .1 .1 .0), c .before .dot-of .ensures .1, omega (arith, c .before .before .before .before .before .loop-test .taken, p .1 .1 .1), p .1 .1 .2))
 
 add-l : tie.Need-add-l Inv-loop μ-loop
 add-l c = search needs

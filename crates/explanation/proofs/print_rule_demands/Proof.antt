@@ -5,10 +5,10 @@ use Rattle.explanation.proofs.print_rule_demands.Statement.{statement}
 use Rattle.explanation.proofs.print_rule_demands.Tie as tie
 
 abbrev Inv-loop : tie.InvT-loop
-Inv-loop items present follow nul fst count rules codes c i₀ i = 1 ≤ i
+Inv-loop out₀ items present follow nul fst count rules codes c i₀ out i = 1 ≤ i
 
 abbrev μ-loop : tie.MeasureT-loop
-μ-loop items present follow nul fst count rules codes c i₀ i = rules + 1 - i
+μ-loop out₀ items present follow nul fst count rules codes c i₀ out i = rules + 1 - i
 
 loop-holds : tie.Need-loop-holds Inv-loop μ-loop
 loop-holds c = search needs
@@ -20,13 +20,13 @@ left-of-requires : tie.Need-left-of-requires Inv-loop μ-loop
 left-of-requires c κs = let p = c .before .before .before .before .before .before .before .before .before .pre in (p .0 .shaped, omega (arith, c .before .before .loop-test .taken, p .1 .0 .0))
 
 sub-print-demand : tie.Need-sub-print-demand Inv-loop μ-loop
-sub-print-demand c = let n = c .before .before .is-present .ensures .yes (c .before .if1 .taken) .nonterminal in omega (arith, n, c .left-of .ensures .0)
+sub-print-demand c = let n = c .before .before .before .is-present .ensures .yes (c .before .before .if1 .taken) .nonterminal in omega (arith, n, c .before .left-of .ensures .0)
 
 mul-print-demand : tie.Need-mul-print-demand Inv-loop μ-loop
-mul-print-demand c = omega (arith, c .left-of .ensures .1)
+mul-print-demand c = omega (arith, c .before .left-of .ensures .1)
 
 print-demand-requires : tie.Need-print-demand-requires Inv-loop μ-loop
-print-demand-requires c κs = let p = c .before .before .before .before .before .before .before .before .before .before .pre in let n = c .before .before .is-present .ensures .yes (c .before .if1 .taken) .nonterminal in (p .0, (omega (arith, c .before .before .before .loop-test .taken, p .1 .0 .0), omega (arith, c .before .before .before .loop-test .taken, p .1 .0 .0, p .1 .0 .1), omega arith, omega (arith, n, c .left-of .ensures .0, c .left-of .ensures .1, p .1 .1 .1), p .1 .0 .2))
+print-demand-requires c κs = let p = c .before .before .before .before .before .before .before .before .before .before .before .pre in let n = c .before .before .before .is-present .ensures .yes (c .before .before .if1 .taken) .nonterminal in (p .0, (omega (arith, c .before .before .before .before .loop-test .taken, p .1 .0 .0), omega (arith, c .before .before .before .before .loop-test .taken, p .1 .0 .0, p .1 .0 .1), omega arith, omega (arith, n, c .before .left-of .ensures .0, c .before .left-of .ensures .1, p .1 .1 .1), p .1 .0 .2))
 
 add-i : tie.Need-add-i Inv-loop μ-loop
 add-i c = search needs

@@ -5,10 +5,10 @@ use Rattle.explanation.proofs.print_symbols.Statement.{statement}
 use Rattle.explanation.proofs.print_symbols.Tie as tie
 
 abbrev Inv-loop : tie.InvT-loop
-Inv-loop items count i from to k₀ arg k = Unit {0}
+Inv-loop out₀ items count i from to k₀ arg out k = Unit {0}
 
 abbrev μ-loop : tie.MeasureT-loop
-μ-loop items count i from to k₀ arg k = to - k
+μ-loop out₀ items count i from to k₀ arg out k = to - k
 
 loop-holds : tie.Need-loop-holds Inv-loop μ-loop
 loop-holds c = tt
@@ -17,7 +17,7 @@ slice-aggregate-print-count : tie.Need-slice-aggregate-print-count Inv-loop μ-l
 slice-aggregate-print-count c = search needs
 
 symbol-of-requires : tie.Need-symbol-of-requires Inv-loop μ-loop
-symbol-of-requires c κs = (c .before .before .before .before .pre .0, (c .before .before .before .before .pre .1 .0, omega (arith, c .before .loop-test .taken, c .before .before .before .before .pre .1 .1)))
+symbol-of-requires c κs = (c .before .before .before .before .before .pre .0, (c .before .before .before .before .before .pre .1 .0, omega (arith, c .before .before .loop-test .taken, c .before .before .before .before .before .pre .1 .1)))
 
 print-count-requires : tie.Need-print-count-requires Inv-loop μ-loop
 print-count-requires c κs = search needs

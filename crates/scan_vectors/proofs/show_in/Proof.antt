@@ -9,7 +9,7 @@ slice-relend-prefix-show : tie.Need-slice-relend-prefix-show
 slice-relend-prefix-show c = search needs
 
 slice-aggregate-show : tie.Need-slice-aggregate-show
-slice-aggregate-show c = sym (length-take-le _ _ (c .before .before .before .pre))
+slice-aggregate-show c = sym (length-take-le _ _ (c .before .before .before .before .pre))
 
 show-requires : tie.Need-show-requires
 show-requires c κs = search needs

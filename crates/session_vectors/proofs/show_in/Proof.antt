@@ -9,13 +9,13 @@ slice-relend-prefix-show : tie.Need-slice-relend-prefix-show
 slice-relend-prefix-show c = search needs
 
 slice-aggregate-show : tie.Need-slice-aggregate-show
-slice-aggregate-show c = sym (length-take-le _ _ (c .before .before .before .before .before .before .pre .0))
+slice-aggregate-show c = sym (length-take-le _ _ (c .before .before .before .before .before .before .before .pre .0))
 
 slice-relend-prefix-show-2 : tie.Need-slice-relend-prefix-show-2
 slice-relend-prefix-show-2 c = search needs
 
 slice-aggregate-show-2 : tie.Need-slice-aggregate-show-2
-slice-aggregate-show-2 c = sym (length-take-le _ _ (c .before .before .before .before .before .before .before .pre .1))
+slice-aggregate-show-2 c = sym (length-take-le _ _ (c .before .before .before .before .before .before .before .before .pre .1))
 
 show-requires : tie.Need-show-requires
 show-requires c κs = search needs

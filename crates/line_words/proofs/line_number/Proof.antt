@@ -1,11 +1,11 @@
-use Prim.Native.Nat.{_+_, _-_, _≤_}
-use native.Mathlib.Omega.{arith}
+-- `line_words::line_number` is safe and ends. Assumes nothing.
+use Prim.Native.Nat.{_+_, _≤_, _-_}
 use borrow.Author.Needs.{needs}
-use Rattle.explanation.proofs.line_number.Statement.{statement}
-use Rattle.explanation.proofs.line_number.Tie as tie
+use Rattle.line_words.proofs.line_number.Statement.{statement}
+use Rattle.line_words.proofs.line_number.Tie as tie
 
 abbrev Inv-loop : tie.InvT-loop
-Inv-loop book place n₀ i₀ n i = (n ≤ i + 1) × (i ≤ place)
+Inv-loop book place n₀ i₀ n i = (1 ≤ n) × (n ≤ i + 1) × (i ≤ place)
 
 abbrev μ-loop : tie.MeasureT-loop
 μ-loop book place n₀ i₀ n i = place - i

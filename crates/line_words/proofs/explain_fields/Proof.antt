@@ -1,0 +1,106 @@
+-- `line_words::explain_fields` is safe and ends. Assumes nothing.
+use Prim.Native.Nat.{_+_, _≤_}
+use borrow.Author.Needs.{needs}
+use Rattle.line_words.proofs.explain_fields.Statement.{statement}
+use Rattle.line_words.proofs.explain_fields.Tie as tie
+
+abbrev Inv-loop : tie.InvT-loop
+Inv-loop out₀ book line c₀ k₀ left₀ t11 t12 out c k left = (2 ≤ k) × (k + left ≤ 65538)
+
+abbrev μ-loop : tie.MeasureT-loop
+μ-loop out₀ book line c₀ k₀ left₀ t11 t12 out c k left = left
+
+loop-holds : tie.Need-loop-holds Inv-loop μ-loop
+loop-holds c = search needs
+
+sub-left : tie.Need-sub-left Inv-loop μ-loop
+sub-left c = search needs
+
+sub-explain-short : tie.Need-sub-explain-short Inv-loop μ-loop
+sub-explain-short c = search needs
+
+explain-short-requires : tie.Need-explain-short-requires Inv-loop μ-loop
+explain-short-requires c κs = search needs
+
+returns : tie.Need-returns Inv-loop μ-loop
+returns c = search needs
+
+is-beyond-requires : tie.Need-is-beyond-requires Inv-loop μ-loop
+is-beyond-requires c κs = search needs
+
+slice-aggregate-print-count : tie.Need-slice-aggregate-print-count Inv-loop μ-loop
+slice-aggregate-print-count c = search needs
+
+sub-print-count : tie.Need-sub-print-count Inv-loop μ-loop
+sub-print-count c = search needs
+
+print-count-requires : tie.Need-print-count-requires Inv-loop μ-loop
+print-count-requires c κs = search needs
+
+slice-aggregate-print-text : tie.Need-slice-aggregate-print-text Inv-loop μ-loop
+slice-aggregate-print-text c = search needs
+
+print-text-requires : tie.Need-print-text-requires Inv-loop μ-loop
+print-text-requires c κs = search needs
+
+returns-2 : tie.Need-returns-2 Inv-loop μ-loop
+returns-2 c = search needs
+
+read-part-requires : tie.Need-read-part-requires Inv-loop μ-loop
+read-part-requires c κs = search needs
+
+explain-broken-requires : tie.Need-explain-broken-requires Inv-loop μ-loop
+explain-broken-requires c κs = search needs
+
+returns-3 : tie.Need-returns-3 Inv-loop μ-loop
+returns-3 c = search needs
+
+takes-requires : tie.Need-takes-requires Inv-loop μ-loop
+takes-requires c κs = search needs
+
+explain-kind-requires : tie.Need-explain-kind-requires Inv-loop μ-loop
+explain-kind-requires c κs = search needs
+
+returns-4 : tie.Need-returns-4 Inv-loop μ-loop
+returns-4 c = search needs
+
+add-k : tie.Need-add-k Inv-loop μ-loop
+add-k c = search needs
+
+loop-less : tie.Need-loop-less Inv-loop μ-loop
+loop-less c = search needs
+
+loop-again : tie.Need-loop-again Inv-loop μ-loop
+loop-again c = search needs
+
+returns-5 : tie.Need-returns-5 Inv-loop μ-loop
+returns-5 c = search needs
+
+pub explain-fields-spec : {M : Type 1} → statement M
+explain-fields-spec =
+    tie.close
+    (tie.spec
+    Inv-loop
+    μ-loop
+    loop-holds
+    sub-left
+    sub-explain-short
+    explain-short-requires
+    returns
+    is-beyond-requires
+    slice-aggregate-print-count
+    sub-print-count
+    print-count-requires
+    slice-aggregate-print-text
+    print-text-requires
+    returns-2
+    read-part-requires
+    explain-broken-requires
+    returns-3
+    takes-requires
+    explain-kind-requires
+    returns-4
+    add-k
+    loop-less
+    loop-again
+    returns-5)
