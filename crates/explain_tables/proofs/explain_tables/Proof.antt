@@ -7,7 +7,7 @@ use denote.Ref.{now}
 use lib.ListN.{length, replicate, length-replicate}
 use Rattle.table.specs.Memory.{Slices, slices, hasRoom}
 use Rattle.table.proofs.IntoLaws.{has-room}
-use Rattle.checker.proofs.LoadLaws.{loaded, loaded-sized, loaded-low}
+use Rattle.checker.proofs.LoadLaws.{books-read, read-sized, read-low}
 use borrow.Author.Needs.{needs}
 use Rattle.explain_tables.proofs.explain_tables.Statement.{statement}
 use Rattle.explain_tables.proofs.explain_tables.Tie as tie
@@ -91,7 +91,12 @@ slice-aggregate-explain-memory-8 : tie.Need-slice-aggregate-explain-memory-8
 slice-aggregate-explain-memory-8 c = search needs
 
 explain-memory-requires : tie.Need-explain-memory-requires
-explain-memory-requires c κs = let l = loaded (now (c .before .before .before .before .before .before .before .before .before .before .before .before .before .before .before .before .before .before .before .before .before .before .before .before .before .before .before .before .before .before .before .before .args .grammar)) (now (c .before .before .before .before .before .before .before .before .before .before .before .before .before .before .before .before .before .before .before .before .before .before .before .before .before .before .before .before .before .before .before .before .args .book)) {b = fresh} roomy (c .before .before .before .before .before .before .before .before .before .before .before .before .before .before .before .before .before .before .before .before .before .read-tables .ensures) (c .before .before .before .before .before .before .before .before .before .before .before .answer .given .1) in (loaded-sized l roomy, loaded-low l)
+explain-memory-requires c κs =
+    let told = c .before .before .before .before .before .before .before .before .before .before .before in
+    let read = told .before .before .before .before .before .before .before .before .before .before in
+    let begun = read .before .before .before .before .before .before .before .before .before .before .before in
+    let l = books-read (now (begun .args .grammar)) (now (begun .args .book)) {b = fresh} roomy (read .read-tables .ensures) (told .answer .given .1) in
+    (read-sized l roomy, read-low l)
 
 returns-2 : tie.Need-returns-2
 returns-2 c = search needs
