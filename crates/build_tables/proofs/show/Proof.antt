@@ -6,6 +6,9 @@ use borrow.Author.Needs.{needs}
 use Rattle.build_tables.proofs.show.Statement.{statement}
 use Rattle.build_tables.proofs.show.Tie as tie
 
+output-requires : tie.Need-output-requires
+output-requires c κs = search needs
+
 slice-aggregate-build-tables : tie.Need-slice-aggregate-build-tables
 slice-aggregate-build-tables c = search needs
 
@@ -18,13 +21,13 @@ enum-told c = search needs
 array-share-prefix-book : tie.Need-array-share-prefix-book
 array-share-prefix-book c = search needs
 
-slice-aggregate-write-all : tie.Need-slice-aggregate-write-all
-slice-aggregate-write-all c =
+slice-aggregate-print-text : tie.Need-slice-aggregate-print-text
+slice-aggregate-print-text c =
     let b = c .before .before .before .before .build-tables in
     sym (length-take-le _ (b .last .1 .0) (omega (arith, b .ensures .1 .1 .1, b .kept .1 .0)))
 
-write-all-requires : tie.Need-write-all-requires
-write-all-requires c κs = search needs
+print-text-requires : tie.Need-print-text-requires
+print-text-requires c κs = search needs
 
 enum-told-2 : tie.Need-enum-told-2
 enum-told-2 c = search needs
@@ -38,25 +41,26 @@ place-requires c κs = search needs
 print-pair-requires : tie.Need-print-pair-requires
 print-pair-requires c κs = search needs
 
+flush-requires : tie.Need-flush-requires
+flush-requires c κs = search needs
+
 returns : tie.Need-returns
 returns c = search needs
-
-returns-2 : tie.Need-returns-2
-returns-2 c = search needs
 
 pub show-spec : {M : Type 1} → statement M
 show-spec =
     tie.close
     (tie.spec
+    output-requires
     slice-aggregate-build-tables
     build-tables-requires
     enum-told
     array-share-prefix-book
-    slice-aggregate-write-all
-    write-all-requires
+    slice-aggregate-print-text
+    print-text-requires
     enum-told-2
     number-requires
     place-requires
     print-pair-requires
-    returns
-    returns-2)
+    flush-requires
+    returns)
