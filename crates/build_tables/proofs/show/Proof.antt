@@ -23,7 +23,7 @@ array-share-prefix-book c = search needs
 
 slice-aggregate-print-text : tie.Need-slice-aggregate-print-text
 slice-aggregate-print-text c =
-    let b = c .before .before .before .before .build-tables in
+    let b = c .before .before .before .before .before .build-tables in
     sym (length-take-le _ (b .last .1 .0) (omega (arith, b .ensures .1 .1 .1, b .kept .1 .0)))
 
 print-text-requires : tie.Need-print-text-requires
