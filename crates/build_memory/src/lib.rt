@@ -1,5 +1,5 @@
 // The construction's table of a grammar book, in memory.
-// Inner: for `builder` and `explain_grammar`. A refusal leaves the slices free: locals of theirs, not read then.
+// Inner: for `builder` and `explain_grammar`.
 use grammar::GrammarReply;
 use header::Heading;
 use reply::Kind;
@@ -225,7 +225,7 @@ fn build_entered(
     )
 }
 
-// Builds the table of a grammar book in the slices that are lent.
+// Builds the table of a grammar book in the slices that are lent. A refusal leaves them free: locals of the callers, not read then.
 pub fn build(
     grammar: &[u8],
     items: &mut [u8],

@@ -1,5 +1,5 @@
 // Rule lines of a grammar book, `R,left,..` or `U,left,..`, read into the item table.
-// Inner: for `grammar`. A refusal leaves the row free; `grammar::read_grammar` then clears the item table.
+// Inner: for `grammar`.
 use reply::Kind;
 use reply::Refusal;
 use symbol::Symbol;
@@ -297,7 +297,8 @@ fn unit_flag(letter: u8) -> u8
     0
 }
 
-// The rule line at `at` of a grammar of t terminals and n nonterminals, read into the empty row at `base`.
+// The rule line at `at` of a grammar of t terminals and n nonterminals, read into the empty row at `base`. A refusal leaves the
+// row free; `grammar::read_grammar` then clears the item table.
 pub fn read_rule(s: &[u8], at: usize, t: usize, n: usize, m: &mut [u8], base: usize) -> RuleLine
     requires { ⌜ (t ≤ 63) × (n ≤ 64) ⌝ }
     requires { ⌜ length (now s) ≤ 65536 ⌝ }

@@ -1,5 +1,5 @@
 // Action lines of table books, the cells and gotos in memory.
-// Inner: for `table`. A refusal leaves the slices free; `table::read_tables` then clears them.
+// Inner: for `table`.
 use range::in_range;
 use reply::Kind;
 use reply::Refusal;
@@ -227,7 +227,7 @@ fn read_action(
     Step::Taken(next)
 }
 
-// The action lines from `first` on to the book's end.
+// The action lines from `first` on to the book's end. A refusal leaves the slices free; `table::read_tables` then clears them.
 pub fn read_actions(
     s: &[u8],
     first: usize,

@@ -1,5 +1,5 @@
 // Entry lines of table books, and their strings and states in memory.
-// Inner: for `table` and the builder. A refusal leaves the slices free; `table::read_tables` then clears them.
+// Inner: for `table` and the builder.
 use range::in_range;
 use reply::Kind;
 use reply::Refusal;
@@ -170,7 +170,7 @@ fn read_entry(
     Step::Taken(next)
 }
 
-// `count` entry lines from `first` on.
+// `count` entry lines from `first` on. A refusal leaves the slices free; `table::read_tables` then clears them.
 pub fn read_entries(
     s: &[u8],
     first: usize,

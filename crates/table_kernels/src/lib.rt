@@ -1,5 +1,5 @@
 // Kernel lines of table books, their figures and lookaheads in memory.
-// Inner: for `table`. A refusal leaves the slices free; `table::read_tables` then clears them.
+// Inner: for `table`.
 use range::in_range;
 use reply::Kind;
 use reply::Refusal;
@@ -199,7 +199,7 @@ fn read_marked(
 }
 
 // The kernel lines from `first` on. The marks, a byte for each state, item and dot, cost one clearing of 1 MiB; a line
-// then costs one look, however many lines there are.
+// then costs one look, however many lines there are. A refusal leaves the slices free; `table::read_tables` then clears them.
 pub fn read_kernels(
     s: &[u8],
     first: usize,
