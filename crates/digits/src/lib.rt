@@ -1,4 +1,5 @@
 // Numbers that stand in a book as digits, compared as the whole numbers they are, however long.
+// Inner: for the readers of table lines.
 ghost use mathlib.Core.Path.{_≡_};
 ghost use Prim.Native.Nat.{_<_};
 ghost use lib.Dec.{ltb};

@@ -5,6 +5,7 @@ use program::OUTPUT;
 use program::print_count;
 use program::print_text;
 use reply::Reply;
+use symbol::SYMBOLS;
 ghost use mathlib.Core.Path.{_≡_};
 ghost use Prim.Native.Nat.{_<_, _≤_};
 ghost use lib.ListN.{length};
@@ -21,7 +22,7 @@ fn symbol_between(kinds: &[u8], values: &[u8], gotos: &[u8], p: usize, q: usize)
     ensures { λ r. ⌜ r < 128 ⌝ }
 {
     let mut x = 1;
-    while x < 128 {
+    while x < SYMBOLS {
         if moves::next_of(kinds, values, gotos, p, x) == q {
             return x;
         }

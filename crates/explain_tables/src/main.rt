@@ -3,6 +3,7 @@
 use grammar::GrammarReply;
 use program::OUTPUT;
 use program::print_text;
+use symbol::CODES;
 use table::TableReply;
 
 // A refusal with 7 to 10: both books are read again.
@@ -49,7 +50,7 @@ fn explain_tables(out: &mut [u8; OUTPUT], grammar: &[u8], book: &[u8], number: u
         counts.states,
         number,
         place,
-        64,
+        CODES,
     );
 }
 

@@ -7,6 +7,9 @@ use missing_lookaheads::Lack;
 use program::OUTPUT;
 use program::print_count;
 use program::print_text;
+use symbol::CODES;
+use symbol::SYMBOLS;
+use symbol::Symbol;
 ghost use mathlib.Core.Path.{_≡_};
 ghost use Prim.Native.Nat.{_+_, _*_, _<_, _≤_};
 ghost use lib.ListN.{length};
@@ -249,7 +252,7 @@ fn print_demand(
         start,
         c,
     );
-    if c != 0 {
+    if c != Symbol::END {
         if moves::symbol_after(items, count, i, k) == c {
             demand = 256;
         }
@@ -297,7 +300,7 @@ fn print_line_demands(
                 codes,
                 i,
                 k,
-                l * 64,
+                l * CODES,
                 c,
             );
         }
@@ -337,7 +340,7 @@ fn print_rule_demands(
                 codes,
                 i,
                 0,
-                (left - 64) * 64,
+                (left - Symbol::FIRST_NONTERMINAL) * CODES,
                 c,
             );
         }
@@ -549,7 +552,7 @@ fn move_pair(symbols: &[u8], c: usize) -> Pair
     requires { ⌜ (length (now symbols) ≡ 128) × (c < 64) ⌝ }
 {
     let mut shift = 0;
-    if c != 0 {
+    if c != Symbol::END {
         if symbols[c] != 0 {
             shift = 256;
         }
@@ -596,7 +599,7 @@ fn add_lines(
                 codes,
                 i,
                 k,
-                l * 64,
+                l * CODES,
                 c,
             );
             p = add_demand(p, v);
@@ -637,7 +640,7 @@ fn add_rules(
                 codes,
                 i,
                 0,
-                (left - 64) * 64,
+                (left - Symbol::FIRST_NONTERMINAL) * CODES,
                 c,
             );
             p = add_demand(p, v);
@@ -775,8 +778,8 @@ fn explain_goto(out: &mut [u8; OUTPUT], symbols: &[u8], gotos: &[u8], q: usize)
     let Found::At(b) = goto else {
         return;
     };
-    print_count(out, b"on symbol ", 64 + b);
-    if gotos[q * 64 + b] == 0 {
+    print_count(out, b"on symbol ", Symbol::FIRST_NONTERMINAL + b);
+    if gotos[q * CODES + b] == 0 {
         print_text(
             out,
             b": the line is missing; asked: a next state; there: nothing\n",
@@ -816,7 +819,7 @@ fn explain_cells(
     requires { ⌜ (count < 256) × (q < 256) × (lines * 64 ≤ length (now lookaheads)) ⌝ }
     requires { ⌜ (length (now follow) ≡ 4096) × (length (now symbols) ≡ 128) ⌝ }
 {
-    let mut asked = [0usize; 64];
+    let mut asked = [0usize; CODES];
     cells::ask_cells(
         items,
         kernels,
@@ -926,9 +929,9 @@ fn explain_state(
         return 0;
     }
     let count = rules + strings;
-    let mut present = [0u8; 64];
+    let mut present = [0u8; CODES];
     let mut follow = [0u8; 4096];
-    let mut symbols = [0u8; 128];
+    let mut symbols = [0u8; SYMBOLS];
     closure::close_state(
         items,
         count,
@@ -1054,7 +1057,7 @@ pub fn explain_memory(
     let count = rules + strings;
     let codes = terminals + 1;
     let mut uses = [0u8; 2048];
-    let mut nul = [0u8; 128];
+    let mut nul = [0u8; SYMBOLS];
     let mut fst = [0u8; 8192];
     let mut starts = [0u8; 8192];
     let mut through = [0u8; 128];

@@ -1,9 +1,11 @@
 // What is wrong with a refused line of a book, in words: a second, forgiving look at the line.
+// Inner: for the programs that explain.
 use program::OUTPUT;
 use program::print_byte;
 use program::print_count;
 use program::print_text;
 use range::in_range;
+use symbol::Symbol;
 use table_lines::Line;
 use text::Cursor;
 use text::Field;
@@ -608,10 +610,10 @@ fn is_declared(figure: Figure, v: usize, d: Declared) -> bool {
             if in_range(1, v, d.terminals) {
                 return true;
             }
-            in_range(64, v, d.last_nonterminal)
+            in_range(Symbol::FIRST_NONTERMINAL, v, d.last_nonterminal)
         }
         Figure::Terminal => in_range(1, v, d.terminals),
-        Figure::Nonterminal => in_range(64, v, d.last_nonterminal),
+        Figure::Nonterminal => in_range(Symbol::FIRST_NONTERMINAL, v, d.last_nonterminal),
         Figure::Lookahead => v <= d.terminals,
         Figure::Free => true,
     }
@@ -971,7 +973,7 @@ pub fn explain_grammar_book(out: &mut [u8; OUTPUT], book: &[u8], number: u64, pl
     }
     let d = Declared {
         terminals: said[0],
-        last_nonterminal: 63 + clipped(said[1]),
+        last_nonterminal: Symbol::FIRST_NONTERMINAL - 1 + clipped(said[1]),
         rules: said[2],
         items: said[2],
         states: 0,
@@ -1077,7 +1079,7 @@ pub fn explain_table_book(
     }
     let d = Declared {
         terminals,
-        last_nonterminal: 63 + clipped(nonterminals),
+        last_nonterminal: Symbol::FIRST_NONTERMINAL - 1 + clipped(nonterminals),
         rules,
         items: clipped(rules) + clipped(said[1]),
         states: said[0],
