@@ -1,5 +1,6 @@
 /* How long a session takes, beside the parser that bison generates for the same grammar: 65,535 tokens of D and a long day of the hospital's grammar,
-   best of many runs. The walk alone is the whole call less the same call with no token: that one reads and checks both books.
+   each in one order over and over and in random order, best of many runs. The walk alone is the whole call less the same call with no token: that one
+   reads and checks both books.
    sh bench/run.sh session */
 #include "bench.h"
 #include "bison.h"
@@ -13,23 +14,47 @@ static uint8_t grammar[65537], tables[65537], tokens[65535], stack[65536], listi
 /* works of a day: an intake, an issue, a return, a discard, a temperature, a pooling, a transfer, a control, a remark, a quarantine */
 static const uint8_t works[] = {11, 13, 1, 4, 2, 3, 5, 6, 22, 6, 21, 19, 7, 1, 2, 3, 12, 20, 10, 15, 14, 1, 3, 26, 27, 19, 20, 10, 16, 1, 13, 18, 10, 17, 1, 10, 10,
                                 18, 10, 28, 1, 1, 1, 29, 1, 5, 30, 10, 11, 13, 1, 1, 12, 31, 18, 10, 32, 19, 6, 7, 6, 20, 10, 23, 25, 25, 25, 24, 33, 1, 1, 34, 20, 10};
+/* where each of them begins, and the end */
+static const uint8_t begins[] = {0, 19, 28, 33, 37, 39, 46, 56, 63, 68, sizeof works};
 
-static size_t day(void) {
-    size_t n = 0;
-    tokens[n++] = 8;
-    tokens[n++] = 10;
-    while (n + sizeof works + 2 <= sizeof tokens) {
-        memcpy(tokens + n, works, sizeof works);
-        n += sizeof works;
+/* random numbers, the same in every run: what a branch did before does not tell what it will do */
+static uint32_t seed;
+static uint32_t below(uint32_t n) {
+    seed = seed * 1103515245 + 12345;
+    return (seed >> 16) % n;
+}
+
+/* the works from one place to another, where there is room for them and for the end of the day */
+static size_t add(size_t n, size_t from, size_t to) {
+    if (n + (to - from) + 2 > sizeof tokens) return 0;
+    memcpy(tokens + n, works + from, to - from);
+    return n + (to - from);
+}
+
+static size_t day(int mixed) {
+    size_t n = 2, more;
+    tokens[0] = 8, tokens[1] = 10;
+    for (;;) {
+        uint32_t i = below(sizeof begins - 1);
+        more = mixed ? add(n, begins[i], begins[i + 1]) : add(n, 0, sizeof works);
+        if (!more) break;
+        n = more;
     }
     tokens[n++] = 9;
     tokens[n++] = 10;
     return n;
 }
 
-static size_t bags(void) {
-    for (size_t i = 0; i < sizeof tokens; i++) tokens[i] = i % 3 + 1;
-    return sizeof tokens;
+/* bags of 1, 2 and 3; in random order some have 4s after the 1 */
+static size_t bags(int mixed) {
+    size_t n = 0;
+    while (n + 3 <= sizeof tokens) {
+        tokens[n++] = 1;
+        while (mixed && below(3) == 0 && n + 3 <= sizeof tokens) tokens[n++] = 4;
+        tokens[n++] = 2;
+        tokens[n++] = 3;
+    }
+    return n;
 }
 
 static void measure(const char *what, size_t g, size_t t, size_t n, int (*parse)(struct session *)) {
@@ -50,15 +75,17 @@ static void measure(const char *what, size_t g, size_t t, size_t n, int (*parse)
         if (d - c < bison) bison = d - c;
     }
     double walk = whole - empty;
-    printf("%-9s %zu tokens  reply %llu,%llu,%llu,%llu  call %.0f us, without tokens %.0f us  walk %.1f M tokens/s  bison %s %lu,%lu  %.1f M tokens/s  ratio %.2f\n", what, n,
+    printf("%-15s %zu tokens  reply %llu,%llu,%llu,%llu  call %.0f us, without tokens %.0f us  walk %.1f M tokens/s  bison %s %lu,%lu  %.1f M tokens/s  ratio %.2f\n", what, n,
            (unsigned long long)number, (unsigned long long)place, (unsigned long long)rules, (unsigned long long)units, whole, empty, n / walk,
            failed ? "failed" : "whole", s.rules, s.units, n / bison, bison / walk);
 }
 
 int main(void) {
     size_t g = load("examples/d.grammar", grammar), t = load("examples/d.tables", tables);
-    measure("d", g, t, bags(), d_session);
+    measure("d", g, t, bags(0), d_session);
+    measure("d, mixed", g, t, bags(1), d_session);
     g = load("examples/hospital.grammar", grammar), t = load("examples/hospital.tables", tables);
-    measure("hospital", g, t, day(), hospital_session);
+    measure("hospital", g, t, day(0), hospital_session);
+    measure("hospital, mixed", g, t, day(1), hospital_session);
     return 0;
 }

@@ -18,9 +18,9 @@ use Rattle.leftcorner.specs.ReadOff.{found-entry}
 use Rattle.memory.specs.Memory.{HoldsEntries}
 use Rattle.memory.proofs.RangeLaws.{entry-range}
 use Rattle.entry_list.specs.Uses.{HoldsStrings, HoldsUses, entriesOf}
-use Rattle.walker.specs.Memory.{figureOf, rulesFrom, memoryGrammar, entryState}
-use Rattle.walker.specs.Memory as memory
-use Rattle.walker.proofs.MemoryLaws.{unit-is}
+use Rattle.walk_tables.specs.Memory.{figureOf, rulesFrom, memoryGrammar, entryState}
+use Rattle.walk_tables.specs.Memory as memory
+use Rattle.walk_tables.proofs.MemoryLaws.{unit-is}
 use Rattle.linked_rules.specs.Linked.{Linked}
 use Rattle.linked_rules.specs.Rows.{GroupCount, RowLinked, RulesLinked}
 

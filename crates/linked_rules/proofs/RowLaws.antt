@@ -12,7 +12,7 @@ use lib.Seq.{sets, length-sets, getD-set-same, getD-set-other}
 use borrow.Author.Tests.{leb-true, leb-false}
 use Rattle.items.specs.Layout.{leftAt, markAt, unitAt}
 use Rattle.items.proofs.StoreLaws.{read-below, read-above, read-inside, read-zeros}
-use Rattle.walker.specs.Memory.{figureOf}
+use Rattle.walk_tables.specs.Memory.{figureOf}
 use Rattle.linked_rules.specs.Rows.{GroupCount, GroupsLinked, RowLinked, RuleLinked, RulesLinked}
 
 -- what is not in a run is below or above it

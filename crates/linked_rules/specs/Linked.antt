@@ -7,8 +7,8 @@ use lib.ListN.{length}
 use Rattle.language.specs.Grammar.{Grammar, Rule, ruleAt}
 use Rattle.language.specs.Listing.{isUnit}
 use Rattle.leftcorner.specs.Table.{Table, groupEntries, automaton}
-use Rattle.walker.specs.Memory.{figureOf, memoryGrammar, entryState}
-use Rattle.walker.specs.Memory as memory
+use Rattle.walk_tables.specs.Memory.{figureOf, memoryGrammar, entryState}
+use Rattle.walk_tables.specs.Memory as memory
 
 -- row i holds what an announce of rule i needs: the states to pop, the left side, and the states of its groups' entries
 pub record Linked (rules : List ℕ) (start : ℕ) (g : Grammar) (t : Table) : Type 0 where

@@ -4,7 +4,7 @@ use mathlib.Core.Path.{_≡_}
 use mathlib.Core.List.{List}
 use lib.ListN.{length, getD}
 use Rattle.items.specs.Layout.{leftAt, markAt, unitAt}
-use Rattle.walker.specs.Memory.{figureOf}
+use Rattle.walk_tables.specs.Memory.{figureOf}
 
 -- the entries that rule i's groups use are n, then comes a 0; a rule has at most 15 groups
 pub record GroupCount (uses : List ℕ) (i n : ℕ) : Type 0 where

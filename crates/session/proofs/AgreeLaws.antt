@@ -18,10 +18,10 @@ use Rattle.leftcorner.specs.Construction.{ActionAt}
 use Rattle.leftcorner.specs.ReadOff.{action-back}
 use Rattle.memory.specs.Memory.{HoldsActions, kindOf, valueOf, popValue}
 use Rattle.memory.specs.Fits.{Fits}
-use Rattle.walker.specs.Memory.{figureOf, gotoOf, cellAt, memoryRule, memoryGrammar, meaning, memoryAutomaton}
-use Rattle.walker.specs.Memory as memory
+use Rattle.walk_tables.specs.Memory.{figureOf, gotoOf, cellAt, memoryRule, memoryGrammar, meaning, memoryAutomaton}
+use Rattle.walk_tables.specs.Memory as memory
 use Rattle.walker.specs.Walked.{memoryWalk}
-use Rattle.walker.proofs.MemoryLaws.{rule-is}
+use Rattle.walk_tables.proofs.MemoryLaws.{rule-is}
 use Rattle.walker.proofs.AgreeLaws.{CodeOf, walk-agree, units-agree}
 use Rattle.linked_rules.specs.Linked.{Linked}
 

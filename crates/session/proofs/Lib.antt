@@ -1,4 +1,3 @@
 pub mod AgreeLaws
-pub mod StrayLaws
 pub mod TableLaws
 pub mod BookLaws

@@ -24,11 +24,12 @@ use Rattle.reply.specs.declared.Kind.the-variants.{Undeclared}
 use Rattle.checker.specs.Loaded.{InMemory}
 use Rattle.walker.specs.declared.Walked.{Walked}
 use Rattle.walker.specs.declared.Walked.the-variants.{Accepted}
-use Rattle.walker.specs.Memory.{memoryGrammar}
+use Rattle.walk_tables.specs.Memory.{memoryGrammar}
 use Rattle.walker.specs.Walked.{memoryWalk, answer, listed, padded}
 use Rattle.linked_rules.specs.Linked.{Linked}
 use Rattle.grammar.specs.Book.{onFound}
-use Rattle.session.specs.Session.{strayFrom, refusedAt, endedBy, tableSession, Tells}
+use Rattle.stray_tokens.specs.Stray.{strayFrom}
+use Rattle.session.specs.Session.{refusedAt, endedBy, tableSession, Tells}
 use Rattle.session.proofs.AgreeLaws.{walk-same, units-same}
 
 -- where no token is a stray, each is "1 to t"

@@ -1,22 +1,21 @@
 -- A session: what is answered for two books, a list of tokens, and the lengths of the lent slices. Document 01, 'Replies': "Order:
 -- lengths; grammar lines [..]; then 5, 6; table lines likewise; then 7 to 10; then tokens by 3; then the walk".
-use Prim.Native.Nat.{ℕ, suc}
+use Prim.Native.Nat.{ℕ}
 use mathlib.Core.Path.{_≡_}
 use mathlib.Core.Bool.{cond}
-use mathlib.Core.List.{List, [], _∷_}
+use mathlib.Core.List.{List}
 use lib.Dec.{ltb}
 use lib.ListN.{length, replicate}
 use Rattle.language.specs.Grammar.{Grammar}
 use Rattle.leftcorner.specs.Table.{Table, automaton}
 use Rattle.leftcorner.specs.Machine.{Verdict, walk}
-use Rattle.fixpoint.specs.declared.Found.{Found}
-use Rattle.range.specs.Range.{within}
 use Rattle.reply.specs.declared.Kind.{Kind}
 use Rattle.reply.specs.declared.Kind.the-variants.{LimitExceeded, Undeclared}
 use Rattle.reply.specs.declared.Refusal.{Refusal}
 use Rattle.grammar.specs.Book.{onFound}
 use Rattle.table.specs.Book.{Reading, whole, rejected}
 use Rattle.checker.specs.Checked.{checkedOf}
+use Rattle.stray_tokens.specs.Stray.{strayFrom}
 use Rattle.walker.specs.declared.Walked.{Walked}
 use Rattle.walker.specs.declared.Walked.the-variants.{Refused}
 use Rattle.walker.specs.Walked.{answer, listed, padded}
@@ -26,11 +25,6 @@ pub record Session : Type 0 where
   pub reply : Walked
   pub listing : List ℕ
   pub stack : List ℕ
-
--- "a token not 1 to t", the lowest; `at` is the place of the first of the tokens
-unfoldable pub strayFrom : ℕ → ℕ → List ℕ → Found
-strayFrom t at [] = Found.Nothing
-strayFrom t at (a ∷ w) = cond (within 1 a t) (strayFrom t (suc at) w) (Found.At at)
 
 -- with a stack slice of n places and a listing slice of k
 module _ (n k : ℕ) where

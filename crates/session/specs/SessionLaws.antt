@@ -20,7 +20,8 @@ use Rattle.table.specs.Book.{Reading, whole}
 use Rattle.checker.specs.Checked.{checkedOf}
 use Rattle.walker.specs.declared.Walked.the-variants.{Refused}
 use Rattle.walker.specs.Walked.{asReply, padded}
-use Rattle.session.specs.Session.{Session, strayFrom, refusedAt, endedBy, tableSession, afterBooks, session}
+use Rattle.stray_tokens.specs.Stray.{strayFrom}
+use Rattle.session.specs.Session.{Session, refusedAt, endedBy, tableSession, afterBooks, session}
 
 -- a token "1 to t" is no stray
 no-stray : (t at : ℕ) (w : List ℕ) → ((a : ℕ) → In a w → (1 ≤ a) × (a ≤ t)) → strayFrom t at w ≡ Found.Nothing

@@ -4,43 +4,18 @@ use fixpoint::Found;
 use reply::Kind;
 use reply::Refusal;
 use reply::clear;
-use symbol::Symbol;
 use table::TableReply;
 use walker::Walked;
 ghost use mathlib.Core.Path.{_≡_};
-ghost use Prim.Native.Nat.{_<_};
 ghost use lib.ListN.{length};
 ghost use Rattle.language.specs.Grammar.{Grammar};
 ghost use Rattle.leftcorner.specs.Table.{Table};
 ghost use Rattle.checker.specs.Checked.{checkedOf};
 ghost use Rattle.checker.specs.Loaded.{InMemory, Readable};
-ghost use Rattle.session.specs.Session.{strayFrom, refusedBy, tableSession, afterBooks, session, Tells};
+ghost use Rattle.session.specs.Session.{refusedBy, tableSession, afterBooks, session, Tells};
 
 // Accepted, with the tokens read, the rules listed and the units among them; or refused.
 pub type SessionReply = Walked;
-
-fn wide(x: u8) -> usize
-    ensures { λ r. ⌜ (r ≡ x) × (r < 256) ⌝ }
-{
-    x as usize
-}
-
-// The index of the first token that is no terminal.
-fn find_stray(tokens: &[u8], terminals: usize) -> Found
-    ensures { λ r. ⌜ r ≡ strayFrom terminals 0 (now (tokens .entry)) ⌝ }
-{
-    let mut i = 0;
-    while i < tokens.len() {
-        let token = Symbol {
-            code: wide(tokens[i]),
-        };
-        if !token.is_terminal(terminals) {
-            return Found::At(i);
-        }
-        i += 1;
-    }
-    Found::Nothing
-}
 
 // Refuses, with zeros in both slices.
 pub fn refuse(why: Refusal, stack: &mut [u8], listing: &mut [u8]) -> SessionReply
@@ -70,7 +45,7 @@ fn walk_table(
     ensures { λ r. ⌜ ((g : Grammar) (t : Table) → InMemory g t (now (items .entry)) (now (entries .entry)) (now (kinds .entry)) (now (values .entry)) (now (gotos .entry)) terminals rules strings
         → Tells (tableSession (length (now (stack .entry))) (length (now (listing .entry))) g t (now (tokens .entry))) r (now (stack .exit)) (now (listing .exit))) ⌝ }
 {
-    let stray = find_stray(tokens, terminals);
+    let stray = stray_tokens::find_stray(tokens, terminals);
     if let Found::At(place) = stray {
         return refuse(
             Refusal {

@@ -4,21 +4,27 @@ use mathlib.Core.List.{List, [], _∷_}
 use Prim.Native.Nat.{ℕ, zero, suc, _+_, _*_, _-_, _≤_, _<_}
 use native.Mathlib.Omega.{arith}
 use lib.ListN.{length, getD, set, take, drop, length-set}
-use lib.Seq.{getD-set-same}
+use lib.Seq.{getD-set-same, length-take-le}
 use Rattle.language.specs.Grammar.{Grammar}
 use Rattle.language.specs.First.{next}
 use Rattle.leftcorner.specs.Bounded.{fits-yes}
 use Rattle.leftcorner.specs.Machine.{Verdict, step, walkFor}
-use Rattle.walker.specs.declared.Position.{Position}
-use Rattle.walker.specs.declared.Turn.{Turn}
-use Rattle.walker.specs.declared.Turn.the-variants.{On, Ends}
+use Rattle.reply.specs.declared.Kind.the-variants.{BufferTooSmall, SyntaxError}
+use Rattle.walk_tables.specs.Memory.{memoryGrammar, memoryAutomaton}
+use Rattle.parse_stack.specs.Stack.{tops}
+use Rattle.walk_steps.specs.declared.Position.{Position}
+use Rattle.walk_steps.specs.declared.Turn.{Turn}
+use Rattle.walk_steps.specs.declared.Turn.the-variants.{On, Whole, Wrong, Short}
+use Rattle.walk_steps.specs.Turn.{stepsLeft, Stands, Moves, Ends, Turned}
 use Rattle.walker.specs.declared.Walked.{Walked}
-use Rattle.walker.specs.Memory.{memoryGrammar, memoryAutomaton}
+use Rattle.walker.specs.declared.Walked.the-variants.{Accepted, Refused}
 use Rattle.walker.specs.Walked.{memoryWalk, Ended}
-use Rattle.walker.specs.Turn.{tops, stepsLeft, Stands, Moves, Finishes, Turned}
 
 enough-first : (a b n : ℕ) → a ≡ b → a * suc n + 1 ≤ suc (suc b * suc n)
 enough-first a b n e = rw e (omega arith)
+
+ended-by : {g : Grammar} {u v : Verdict} {w : Walked} {slice : List ℕ} → u ≡ v → Ended g v w slice → Ended g u w slice
+ended-by {g} {u} {v} {w} {slice} e h = subst (λ (x : Verdict). Ended g x w slice) (sym e) h
 
 module _ (kinds values gotos rules : List ℕ) (start n k : ℕ) (tokens : List ℕ) where
   -- the walk is the walk from position p
@@ -69,12 +75,16 @@ module _ (kinds values gotos rules : List ℕ) (start n k : ℕ) (tokens : List 
         (step (memoryGrammar rules) (memoryAutomaton kinds values gotos rules start) (tops stack (p .height)) (next (drop (p .taken) tokens) 0)) stack′ listing′ t
     turned = rw (s .stack-long, s .listing-long) at h
 
+    turned-as : {u : Turn} → t ≡ u → Turned (memoryGrammar rules) (memoryAutomaton kinds values gotos rules start) n k tokens stack listing p
+        (step (memoryGrammar rules) (memoryAutomaton kinds values gotos rules start) (tops stack (p .height)) (next (drop (p .taken) tokens) 0)) stack′ listing′ u
+    turned-as e = subst
+        (Turned (memoryGrammar rules) (memoryAutomaton kinds values gotos rules start) n k tokens stack listing p
+        (step (memoryGrammar rules) (memoryAutomaton kinds values gotos rules start) (tops stack (p .height)) (next (drop (p .taken) tokens) 0)) stack′ listing′)
+        e turned
+
     pub moved : {q : Position} → t ≡ On q → Moves (memoryGrammar rules) (memoryAutomaton kinds values gotos rules start) n k tokens stack listing p
         (step (memoryGrammar rules) (memoryAutomaton kinds values gotos rules start) (tops stack (p .height)) (next (drop (p .taken) tokens) 0)) stack′ listing′ q
-    moved e = subst
-        (λ (u : Turn). Turned (memoryGrammar rules) (memoryAutomaton kinds values gotos rules start) n k tokens stack listing p
-        (step (memoryGrammar rules) (memoryAutomaton kinds values gotos rules start) (tops stack (p .height)) (next (drop (p .taken) tokens) 0)) stack′ listing′ u)
-        e turned
+    moved e = turned-as e
 
     pub going-on : {q : Position} → t ≡ On q → Going stack listing p → Going stack′ listing′ q
     going-on {q} e g = go (g .fuel) (g .enough) (g .same)
@@ -89,25 +99,35 @@ module _ (kinds values gotos rules : List ℕ) (start n k : ℕ) (tokens : List 
           same = same ∙ (moved e) .goes (walkFor (memoryGrammar rules) (memoryAutomaton kinds values gotos rules start) n k f);
         }
 
-    pub going-ends : {w : Walked} → t ≡ Ends w → Going stack listing p → Ended (memoryGrammar rules) (memoryWalk kinds values gotos rules start n k tokens) w listing′
+    -- the walk comes to the verdict that the step ends it with
+    ends-walk : {v : Verdict} → Ends (memoryGrammar rules) (memoryAutomaton kinds values gotos rules start) n k tokens stack listing p
+        (step (memoryGrammar rules) (memoryAutomaton kinds values gotos rules start) (tops stack (p .height)) (next (drop (p .taken) tokens) 0)) v
+        → Going stack listing p → memoryWalk kinds values gotos rules start n k tokens ≡ v
     unfolding stepsLeft
-    going-ends {w} e g = go (g .fuel) (g .enough) (g .same)
+    ends-walk {v} fin g = go (g .fuel) (g .enough) (g .same)
       where
-        fin : Finishes (memoryGrammar rules) (memoryAutomaton kinds values gotos rules start) n k tokens stack listing p
-            (step (memoryGrammar rules) (memoryAutomaton kinds values gotos rules start) (tops stack (p .height)) (next (drop (p .taken) tokens) 0)) listing′ w
-        fin = subst
-            (λ (u : Turn). Turned (memoryGrammar rules) (memoryAutomaton kinds values gotos rules start) n k tokens stack listing p
-            (step (memoryGrammar rules) (memoryAutomaton kinds values gotos rules start) (tops stack (p .height)) (next (drop (p .taken) tokens) 0)) stack′ listing′ u)
-            e turned
-
         go : (f : ℕ) → stepsLeft n k tokens p ≤ f → memoryWalk kinds values gotos rules start n k tokens
             ≡ walkFor (memoryGrammar rules) (memoryAutomaton kinds values gotos rules start) n k f (tops stack (p .height)) (drop (p .taken) tokens) (p .taken) (take (p .listed) listing)
-            → Ended (memoryGrammar rules) (memoryWalk kinds values gotos rules start n k tokens) w listing′
+            → memoryWalk kinds values gotos rules start n k tokens ≡ v
         go zero le same = absurd (omega (arith, s .started))
-        go (suc f) le same = subst
-            (λ (v : Verdict). Ended (memoryGrammar rules) v w listing′)
-            (sym (same ∙ fin .ends (walkFor (memoryGrammar rules) (memoryAutomaton kinds values gotos rules start) n k f)))
-            (fin .ended)
+        go (suc f) le same = same ∙ fin (walkFor (memoryGrammar rules) (memoryAutomaton kinds values gotos rules start) n k f)
+
+    pub going-wrong : t ≡ Wrong → Going stack listing p
+        → Ended (memoryGrammar rules) (memoryWalk kinds values gotos rules start n k tokens) (Refused (record { kind = SyntaxError; place = p .taken })) listing′
+    going-wrong e g = ended-by (ends-walk (turned-as e) g) (record { answered = refl; front = refl; within = omega arith })
+
+    pub going-short : t ≡ Short → Going stack listing p
+        → Ended (memoryGrammar rules) (memoryWalk kinds values gotos rules start n k tokens) (Refused (record { kind = BufferTooSmall; place = p .taken })) listing′
+    going-short e g = ended-by (ends-walk (turned-as e) g) (record { answered = refl; front = refl; within = omega arith })
+
+    pub going-whole : t ≡ Whole → Going stack listing p
+        → Ended (memoryGrammar rules) (memoryWalk kinds values gotos rules start n k tokens)
+        (Accepted (record { tokens = p .taken; rules = p .listed; units = p .units })) listing′
+    going-whole e g =
+        let so = turned-as e in
+        let fits : p .listed ≤ length listing = omega (arith, s .room, s .listing-long) in
+        let len : length (take (p .listed) listing) ≡ p .listed = length-take-le (p .listed) listing fits in
+        ended-by (ends-walk (so .0) g) (rw (so .1) (record { answered = rw (len, ← s .counted); front = rw len; within = omega (arith, len, fits) }))
 
 -- a position's slices have their own lengths
 pub stands-own : {g : Grammar} {tokens stack listing : List ℕ} {n k : ℕ} {p : Position} → Stands g n k tokens stack listing p

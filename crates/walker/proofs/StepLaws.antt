@@ -6,12 +6,13 @@ use lib.ListN.{getD, drop}
 use Rattle.language.specs.First.{next}
 use Rattle.leftcorner.specs.Machine.{Outcome, act, step}
 use Rattle.leftcorner.specs.Machine as machine
-use Rattle.walker.specs.declared.Cell.{Cell}
-use Rattle.walker.specs.declared.Position.{Position}
-use Rattle.walker.specs.declared.Turn.{Turn}
-use Rattle.walker.specs.Memory.{cellAt, meaning, memoryGrammar, memoryAutomaton}
-use Rattle.walker.specs.Turn.{tops, Stands, Turned}
-use Rattle.walker.proofs.StackLaws.{tops-top}
+use Rattle.walk_tables.specs.declared.Cell.{Cell}
+use Rattle.walk_tables.specs.Memory.{cellAt, meaning, memoryGrammar, memoryAutomaton}
+use Rattle.parse_stack.specs.Stack.{tops}
+use Rattle.parse_stack.proofs.StackLaws.{tops-top}
+use Rattle.walk_steps.specs.declared.Position.{Position}
+use Rattle.walk_steps.specs.declared.Turn.{Turn}
+use Rattle.walk_steps.specs.Turn.{Stands, Turned}
 
 pub next-drop : (l : List ℕ) (i : ℕ) → next (drop i l) 0 ≡ getD l i 0
 next-drop [] zero = refl

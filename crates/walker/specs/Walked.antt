@@ -9,9 +9,9 @@ use Rattle.leftcorner.specs.Machine.{Verdict, whole-at, wrong-at, short-at, wal
 use Rattle.reply.specs.declared.Kind.the-variants.{BufferTooSmall, SyntaxError}
 use Rattle.reply.specs.declared.Reply.{Reply}
 use Rattle.reply.specs.declared.Reply.the-variants as reply
+use Rattle.walk_tables.specs.Memory.{memoryGrammar, memoryAutomaton}
 use Rattle.walker.specs.declared.Walked.{Walked}
 use Rattle.walker.specs.declared.Walked.the-variants.{Accepted, Refused}
-use Rattle.walker.specs.Memory.{memoryGrammar, memoryAutomaton}
 
 -- the walk of the machine in memory, with a stack slice of n places and a listing slice of k
 unfoldable pub memoryWalk : List ℕ → List ℕ → List ℕ → List ℕ → ℕ → ℕ → ℕ → List ℕ → Verdict

@@ -13,7 +13,8 @@ use Rattle.lalr.specs.States.{leave, note, noteIf}
 use Rattle.computed.specs.Computed.{computed}
 use Rattle.walker.specs.declared.Walked.the-variants.{Accepted, Refused}
 use Rattle.walker.specs.Walked.{padded}
-use Rattle.session.specs.Session.{Session, strayFrom, tableSession, session}
+use Rattle.stray_tokens.specs.Stray.{strayFrom}
+use Rattle.session.specs.Session.{Session, tableSession, session}
 use Rattle.worked_examples.specs.Books.{book, Books, g1, g1-cut, d}
 use Rattle.worked_examples.specs.Laws.{Computes, sessionOver, session-is}
 use Rattle.worked_examples.specs.Computing.{computes}

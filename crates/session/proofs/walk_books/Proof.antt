@@ -59,8 +59,9 @@ slice-aggregate-walk-table-5 c = search needs
 
 walk-table-requires : tie.Need-walk-table-requires
 walk-table-requires c κs =
-    let promise = c .before .before .before .before .before .before .before .before .before .before .before .before .before .before .before .before .before .before .before .load-tables .ensures .1 .1 in
-    (promise _ (c .before .before .before .before .before .before .before .before .before .answer2 .given .1) .readable, search needs)
+    let e = c .before .before .before .before .before .before .before .before .before in
+    let promise = e .before .before .before .before .before .before .before .before .before .before .load-tables .ensures .1 .1 in
+    (promise _ (e .answer2 .given .1) .readable, search needs)
 
 same-length : tie.Need-same-length
 same-length c = search needs
@@ -70,8 +71,11 @@ same-length-2 c = search needs
 
 returns : tie.Need-returns
 returns c =
-    let k = c .before .before .before .before .before .before .before .before .before .before .before .before .before .before .before .before .before .before .before .before .before .before .before .before .before .before .before .before .before .before .before .before .args in
-    books-refused (length (k .stack .now)) (length (k .listing .now)) (checkedOf (k .grammar .now) (k .tables .now)) (k .tokens .now) (c .before .before .before .before .before .before .before .before .before .before .before .before .before .before .before .before .before .before .load-tables .ensures .0) (c .before .before .before .before .before .before .before .before .answer .given .1) (c .before .before .before .before .refuse .ensures)
+    let e = c .before .before .before .before .before .before .before .before in
+    let l = e .before .before .before .before .before .before .before .before .before .before in
+    let k = l .before .before .before .before .before .before .before .before .before .before .before .before .before .before .args in
+    books-refused (length (k .stack .now)) (length (k .listing .now)) (checkedOf (k .grammar .now) (k .tables .now)) (k .tokens .now)
+    (l .load-tables .ensures .0) (e .answer .given .1) (c .before .before .before .before .refuse .ensures)
 
 same-length-3 : tie.Need-same-length-3
 same-length-3 c = search needs
@@ -81,11 +85,12 @@ same-length-4 c = search needs
 
 returns-2 : tie.Need-returns-2
 returns-2 c =
-    let k = c .before .before .before .before .before .before .before .before .before .before .before .before .before .before .before .before .before .before .before .before .before .before .before .before .before .before .before .before .before .before .before .before .before .before .before .before .before .before .args in
-    let promise = c .before .before .before .before .before .before .before .before .before .before .before .before .before .before .before .before .before .before .before .before .before .before .before .before .load-tables .ensures .1 .1 in
-    let l = promise _ (c .before .before .before .before .before .before .before .before .before .before .before .before .before .before .answer2 .given .1) in
-    books-walked (length (k .stack .now)) (length (k .listing .now)) (checkedOf (k .grammar .now) (k .tables .now)) (k .tokens .now) (l .books)
-    (c .before .before .before .before .walk-table .ensures (l .grammar) (l .table) (l .in-memory))
+    let e = c .before .before .before .before .before .before .before .before .before .before .before .before .before .before in
+    let l = e .before .before .before .before .before .before .before .before .before .before in
+    let k = l .before .before .before .before .before .before .before .before .before .before .before .before .before .before .args in
+    let promise = l .load-tables .ensures .1 .1 _ (e .answer2 .given .1) in
+    books-walked (length (k .stack .now)) (length (k .listing .now)) (checkedOf (k .grammar .now) (k .tables .now)) (k .tokens .now) (promise .books)
+    (c .before .before .before .before .walk-table .ensures (promise .grammar) (promise .table) (promise .in-memory))
 
 pub walk-books-spec : {M : Type 1} → statement M
 walk-books-spec =

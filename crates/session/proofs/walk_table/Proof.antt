@@ -3,7 +3,7 @@ use mathlib.Core.Path.{refl, sym, ap, _∙_}
 use Prim.Native.Nat.{ℕ}
 use lib.ListN.{length}
 use borrow.Author.Needs.{needs}
-use Rattle.session.specs.Session.{strayFrom}
+use Rattle.stray_tokens.specs.Stray.{strayFrom}
 use Rattle.session.proofs.TableLaws.{stray-session, table-session}
 use Rattle.session.proofs.walk_table.Statement.{statement}
 use Rattle.session.proofs.walk_table.Tie as tie
@@ -25,9 +25,11 @@ same-length-2 c = search needs
 
 returns : tie.Need-returns
 returns c = λ g t I.
-    let k = c .before .before .before .before .before .before .before .before .before .before .before .before .before .before .before .before .before .before .before .args in
-    stray-session g t (length (k .stack .now)) (length (k .listing .now)) _ (k .tokens .now)
-    (ap (λ (x : ℕ). strayFrom x 0 (k .tokens .now)) (I .terminals-is) ∙ (sym (c .before .before .before .before .before .before .before .before .before .before .find-stray .ensures) ∙ c .before .before .before .before .before .before .before .before .stray .given .1)) (c .before .before .before .before .refuse .ensures)
+    let e = c .before .before .before .before .before .before .before .before in
+    let f = e .before .before in
+    let k = f .before .before .before .before .before .before .before .before .before .args in
+    let found = ap (λ (x : ℕ). strayFrom x 0 (k .tokens .now)) (I .terminals-is) ∙ (sym (f .find-stray .ensures) ∙ e .stray .given .1) in
+    stray-session g t (length (k .stack .now)) (length (k .listing .now)) _ (k .tokens .now) found (c .before .before .before .before .refuse .ensures)
 
 enum-told : tie.Need-enum-told
 enum-told c = search needs
@@ -57,10 +59,12 @@ same-length-4 c = search needs
 
 returns-2 : tie.Need-returns-2
 returns-2 c = λ g t I.
-    let k = c .before .before .before .before .before .before .before .before .before .before .before .before .before .before .before .before .before .before .before .before .before .before .before .args in
-    let found = c .before .before .before .before .before .before .before .before .before .before .before .before .before .before .find-stray .ensures in
-    let none = ap (λ (x : ℕ). strayFrom x 0 (k .tokens .now)) (I .terminals-is) ∙ (sym found ∙ c .before .before .before .before .before .before .before .before .before .before .before .before .enum-told .given .1) in
-    let linked = c .before .before .before .before .before .before .before .before .before .before .link-rules .ensures .1 g t _ (I .holds-strings) (I .holds-entries) (I .meets .entries) in
+    let l = c .before .before .before .before .before .before .before .before .before .before in
+    let e = l .before .before in
+    let f = e .before .before in
+    let k = f .before .before .before .before .before .before .before .before .before .args in
+    let none = ap (λ (x : ℕ). strayFrom x 0 (k .tokens .now)) (I .terminals-is) ∙ (sym (f .find-stray .ensures) ∙ e .enum-told .given .1) in
+    let linked = l .link-rules .ensures .1 g t _ (I .holds-strings) (I .holds-entries) (I .meets .entries) in
     let walked = c .before .before .before .before .walk-tokens .ensures in
     table-session g t I linked refl (length (k .stack .now)) (length (k .listing .now)) (k .tokens .now) none (walked .0) (walked .1 .0) (walked .1 .1)
 

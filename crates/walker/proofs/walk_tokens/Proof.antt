@@ -4,9 +4,9 @@ use Prim.Native.Nat.{ℕ, _-_}
 use native.Mathlib.Omega.{arith}
 use lib.ListN.{length, replicate}
 use borrow.Author.Needs.{needs}
+use Rattle.walk_tables.specs.Memory.{memoryGrammar}
 use Rattle.walker.proofs.EndLaws.{short-first, zeros-all, no-element, count-within, end-listing}
 use Rattle.walker.specs.Walked.{memoryWalk, answer, listed}
-use Rattle.walker.specs.Memory.{memoryGrammar}
 use Rattle.walker.proofs.walk_tokens.Statement.{statement}
 use Rattle.walker.proofs.walk_tokens.Tie as tie
 
@@ -19,9 +19,12 @@ same-length c = search needs
 returns : tie.Need-returns
 returns c = let a = c .before .before .before .before .before .before .before .before .before .before .before .before .args in
     let none = c .before .before .before .before .if1 .taken in
-    let e = short-first (a .kinds .now) (a .values .now) (a .gotos .now) (a .rules .now) (a .start) (length (a .stack .now)) (length (a .listing .now)) (a .tokens .now) none in (
+    let n = length (a .stack .now) in
+    let k = length (a .listing .now) in
+    let v = memoryWalk (a .kinds .now) (a .values .now) (a .gotos .now) (a .rules .now) (a .start) n k (a .tokens .now) in
+    let e = short-first (a .kinds .now) (a .values .now) (a .gotos .now) (a .rules .now) (a .start) n k (a .tokens .now) none in (
       sym (ap (answer (memoryGrammar (a .rules .now))) e),
-      (c .before .before .clear .ensures ∙ zeros-all (length (a .listing .now)) (memoryWalk (a .kinds .now) (a .values .now) (a .gotos .now) (a .rules .now) (a .start) (length (a .stack .now)) (length (a .listing .now)) (a .tokens .now)) (ap listed e), no-element (a .stack .now) none),
+      (c .before .before .clear .ensures ∙ zeros-all k v (ap listed e), no-element (a .stack .now) none),
     )
 
 run-requires : tie.Need-run-requires
@@ -56,13 +59,16 @@ same-length-3 : tie.Need-same-length-3
 same-length-3 c = search needs
 
 returns-2 : tie.Need-returns-2
-returns-2 c = let a = c .before .before .before .before .before .before .before .before .before .before .before .before .before .before .before .before .before .before .before .before .before .before .before .before .args in
-    let r = c .before .before .before .before .before .before .before .before .before .before .before .before .before .run in (
+returns-2 c = let counted = c .before .before .before .before in
+    let cleared = counted .before .before .before in
+    let ran = cleared .before .before .before .before .before .before in
+    let a = ran .before .before .before .before .before .before .before .before .before .before .before .args in
+    let r = ran .run in (
       r .ensures .answered,
       (
-        end-listing (r .last .1 .1 .1 .1 .1 .1 .1 .0) (c .before .before .clear3 .last .0) (c .before .before .before .before .rule-count .result) (length (a .listing .now)) (r .ensures)
-            (c .before .before .before .before .rule-count .ensures) (r .kept .1 .1 .1 .1 .1 .1 .1 .0) (c .before .before .clear3 .ensures),
-        c .before .before .before .before .before .before .before .clear2 .ensures ∙ ap (λ (k : ℕ). replicate k 0) (r .kept .1 .1 .1 .1 .1 .1 .0),
+        end-listing (r .last .1 .1 .1 .1 .1 .1 .1 .0) (c .before .before .clear3 .last .0) (counted .rule-count .result) (length (a .listing .now)) (r .ensures)
+            (counted .rule-count .ensures) (r .kept .1 .1 .1 .1 .1 .1 .1 .0) (c .before .before .clear3 .ensures),
+        cleared .clear2 .ensures ∙ ap (λ (k : ℕ). replicate k 0) (r .kept .1 .1 .1 .1 .1 .1 .0),
       ),
     )
 
