@@ -1,5 +1,5 @@
 // Action lines of table books, the cells and gotos in memory.
-// Inner: for `table`.
+// Inner: for `table_blocks`.
 use range::in_range;
 use reply::Kind;
 use reply::Refusal;

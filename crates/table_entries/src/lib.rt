@@ -1,5 +1,5 @@
 // Entry lines of table books, and their strings and states in memory.
-// Inner: for `table` and the builder.
+// Inner: for `table_blocks` and the builder.
 use range::in_range;
 use reply::Kind;
 use reply::Refusal;

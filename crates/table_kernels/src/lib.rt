@@ -1,9 +1,10 @@
 // Kernel lines of table books, their figures and lookaheads in memory.
-// Inner: for `table`.
+// Inner: for `table_blocks`.
 use range::in_range;
 use reply::Kind;
 use reply::Refusal;
 use symbol::CODES;
+use symbol::Symbol;
 use table_lines::Block;
 use table_lines::Judgement;
 use table_lines::Line;
@@ -81,7 +82,8 @@ fn judge_kernel(
         return Judgement::Faulty(Kind::Undeclared);
     }
     // the codes rise, so that the last is the largest
-    if t < p.last {
+    let last = Symbol { code: p.last };
+    if !last.is_lookahead(t) {
         return Judgement::Faulty(Kind::Undeclared);
     }
     Judgement::Fine

@@ -20,8 +20,9 @@ line-read c = let r = c .before .before .before .before in
     whole-read _ (replicate 67 0) (r .read-line .last .1 .1 .0) (sym (c .before .letter .given .1) ∙ r .read-line .ensures .0) (r .read-line .ensures .1) (search needs)
 
 -- it is fine after the lines that memory holds
-fine-at : (c : tie.After-enum-told2) → let a = c .before .before .before .before .before .before .before .before .before .before .before .before .before .before .before .before .before .before .args in
-    ActionFine (a .t) (a .n) (a .rules) (a .states) (c .before .before .before .before .before .before .before .before .before .before .before .before .before .before .before .before .before .before .pre .1 .lines) (c .before .before .before .before .before .before .before .letter .given .0 .0) (line-read (c .before .before .before .before .before .before) .numbers)
+fine-at : (c : tie.After-enum-told2) → let s = c .before .before .before .before .before .before .before .before .before .before .before .before .before .before .before .before .before .before in
+    let a = s .args in
+    ActionFine (a .t) (a .n) (a .rules) (a .states) (s .pre .1 .lines) (c .before .before .before .before .before .before .before .letter .given .0 .0) (line-read (c .before .before .before .before .before .before) .numbers)
 fine-at c = let k = c .before .before .before .before .before .before .before .before .before .before .before .before .before .before .before .before .before .before .pre .1 in
     let w = line-read (c .before .before .before .before .before .before) in
     action-fine _ _ _ _ (k .lines) _ (w .numbers) (sym (c .before .before .judge-action .ensures _ _ _ _ (k .lines) (w .numbers) (k .cells) (w .held)) ∙ c .enum-told2 .given .1)

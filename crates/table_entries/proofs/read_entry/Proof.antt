@@ -24,7 +24,8 @@ line-read c = let r = c .before .before .before .before in
     whole-read _ (replicate 67 0) (r .read-line .last .1 .1 .0) (sym (c .before .letter .given .1) ∙ r .read-line .ensures .0) (r .read-line .ensures .1) (search needs)
 
 -- it is fine after the lines that memory holds
-fine-at : (c : tie.After-enum-told2) → let a = c .before .before .before .before .before .before .before .before .before .before .before .before .before .before .before .args in EntryFine (a .t) (a .n) (a .states) (c .before .before .before .before .before .before .before .before .before .before .before .before .before .before .before .pre .1 .1 .1 .1 .lines) (line-read (c .before .before .before .before .before) .numbers)
+fine-at : (c : tie.After-enum-told2) → let s = c .before .before .before .before .before .before .before .before .before .before .before .before .before .before .before in
+    EntryFine (s .args .t) (s .args .n) (s .args .states) (s .pre .1 .1 .1 .1 .lines) (line-read (c .before .before .before .before .before) .numbers)
 fine-at c = let k = c .before .before .before .before .before .before .before .before .before .before .before .before .before .before .before .pre .1 .1 .1 .1 in
     let w = line-read (c .before .before .before .before .before) in
     entry-fine _ _ _ (k .lines) _ (w .numbers) (sym (c .before .before .judge-entry .ensures (k .lines) (w .numbers) (k .count-is) (k .rows) (w .held)) ∙ c .enum-told2 .given .1)

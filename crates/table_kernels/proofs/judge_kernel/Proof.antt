@@ -1,13 +1,21 @@
 -- `table_kernels::judge_kernel` meets its contract. Assumes nothing.
 use Rattle.table_lines.proofs.HeldLaws.{held-count, held-largest, held-at, held-last}
+use Rattle.table_lines.specs.Line.{allAtMost}
+use Rattle.table_lines.specs.Block.{judge, Held}
+use Rattle.items.specs.Layout.{lengthAt}
+use Rattle.leftcorner.specs.Table.{KernelLine}
+use Rattle.range.specs.Range.{within}
 use Rattle.range.proofs.RangeLaws.{within-true}
-use lib.Dec.{leb}
-use mathlib.Core.Bool.{true, false}
+use Rattle.table_kernels.specs.Kernels.{judgeWith}
+use Rattle.table_kernels.specs.Memory.{Marked}
+use lib.Dec.{leb, ltb}
+use mathlib.Core.Bool.{true, false, _&&_}
+use mathlib.Core.List.{List}
 use borrow.Author.Tests.{le-leb, lt-leb, le-ltb, lt-ltb, not-true, not-false}
 use mathlib.Core.Path.{_≡_, sym, ap, _∙_}
-use Prim.Native.Nat.{_-_}
+use Prim.Native.Nat.{ℕ, _≤_, _-_}
 use native.Mathlib.Omega.{arith}
-use lib.ListN.{length, getD}
+use lib.ListN.{length, getD, drop}
 use borrow.Author.Needs.{needs}
 use Rattle.table_kernels.proofs.judge_kernel.Statement.{statement}
 use Rattle.table_kernels.proofs.judge_kernel.Tie as tie
@@ -18,6 +26,37 @@ rises c = not-false _ (c .if2 .left)
 
 falls : (c : tie.Then2) → c .before .before .before .before .before .before .args .p .rising ≡ false
 falls c = not-true _ (c .if2 .taken)
+
+-- the line's form is right: what is left to judge
+formed : (c : tie.Else3) → let a = c .before .before .before .before .before .before .before .before .before .before .before .args in
+    let v = a .numbers .now in
+    let f = lengthAt (a .m .now) in
+    (l : List KernelLine) (ns : List ℕ) → Marked (a .marks .now) l → Held ns (a .p) v
+    → judgeWith (a .p .rising) (a .t) (a .states) (a .items) f l ns
+    ≡ judge true (allAtMost 65535 ns && ltb (length l) 1023)
+    (within 1 (getD v 0 0) (a .states) && (within 1 (getD v 1 0) (a .items) && (leb (getD v 2 0) (f (getD v 1 0)) && allAtMost (a .t) (drop 3 ns))))
+formed c = λ l ns m h.
+    let long : 4 ≤ length ns = omega (arith, held-count h, c .before .before .before .before .before .before .if1 .left) in
+    simp (
+      held-at h 0 (omega (arith, long)) (search needs),
+      held-at h 1 (omega (arith, long)) (search needs),
+      held-at h 2 (omega (arith, long)) (search needs),
+      le-leb 4 (length ns) long,
+      rises (c .before .before .before .before .before),
+      sym (c .before .is-second .ensures l m) ∙ c .if3 .left,
+    )
+
+-- its figures are within the limits
+limited : (c : tie.Else5) → let a = c .before .before .before .before .before .before .before .before .before .before .before .before .before .before .args in
+    let v = a .numbers .now in
+    let f = lengthAt (a .m .now) in
+    (l : List KernelLine) (ns : List ℕ) → length l ≡ a .lines → Marked (a .marks .now) l → Held ns (a .p) v
+    → judgeWith (a .p .rising) (a .t) (a .states) (a .items) f l ns
+    ≡ judge true true
+    (within 1 (getD v 0 0) (a .states) && (within 1 (getD v 1 0) (a .items) && (leb (getD v 2 0) (f (getD v 1 0)) && allAtMost (a .t) (drop 3 ns))))
+limited c = λ l ns q m h.
+    formed (c .before .before .before) l ns m h
+    ∙ simp (sym (held-largest h 65535) ∙ le-leb _ _ (c .before .if4 .left), lt-ltb (length l) 1023 (omega (arith, q, c .if5 .left)))
 
 returns : tie.Need-returns
 returns c = λ l ns q m h. simp (lt-leb 4 (length ns) (omega (arith, held-count h, c .if1 .taken)))
@@ -38,13 +77,24 @@ is-second-requires : tie.Need-is-second-requires
 is-second-requires c κs = search needs
 
 returns-3 : tie.Need-returns-3
-returns-3 c = λ l ns q m h. simp (held-at h 0 (omega (arith, held-count h, c .before .before .before .before .before .before .if1 .left)) (search needs), held-at h 1 (omega (arith, held-count h, c .before .before .before .before .before .before .if1 .left)) (search needs), held-at h 2 (omega (arith, held-count h, c .before .before .before .before .before .before .if1 .left)) (search needs), le-leb 4 (length ns) (omega (arith, held-count h, c .before .before .before .before .before .before .if1 .left)), rises (c .before .before .before .before .before), sym (c .before .is-second .ensures l m) ∙ c .if3 .taken)
+returns-3 c = λ l ns q m h.
+    let long : 4 ≤ length ns = omega (arith, held-count h, c .before .before .before .before .before .before .if1 .left) in
+    simp (
+      held-at h 0 (omega (arith, long)) (search needs),
+      held-at h 1 (omega (arith, long)) (search needs),
+      held-at h 2 (omega (arith, long)) (search needs),
+      le-leb 4 (length ns) long,
+      rises (c .before .before .before .before .before),
+      sym (c .before .is-second .ensures l m) ∙ c .if3 .taken,
+    )
 
 returns-4 : tie.Need-returns-4
-returns-4 c = λ l ns q m h. simp (held-at h 0 (omega (arith, held-count h, c .before .before .before .before .before .before .before .before .if1 .left)) (search needs), held-at h 1 (omega (arith, held-count h, c .before .before .before .before .before .before .before .before .if1 .left)) (search needs), held-at h 2 (omega (arith, held-count h, c .before .before .before .before .before .before .before .before .if1 .left)) (search needs), le-leb 4 (length ns) (omega (arith, held-count h, c .before .before .before .before .before .before .before .before .if1 .left)), rises (c .before .before .before .before .before .before .before), sym (c .before .before .before .is-second .ensures l m) ∙ c .before .before .if3 .left, sym (held-largest h 65535) ∙ lt-leb _ _ (c .if4 .taken))
+returns-4 c = λ l ns q m h. sym (formed (c .before .before) l ns m h ∙ simp (sym (held-largest h 65535) ∙ lt-leb _ _ (c .if4 .taken)))
 
 returns-5 : tie.Need-returns-5
-returns-5 c = λ l ns q m h. simp (held-at h 0 (omega (arith, held-count h, c .before .before .before .before .before .before .before .before .before .if1 .left)) (search needs), held-at h 1 (omega (arith, held-count h, c .before .before .before .before .before .before .before .before .before .if1 .left)) (search needs), held-at h 2 (omega (arith, held-count h, c .before .before .before .before .before .before .before .before .before .if1 .left)) (search needs), le-leb 4 (length ns) (omega (arith, held-count h, c .before .before .before .before .before .before .before .before .before .if1 .left)), rises (c .before .before .before .before .before .before .before .before), sym (c .before .before .before .before .is-second .ensures l m) ∙ c .before .before .before .if3 .left, sym (held-largest h 65535) ∙ le-leb _ _ (c .before .if4 .left), le-ltb (length l) 1023 (omega (arith, q, c .if5 .taken)))
+returns-5 c = λ l ns q m h.
+    sym (formed (c .before .before .before) l ns m h
+    ∙ simp (sym (held-largest h 65535) ∙ le-leb _ _ (c .before .if4 .left), le-ltb (length l) 1023 (omega (arith, q, c .if5 .taken))))
 
 shared-slice-read-in-range : tie.Need-shared-slice-read-in-range
 shared-slice-read-in-range c = search needs
@@ -53,25 +103,66 @@ in-range-requires : tie.Need-in-range-requires
 in-range-requires c κs = search needs
 
 returns-6 : tie.Need-returns-6
-returns-6 c = λ l ns q m h. simp (held-at h 0 (omega (arith, held-count h, c .before .before .before .before .before .before .before .before .before .before .before .before .if1 .left)) (search needs), held-at h 1 (omega (arith, held-count h, c .before .before .before .before .before .before .before .before .before .before .before .before .if1 .left)) (search needs), held-at h 2 (omega (arith, held-count h, c .before .before .before .before .before .before .before .before .before .before .before .before .if1 .left)) (search needs), le-leb 4 (length ns) (omega (arith, held-count h, c .before .before .before .before .before .before .before .before .before .before .before .before .if1 .left)), rises (c .before .before .before .before .before .before .before .before .before .before .before), sym (c .before .before .before .before .before .before .before .is-second .ensures l m) ∙ c .before .before .before .before .before .before .if3 .left, sym (held-largest h 65535) ∙ le-leb _ _ (c .before .before .before .before .if4 .left), lt-ltb (length l) 1023 (omega (arith, q, c .before .before .before .if5 .left)), sym (c .before .in-range .ensures) ∙ not-true _ (c .if6 .taken))
+returns-6 c = λ l ns q m h. sym (limited (c .before .before .before) l ns q m h ∙ simp (sym (c .before .in-range .ensures) ∙ not-true _ (c .if6 .taken)))
 
 in-range-requires-2 : tie.Need-in-range-requires-2
 in-range-requires-2 c κs = search needs
 
 returns-7 : tie.Need-returns-7
-returns-7 c = λ l ns q m h. simp (held-at h 0 (omega (arith, held-count h, c .before .before .before .before .before .before .before .before .before .before .before .before .before .before .if1 .left)) (search needs), held-at h 1 (omega (arith, held-count h, c .before .before .before .before .before .before .before .before .before .before .before .before .before .before .if1 .left)) (search needs), held-at h 2 (omega (arith, held-count h, c .before .before .before .before .before .before .before .before .before .before .before .before .before .before .if1 .left)) (search needs), le-leb 4 (length ns) (omega (arith, held-count h, c .before .before .before .before .before .before .before .before .before .before .before .before .before .before .if1 .left)), rises (c .before .before .before .before .before .before .before .before .before .before .before .before .before), sym (c .before .before .before .before .before .before .before .before .before .is-second .ensures l m) ∙ c .before .before .before .before .before .before .before .before .if3 .left, sym (held-largest h 65535) ∙ le-leb _ _ (c .before .before .before .before .before .before .if4 .left), lt-ltb (length l) 1023 (omega (arith, q, c .before .before .before .before .before .if5 .left)), sym (c .before .before .before .in-range .ensures) ∙ not-false _ (c .before .before .if6 .left), sym (c .before .in-range2 .ensures) ∙ not-true _ (c .if7 .taken))
+returns-7 c = λ l ns q m h.
+    let state = c .before .before in
+    sym (limited (state .before .before .before) l ns q m h
+    ∙ simp (sym (state .before .in-range .ensures) ∙ not-false _ (state .if6 .left), sym (c .before .in-range2 .ensures) ∙ not-true _ (c .if7 .taken)))
 
 length-of-requires : tie.Need-length-of-requires
 length-of-requires c κs = (c .before .before .before .before .before .before .before .before .before .before .before .before .before .before .before .before .before .before .before .pre .1, omega (arith, within-true _ _ _ (sym (c .before .in-range2 .ensures) ∙ not-false _ (c .if7 .left))))
 
 returns-8 : tie.Need-returns-8
-returns-8 c = λ l ns q m h. simp (held-at h 0 (omega (arith, held-count h, c .before .before .before .before .before .before .before .before .before .before .before .before .before .before .before .before .if1 .left)) (search needs), held-at h 1 (omega (arith, held-count h, c .before .before .before .before .before .before .before .before .before .before .before .before .before .before .before .before .if1 .left)) (search needs), held-at h 2 (omega (arith, held-count h, c .before .before .before .before .before .before .before .before .before .before .before .before .before .before .before .before .if1 .left)) (search needs), le-leb 4 (length ns) (omega (arith, held-count h, c .before .before .before .before .before .before .before .before .before .before .before .before .before .before .before .before .if1 .left)), rises (c .before .before .before .before .before .before .before .before .before .before .before .before .before .before .before), sym (c .before .before .before .before .before .before .before .before .before .before .before .is-second .ensures l m) ∙ c .before .before .before .before .before .before .before .before .before .before .if3 .left, sym (held-largest h 65535) ∙ le-leb _ _ (c .before .before .before .before .before .before .before .before .if4 .left), lt-ltb (length l) 1023 (omega (arith, q, c .before .before .before .before .before .before .before .if5 .left)), sym (c .before .before .before .before .before .in-range .ensures) ∙ not-false _ (c .before .before .before .before .if6 .left), sym (c .before .before .before .in-range2 .ensures) ∙ not-false _ (c .before .before .if7 .left), ap (leb (getD (c .before .before .before .before .before .before .before .before .before .before .before .before .before .before .before .before .before .before .before .before .before .args .numbers .now) 2 0)) (sym (c .before .length-of .ensures .0)) ∙ lt-leb _ _ (c .if8 .taken))
+returns-8 c = λ l ns q m h.
+    let item = c .before .before in
+    let state = item .before .before in
+    let v = c .before .before .before .before .before .before .before .before .before .before .before .before .before .before .before .before .before .before .before .before .before .args .numbers .now in
+    sym (limited (state .before .before .before) l ns q m h
+    ∙ simp (
+      sym (state .before .in-range .ensures) ∙ not-false _ (state .if6 .left),
+      sym (item .before .in-range2 .ensures) ∙ not-false _ (item .if7 .left),
+      ap (leb (getD v 2 0)) (sym (c .before .length-of .ensures .0)) ∙ lt-leb _ _ (c .if8 .taken),
+    ))
+
+is-lookahead-requires : tie.Need-is-lookahead-requires
+is-lookahead-requires c κs = search needs
 
 returns-9 : tie.Need-returns-9
-returns-9 c = λ l ns q m h. simp (held-at h 0 (omega (arith, held-count h, c .before .before .before .before .before .before .before .before .before .before .before .before .before .before .before .before .before .before .if1 .left)) (search needs), held-at h 1 (omega (arith, held-count h, c .before .before .before .before .before .before .before .before .before .before .before .before .before .before .before .before .before .before .if1 .left)) (search needs), held-at h 2 (omega (arith, held-count h, c .before .before .before .before .before .before .before .before .before .before .before .before .before .before .before .before .before .before .if1 .left)) (search needs), le-leb 4 (length ns) (omega (arith, held-count h, c .before .before .before .before .before .before .before .before .before .before .before .before .before .before .before .before .before .before .if1 .left)), rises (c .before .before .before .before .before .before .before .before .before .before .before .before .before .before .before .before .before), sym (c .before .before .before .before .before .before .before .before .before .before .before .before .before .is-second .ensures l m) ∙ c .before .before .before .before .before .before .before .before .before .before .before .before .if3 .left, sym (held-largest h 65535) ∙ le-leb _ _ (c .before .before .before .before .before .before .before .before .before .before .if4 .left), lt-ltb (length l) 1023 (omega (arith, q, c .before .before .before .before .before .before .before .before .before .if5 .left)), sym (c .before .before .before .before .before .before .before .in-range .ensures) ∙ not-false _ (c .before .before .before .before .before .before .if6 .left), sym (c .before .before .before .before .before .in-range2 .ensures) ∙ not-false _ (c .before .before .before .before .if7 .left), ap (leb (getD (c .before .before .before .before .before .before .before .before .before .before .before .before .before .before .before .before .before .before .before .before .before .before .before .args .numbers .now) 2 0)) (sym (c .before .before .before .length-of .ensures .0)) ∙ le-leb _ _ (c .before .before .if8 .left), sym (held-last h (omega (arith, held-count h, c .before .before .before .before .before .before .before .before .before .before .before .before .before .before .before .before .before .before .if1 .left)) (rises (c .before .before .before .before .before .before .before .before .before .before .before .before .before .before .before .before .before)) (sym (held-largest h 65535) ∙ le-leb _ _ (c .before .before .before .before .before .before .before .before .before .before .if4 .left)) _) ∙ lt-leb _ _ (c .if9 .taken))
+returns-9 c = λ l ns q m h.
+    let dot = c .before .before in
+    let item = dot .before .before in
+    let state = item .before .before in
+    let first = state .before .before .before .before .before .before .before .before .before .before .before .before in
+    let v = first .before .before .before .before .before .args .numbers .now in
+    let low = sym (held-largest h 65535) ∙ le-leb _ _ (state .before .before .before .before .if4 .left) in
+    sym (limited (state .before .before .before) l ns q m h
+    ∙ simp (
+      sym (state .before .in-range .ensures) ∙ not-false _ (state .if6 .left),
+      sym (item .before .in-range2 .ensures) ∙ not-false _ (item .if7 .left),
+      ap (leb (getD v 2 0)) (sym (dot .before .length-of .ensures .0)) ∙ le-leb _ _ (dot .if8 .left),
+      sym (held-last h (omega (arith, held-count h, first .if1 .left)) (rises (state .before .before .before .before .before .before .before .before .before .before .before)) low _) ∙ (sym (c .before .is-lookahead .ensures) ∙ not-true _ (c .if9 .taken)),
+    ))
 
 returns-10 : tie.Need-returns-10
-returns-10 c = λ l ns q m h. simp (held-at h 0 (omega (arith, held-count h, c .before .before .before .before .before .before .before .before .before .before .before .before .before .before .before .before .before .before .if1 .left)) (search needs), held-at h 1 (omega (arith, held-count h, c .before .before .before .before .before .before .before .before .before .before .before .before .before .before .before .before .before .before .if1 .left)) (search needs), held-at h 2 (omega (arith, held-count h, c .before .before .before .before .before .before .before .before .before .before .before .before .before .before .before .before .before .before .if1 .left)) (search needs), le-leb 4 (length ns) (omega (arith, held-count h, c .before .before .before .before .before .before .before .before .before .before .before .before .before .before .before .before .before .before .if1 .left)), rises (c .before .before .before .before .before .before .before .before .before .before .before .before .before .before .before .before .before), sym (c .before .before .before .before .before .before .before .before .before .before .before .before .before .is-second .ensures l m) ∙ c .before .before .before .before .before .before .before .before .before .before .before .before .if3 .left, sym (held-largest h 65535) ∙ le-leb _ _ (c .before .before .before .before .before .before .before .before .before .before .if4 .left), lt-ltb (length l) 1023 (omega (arith, q, c .before .before .before .before .before .before .before .before .before .if5 .left)), sym (c .before .before .before .before .before .before .before .in-range .ensures) ∙ not-false _ (c .before .before .before .before .before .before .if6 .left), sym (c .before .before .before .before .before .in-range2 .ensures) ∙ not-false _ (c .before .before .before .before .if7 .left), ap (leb (getD (c .before .before .before .before .before .before .before .before .before .before .before .before .before .before .before .before .before .before .before .before .before .before .before .args .numbers .now) 2 0)) (sym (c .before .before .before .length-of .ensures .0)) ∙ le-leb _ _ (c .before .before .if8 .left), sym (held-last h (omega (arith, held-count h, c .before .before .before .before .before .before .before .before .before .before .before .before .before .before .before .before .before .before .if1 .left)) (rises (c .before .before .before .before .before .before .before .before .before .before .before .before .before .before .before .before .before)) (sym (held-largest h 65535) ∙ le-leb _ _ (c .before .before .before .before .before .before .before .before .before .before .if4 .left)) _) ∙ le-leb _ _ (c .if9 .left))
+returns-10 c = λ l ns q m h.
+    let dot = c .before .before in
+    let item = dot .before .before in
+    let state = item .before .before in
+    let first = state .before .before .before .before .before .before .before .before .before .before .before .before in
+    let v = first .before .before .before .before .before .args .numbers .now in
+    let low = sym (held-largest h 65535) ∙ le-leb _ _ (state .before .before .before .before .if4 .left) in
+    sym (limited (state .before .before .before) l ns q m h
+    ∙ simp (
+      sym (state .before .in-range .ensures) ∙ not-false _ (state .if6 .left),
+      sym (item .before .in-range2 .ensures) ∙ not-false _ (item .if7 .left),
+      ap (leb (getD v 2 0)) (sym (dot .before .length-of .ensures .0)) ∙ le-leb _ _ (dot .if8 .left),
+      sym (held-last h (omega (arith, held-count h, first .if1 .left)) (rises (state .before .before .before .before .before .before .before .before .before .before .before)) low _) ∙ (sym (c .before .is-lookahead .ensures) ∙ not-false _ (c .if9 .left)),
+    ))
 
 pub judge-kernel-spec : {M : Type 1} → statement M
 judge-kernel-spec =
@@ -93,5 +184,6 @@ judge-kernel-spec =
     returns-7
     length-of-requires
     returns-8
+    is-lookahead-requires
     returns-9
     returns-10)

@@ -21,8 +21,9 @@ line-read c = let r = c .before .before .before .before in
     whole-read _ (replicate 67 0) (r .read-line .last .1 .1 .0) (sym (c .before .letter .given .1) ∙ r .read-line .ensures .0) (r .read-line .ensures .1) (search needs)
 
 -- it is fine after the lines that memory holds
-fine-at : (c : tie.After-enum-told2) → let a = c .before .before .before .before .before .before .before .before .before .before .before .before .before .before .before .before .before .args in
-    KernelFine (a .t) (a .states) (a .items) (lengthAt (now (a .m))) (c .before .before .before .before .before .before .before .before .before .before .before .before .before .before .before .before .before .pre .1 .1 .lines) (line-read (c .before .before .before .before .before .before) .numbers)
+fine-at : (c : tie.After-enum-told2) → let s = c .before .before .before .before .before .before .before .before .before .before .before .before .before .before .before .before .before in
+    let a = s .args in
+    KernelFine (a .t) (a .states) (a .items) (lengthAt (now (a .m))) (s .pre .1 .1 .lines) (line-read (c .before .before .before .before .before .before) .numbers)
 fine-at c = let k = c .before .before .before .before .before .before .before .before .before .before .before .before .before .before .before .before .before .pre .1 .1 in
     let w = line-read (c .before .before .before .before .before .before) in
     with-fine _ _ _ _ _ (k .lines) (w .numbers) (sym (c .before .before .judge-kernel .ensures (k .lines) (w .numbers) (k .count-is) (k .marked) (w .held)) ∙ c .enum-told2 .given .1) (w .held .rises)
@@ -121,7 +122,7 @@ add-put : tie.Need-add-put
 add-put c = record { fits = omega (arith, low-at (c .before .before .before .before .before .before .before .before .before .before) .1, low-at (c .before .before .before .before .before .before .before .before .before .before) .2) }
 
 add-put-2 : tie.Need-add-put-2
-add-put-2 c = record { fits = omega (arith, low-at (c .before .before .before .before .before .before .before .before .before .before) .1, low-at (c .before .before .before .before .before .before .before .before .before .before) .2, low-at (c .before .before .before .before .before .before .before .before .before .before) .3) }
+add-put-2 c = let w = low-at (c .before .before .before .before .before .before .before .before .before .before) in record { fits = omega (arith, w .1, w .2, w .3) }
 
 put-requires : tie.Need-put-requires
 put-requires c κs = search needs
