@@ -138,7 +138,9 @@ module _ {items kernels entries uses nul fst from : List ℕ} {rules lines codes
       → Adds (GroupsAsk items kernels entries uses nul fst from rules lines codes i start) fs₀ fs
   groups-all {fs = fs} {a = a} {j = j} h l = adds-all (h .adding) (λ y o. go y (o .group) (o .begins) (o .asks) (decLt (o .group) j))
     where
-      go : (y m : ℕ) → groupBegin items i m < lengthAt items i → GroupAsks items kernels entries nul fst from rules lines codes i (groupBegin items i (suc m)) (getD uses (i * 16 + m) 0) start y → Dec (m < j) → On fs y
+      go : (y m : ℕ) → groupBegin items i m < lengthAt items i
+          → GroupAsks items kernels entries nul fst from rules lines codes i (groupBegin items i (suc m)) (getD uses (i * 16 + m) 0) start y
+          → Dec (m < j) → On fs y
       go y m u o (yes v) = h .passed m v y o
       go y m u o (no v) = absurd (omega (arith, u, h .at, group-order items i (markAt items i) j m (omega arith)))
 
@@ -157,11 +159,15 @@ module _ {items kernels kinds values gotos entries uses nul fst from : List ℕ}
       → Adds (ItemAsks items kernels kinds values gotos entries uses nul fst from rules lines codes p i k start) fs₀ fs′
   item-groups l e b = adds-map up down (adds-then a b)
     where
-      up : (y : ℕ) → MoveAsks items kernels kinds values gotos from lines codes p i k start y ⊎ GroupsAsk items kernels entries uses nul fst from rules lines codes i start y → ItemAsks items kernels kinds values gotos entries uses nul fst from rules lines codes p i k start y
+      up : (y : ℕ) → MoveAsks items kernels kinds values gotos from lines codes p i k start y
+          ⊎ GroupsAsk items kernels entries uses nul fst from rules lines codes i start y
+          → ItemAsks items kernels kinds values gotos entries uses nul fst from rules lines codes p i k start y
       up y (inl h) = by-move h
       up y (inr h) = by-group l e h
 
-      down : (y : ℕ) → ItemAsks items kernels kinds values gotos entries uses nul fst from rules lines codes p i k start y → MoveAsks items kernels kinds values gotos from lines codes p i k start y ⊎ GroupsAsk items kernels entries uses nul fst from rules lines codes i start y
+      down : (y : ℕ) → ItemAsks items kernels kinds values gotos entries uses nul fst from rules lines codes p i k start y
+          → MoveAsks items kernels kinds values gotos from lines codes p i k start y
+          ⊎ GroupsAsk items kernels entries uses nul fst from rules lines codes i start y
       down y (by-move h) = inl h
       down y (by-group l e h) = inr h
 
@@ -186,14 +192,20 @@ module _ {items kernels lookaheads kinds values gotos entries uses nul fst prese
       → Adds (StateAsks items kernels lookaheads kinds values gotos entries uses nul fst present follow rules lines codes p) fs fs″
   state-all a b = adds-map up down (adds-then a b)
     where
-      up : (y : ℕ) → OfLine (KernelAsks items kernels lookaheads kinds values gotos entries uses nul fst rules lines codes p) kernels lines p y ⊎ RulesAsk items kernels kinds values gotos entries uses nul fst present follow rules lines codes p y → StateAsks items kernels lookaheads kinds values gotos entries uses nul fst present follow rules lines codes p y
+      up : (y : ℕ) → OfLine (KernelAsks items kernels lookaheads kinds values gotos entries uses nul fst rules lines codes p) kernels lines p y
+          ⊎ RulesAsk items kernels kinds values gotos entries uses nul fst present follow rules lines codes p y
+          → StateAsks items kernels lookaheads kinds values gotos entries uses nul fst present follow rules lines codes p y
       up y (inl h) = record { item = itemAt kernels (h .line); dot = dotAt kernels (h .line); from = lookaheads; start = h .line * 64; row = rows.of-line (h .line) (h .within) (h .state); asks = h .holds }
       up y (inr h) = record { item = h .rule; dot = 0; from = follow; start = (leftAt items (h .rule) - 64) * 64; row = rows.of-rule (h .rule) (h .above) (h .below) (h .here); asks = h .asks }
 
       go : {i k start : ℕ} {from : List ℕ} (y : ℕ) → RowOf items kernels lookaheads present follow rules lines p i k from start
-          → ItemAsks items kernels kinds values gotos entries uses nul fst from rules lines codes p i k start y → OfLine (KernelAsks items kernels lookaheads kinds values gotos entries uses nul fst rules lines codes p) kernels lines p y ⊎ RulesAsk items kernels kinds values gotos entries uses nul fst present follow rules lines codes p y
+          → ItemAsks items kernels kinds values gotos entries uses nul fst from rules lines codes p i k start y
+          → OfLine (KernelAsks items kernels lookaheads kinds values gotos entries uses nul fst rules lines codes p) kernels lines p y
+          ⊎ RulesAsk items kernels kinds values gotos entries uses nul fst present follow rules lines codes p y
       go y (rows.of-line l low e) h = inl (record { line = l; within = low; state = e; holds = h })
       go y (rows.of-rule i u v pr) h = inr (record { rule = i; above = u; below = v; here = pr; asks = h })
 
-      down : (y : ℕ) → StateAsks items kernels lookaheads kinds values gotos entries uses nul fst present follow rules lines codes p y → OfLine (KernelAsks items kernels lookaheads kinds values gotos entries uses nul fst rules lines codes p) kernels lines p y ⊎ RulesAsk items kernels kinds values gotos entries uses nul fst present follow rules lines codes p y
+      down : (y : ℕ) → StateAsks items kernels lookaheads kinds values gotos entries uses nul fst present follow rules lines codes p y
+          → OfLine (KernelAsks items kernels lookaheads kinds values gotos entries uses nul fst rules lines codes p) kernels lines p y
+          ⊎ RulesAsk items kernels kinds values gotos entries uses nul fst present follow rules lines codes p y
       down y h = go y (h .row) (h .asks)

@@ -37,8 +37,12 @@ loop-less : tie.Need-loop-less Inv-loop μ-loop
 loop-less c = search needs
 
 loop-again : tie.Need-loop-again Inv-loop μ-loop
-loop-again c = let a = c .before .before .before .loop .inv .1 in
-    (omega arith, ⊎-elim (λ w. row-set _ _ _ _ (w .1) (omega (arith, a .long)) (set-on (w .0 .taken)) a) (λ w. row-skip _ _ _ _ (w .1) (w .0 .left) a) (c .if1 .came))
+loop-again c =
+    let a = c .before .before .before .loop .inv .1 in (
+      omega arith,
+      ⊎-elim (λ w. row-set _ _ _ _ (w .1) (omega (arith, a .long)) (set-on (w .0 .taken)) a)
+          (λ w. row-skip _ _ _ _ (w .1) (w .0 .left) a) (c .if1 .came),
+    )
 
 same-length : tie.Need-same-length Inv-loop μ-loop
 same-length c = search needs

@@ -30,18 +30,31 @@ abbrev μ-passes : tie.MeasureT-passes
 μ-passes m rules nullable first₀ first = zeros first
 
 passes-holds : tie.Need-passes-holds Inv-rules μ-rules Inv-passes μ-passes
-passes-holds c = let a = c .before .before .before .args in
-    (c .before .before .before .pre .1 .1, row-seed (a .m .now) (a .rules) (On (a .nullable .now)), λ y on. on)
+passes-holds c =
+    let start = c .before .before .before in
+    let a = start .args in
+    (start .pre .1 .1, row-seed (a .m .now) (a .rules) (On (a .nullable .now)), λ y on. on)
 
 rules-holds : tie.Need-rules-holds Inv-rules μ-rules Inv-passes μ-passes
 rules-holds c = let a = c .before .before .before .before .args in
     (omega arith, omega arith, pass-start _ (c .passes .inv .0) (row-seed (a .m .now) (a .rules) (On (a .nullable .now))) (λ _ j l m. absurd (no-gap l m)))
 
 merge-symbols-requires : tie.Need-merge-symbols-requires Inv-rules μ-rules Inv-passes μ-passes
-merge-symbols-requires c κs = (c .before .before .before .before .before .before .before .pre .0, ((c .before .before .rules .inv .0, omega arith), (c .before .before .before .before .before .before .before .pre .1 .0, c .before .before .rules .inv .2 .long)))
+merge-symbols-requires c κs =
+    let at-rules = c .before .before in
+    let start = at-rules .before .before .before .before .before in
+    (start .pre .0, ((at-rules .rules .inv .0, omega arith), (start .pre .1 .0, at-rules .rules .inv .2 .long)))
 
 add-added : tie.Need-add-added Inv-rules μ-rules Inv-passes μ-passes
-add-added c = omega (arith, c .before .before .merge-symbols .ensures .count, c .before .before .before .before .before .rules .inv .2 .count, zeros-le (c .before .before .before .before .before .before .passes .first), c .before .before .before .before .before .before .passes .inv .0)
+add-added c =
+    let at-rules = c .before .before .before .before .before in
+    omega (
+      arith,
+      c .before .before .merge-symbols .ensures .count,
+      at-rules .rules .inv .2 .count,
+      zeros-le (at-rules .before .passes .first),
+      at-rules .before .passes .inv .0,
+    )
 
 add-i : tie.Need-add-i Inv-rules μ-rules Inv-passes μ-passes
 add-i c = search needs
@@ -50,31 +63,42 @@ rules-less : tie.Need-rules-less Inv-rules μ-rules Inv-passes μ-passes
 rules-less c = search needs
 
 rules-again : tie.Need-rules-again Inv-rules μ-rules Inv-passes μ-passes
-rules-again c = let a = c .before .before .before .before .before .before .before .before .before .before .args in
-    let p = c .before .before .before .before .before .rules .inv .2 in (
+rules-again c =
+    let at-rules = c .before .before .before .before .before in
+    let a = at-rules .before .before .before .before .before .args in
+    let p = at-rules .rules .inv .2 in (
       omega arith,
       omega arith,
-      pass-call _ _ _ refl refl p (c .before .before .merge-symbols .ensures) (row-join (a .m .now) (a .rules) (On (a .nullable .now)) (p .only))
-          (λ d met. from-more _ 1 (c .before .before .before .before .before .rules .i) d met),
+      pass-call _ _ _ refl refl p (c .before .before .merge-symbols .ensures)
+          (row-join (a .m .now) (a .rules) (On (a .nullable .now)) (p .only))
+          (λ d met. from-more _ 1 (at-rules .rules .i) d met),
     )
 
 passes-less : tie.Need-passes-less Inv-rules μ-rules Inv-passes μ-passes
 passes-less c = omega (arith, c .before .before .rules .inv .2 .count, c .if1 .left)
 
 passes-again : tie.Need-passes-again Inv-rules μ-rules Inv-passes μ-passes
-passes-again c = let a = c .before .before .before .before .before .before .before .args in
-    let p = c .before .before .rules .inv .2 in
-    let o = c .before .before .before .passes .inv in
-    (p .long, λ y on. row-join (a .m .now) (a .rules) (On (a .nullable .now)) (o .1) y (p .only y on), λ y on. p .kept y (o .2 y on))
+passes-again c =
+    let at-rules = c .before .before in
+    let a = at-rules .before .before .before .before .before .args in
+    let p = at-rules .rules .inv .2 in
+    let o = at-rules .before .passes .inv in (
+      p .long,
+      λ y on. row-join (a .m .now) (a .rules) (On (a .nullable .now)) (o .1) y (p .only y on),
+      λ y on. p .kept y (o .2 y on),
+    )
 
 same-length : tie.Need-same-length Inv-rules μ-rules Inv-passes μ-passes
 same-length c = omega (arith, c .before .before .rules .inv .2 .long, c .before .before .before .before .before .before .before .pre .1 .1)
 
 returns : tie.Need-returns Inv-rules μ-rules Inv-passes μ-passes
-returns c = let a = c .before .before .before .before .before .before .before .args in
-    let p = c .before .before .rules .inv .2 in
-    let o = c .before .before .before .passes .inv in
-    row-marks (a .m .now) (a .rules) (On (a .nullable .now)) (λ y on. row-join (a .m .now) (a .rules) (On (a .nullable .now)) (o .1) y (p .only y on))
+returns c =
+    let at-rules = c .before .before in
+    let a = at-rules .before .before .before .before .before .args in
+    let p = at-rules .rules .inv .2 in
+    let o = at-rules .before .passes .inv in
+    row-marks (a .m .now) (a .rules) (On (a .nullable .now))
+    (λ y on. row-join (a .m .now) (a .rules) (On (a .nullable .now)) (o .1) y (p .only y on))
     (λ y on. p .kept y (o .2 y on)) (λ i r. p .closed (c .if1 .taken) i (r .0) (omega (arith, r .1)))
 
 pub close-first-spec : {M : Type 1} → statement M

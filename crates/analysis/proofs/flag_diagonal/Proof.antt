@@ -43,10 +43,12 @@ loop-less : tie.Need-loop-less Inv-loop μ-loop
 loop-less c = search needs
 
 loop-again : tie.Need-loop-again Inv-loop μ-loop
-loop-again c = let fs = c .before .loop .first in
-    let x = c .before .loop .c in
-    let t = c .before .before .args .t in
-    let i = c .before .loop .inv in
+loop-again c =
+    let at-loop = c .before in
+    let fs = at-loop .loop .first in
+    let x = at-loop .loop .c in
+    let t = at-loop .before .args .t in
+    let i = at-loop .loop .inv in
     let l : cell x x < length fs = omega arith in (
       omega arith,
       omega arith,

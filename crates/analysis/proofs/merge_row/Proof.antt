@@ -61,7 +61,9 @@ slice-write-flags : tie.Need-slice-write-flags Inv-loop μ-loop
 slice-write-flags c = search needs
 
 add-added : tie.Need-add-added Inv-loop μ-loop
-add-added c = omega (arith, c .before .before .before .before .before .loop .inv .1 .count, zeros-le (c .before .before .before .before .before .before .args .flags .now), c .before .before .before .before .before .before .pre .0)
+add-added c =
+    let at-loop = c .before .before .before .before .before in
+    omega (arith, at-loop .loop .inv .1 .count, zeros-le (at-loop .before .args .flags .now), at-loop .before .pre .0)
 
 add-c : tie.Need-add-c Inv-loop μ-loop
 add-c c = search needs
@@ -70,16 +72,18 @@ loop-less : tie.Need-loop-less Inv-loop μ-loop
 loop-less c = search needs
 
 loop-again : tie.Need-loop-again Inv-loop μ-loop
-loop-again c = let p = c .before .before .before .loop .inv .1 in
-    let k = c .before .before .before .loop .c in
-    let from = c .before .before .before .before .args .from in
-    let to = c .before .before .before .before .args .to in (
+loop-again c =
+    let at-loop = c .before .before .before in
+    let start = at-loop .before in
+    let p = at-loop .loop .inv .1 in
+    let k = at-loop .loop .c in
+    let from = start .args .from in
+    let to = start .args .to in (
       omega arith,
-      ⊎-elim
-          (λ w. pass-add _ _ (cell to k) (w .3) (w .4) p (omega arith) (w .2 .taken)
-          (copy k (omega arith) (own-row (c .before .before .before .before .args .flags .now) from to k (cell from k) (omega arith) refl (p .only (cell from k) (set-on (w .0 .taken))))))
-          (⊎-elim
-          (λ w. pass-more _ _ (w .3) (w .4) p (λ d. below-more _ k d (λ on. set-on (w .2 .left))))
+      ⊎-elim (λ w.
+          pass-add _ _ (cell to k) (w .3) (w .4) p (omega arith) (w .2 .taken) (copy k (omega arith)
+          (own-row (start .args .flags .now) from to k (cell from k) (omega arith) refl (p .only (cell from k) (set-on (w .0 .taken))))))
+          (⊎-elim (λ w. pass-more _ _ (w .3) (w .4) p (λ d. below-more _ k d (λ on. set-on (w .2 .left))))
           (λ w. pass-more _ _ (w .1) (w .2) p (λ d. below-more _ k d (λ on. not-off on refl (w .0 .left)))))
           (c .if1 .came),
     )

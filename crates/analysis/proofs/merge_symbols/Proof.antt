@@ -31,31 +31,58 @@ length-of-requires : tie.Need-length-of-requires Inv-loop μ-loop
 length-of-requires c κs = search needs
 
 loop-holds : tie.Need-loop-holds Inv-loop μ-loop
-loop-holds c = (omega arith, c .length-of .ensures .0, below-none _, pass-start _ (c .before .before .before .before .before .pre .1 .1 .1) (row-seed (c .before .before .before .before .before .args .m .now) (c .before .before .before .before .before .args .rules) (On (c .before .before .before .before .before .args .nullable .now))) (λ _. below-none _))
+loop-holds c =
+    let start = c .before .before .before .before .before in (
+      omega arith,
+      c .length-of .ensures .0,
+      below-none _,
+      pass-start _ (start .pre .1 .1 .1) (row-seed (start .args .m .now) (start .args .rules) (On (start .args .nullable .now))) (λ _. below-none _),
+    )
 
 symbol-of-requires : tie.Need-symbol-of-requires Inv-loop μ-loop
 symbol-of-requires c κs = search needs
 
 merge-row-requires : tie.Need-merge-row-requires Inv-loop μ-loop
-merge-row-requires c κs = (c .before .before .before .loop .inv .3 .long, (c .before .symbol-of .ensures .1, c .before .before .before .before .before .left-of .ensures .1))
+merge-row-requires c κs =
+    let at-loop = c .before .before .before in
+    (at-loop .loop .inv .3 .long, (c .before .symbol-of .ensures .1, at-loop .before .before .left-of .ensures .1))
 
 add-added : tie.Need-add-added Inv-loop μ-loop
-add-added c = omega (arith, c .before .before .merge-row .ensures .count, c .before .before .before .before .before .before .loop .inv .3 .count, zeros-le (c .before .before .before .before .before .before .before .before .before .before .before .before .args .first .now), c .before .before .before .before .before .before .before .before .before .before .before .before .pre .1 .1 .1)
+add-added c =
+    let at-loop = c .before .before .before .before .before .before in
+    let start = at-loop .before .before .before .before .before .before in
+    omega (
+      arith,
+      c .before .before .merge-row .ensures .count,
+      at-loop .loop .inv .3 .count,
+      zeros-le (start .args .first .now),
+      start .pre .1 .1 .1,
+    )
 
 shared-slice-read-if1 : tie.Need-shared-slice-read-if1 Inv-loop μ-loop
 shared-slice-read-if1 c = search needs
 
 same-length : tie.Need-same-length Inv-loop μ-loop
-same-length c = omega (arith, c .before .before .before .before .merge-row .ensures .long, c .before .before .before .before .before .before .before .before .before .before .before .before .before .before .pre .1 .1 .1)
+same-length c =
+    let at-merge-row = c .before .before .before .before in
+    omega (
+      arith,
+      at-merge-row .merge-row .ensures .long,
+      at-merge-row .before .before .before .before .before .before .before .before .before .before .pre .1 .1 .1,
+    )
 
 returns : tie.Need-returns Inv-loop μ-loop
-returns c = let a = c .before .before .before .before .before .before .before .before .before .before .before .before .before .before .args in
-    let s = c .before .before .before .before .before .before .symbol-of .ensures .0 in
-    let l = c .before .before .before .before .before .before .before .before .before .before .left-of .ensures .0 in
-    let i = c .before .before .before .before .before .before .before .before .loop .inv in
-    pass-call _ _ _ refl refl (i .3) (c .before .before .before .before .merge-row .ensures)
-    (row-fired (a .m .now) (a .rules) (On (a .nullable .now)) (i .3 .only) (a .i) (c .before .before .before .before .before .before .before .before .loop .k) (c .before .before .before .before .before .before .before .before .before .before .before .before .before .before .pre .1 .0) (omega arith) (i .2) s l)
-    (λ d inc. met-at (a .m .now) (a .nullable .now) _ (a .i) (c .before .before .before .before .before .before .before .before .loop .k) d (includes-at s l inc) (off-at (a .nullable .now) s (c .if1 .taken)))
+returns c =
+    let at-merge-row = c .before .before .before .before in
+    let at-loop = at-merge-row .before .before .before .before in
+    let start = at-loop .before .before .before .before .before .before in
+    let a = start .args in
+    let s = at-merge-row .before .before .symbol-of .ensures .0 in
+    let l = at-loop .before .before .left-of .ensures .0 in
+    let i = at-loop .loop .inv in
+    pass-call _ _ _ refl refl (i .3) (at-merge-row .merge-row .ensures)
+    (row-fired (a .m .now) (a .rules) (On (a .nullable .now)) (i .3 .only) (a .i) (at-loop .loop .k) (start .pre .1 .0) (omega arith) (i .2) s l)
+    (λ d inc. met-at (a .m .now) (a .nullable .now) _ (a .i) (at-loop .loop .k) d (includes-at s l inc) (off-at (a .nullable .now) s (c .if1 .taken)))
 
 add-k : tie.Need-add-k Inv-loop μ-loop
 add-k c = search needs
@@ -64,16 +91,20 @@ loop-less : tie.Need-loop-less Inv-loop μ-loop
 loop-less c = search needs
 
 loop-again : tie.Need-loop-again Inv-loop μ-loop
-loop-again c = let a = c .before .before .before .before .before .before .before .before .before .before .before .before .before .before .args in
-    let s = c .before .before .before .before .before .before .symbol-of .ensures .0 in
-    let l = c .before .before .before .before .before .before .before .before .before .before .left-of .ensures .0 in
-    let i = c .before .before .before .before .before .before .before .before .loop .inv in (
+loop-again c =
+    let at-merge-row = c .before .before .before .before in
+    let at-loop = at-merge-row .before .before .before .before in
+    let start = at-loop .before .before .before .before .before .before in
+    let a = start .args in
+    let s = at-merge-row .before .before .symbol-of .ensures .0 in
+    let l = at-loop .before .before .left-of .ensures .0 in
+    let i = at-loop .loop .inv in (
       omega arith,
       i .1,
       below-more _ _ (i .2) (on-at s (set-on (c .if1 .left))),
-      pass-call _ _ _ refl refl (i .3) (c .before .before .before .before .merge-row .ensures)
-          (row-fired (a .m .now) (a .rules) (On (a .nullable .now)) (i .3 .only) (a .i) (c .before .before .before .before .before .before .before .before .loop .k) (c .before .before .before .before .before .before .before .before .before .before .before .before .before .before .pre .1 .0) (omega arith) (i .2) s l)
-          (λ d inc. below-more _ (c .before .before .before .before .before .before .before .before .loop .k) d (includes-at s l inc)),
+      pass-call _ _ _ refl refl (i .3) (at-merge-row .merge-row .ensures) (row-fired (a .m .now) (a .rules)
+          (On (a .nullable .now)) (i .3 .only) (a .i) (at-loop .loop .k) (start .pre .1 .0) (omega arith) (i .2) s l)
+          (λ d inc. below-more _ (at-loop .loop .k) d (includes-at s l inc)),
     )
 
 same-length-2 : tie.Need-same-length-2 Inv-loop μ-loop

@@ -29,16 +29,28 @@ mul-add-codes : tie.Need-mul-add-codes Inv-loop μ-loop
 mul-add-codes c = search needs
 
 add-codes-requires : tie.Need-add-codes-requires Inv-loop μ-loop
-add-codes-requires c κs = (omega (arith, c .before .symbol-of .ensures .1, c .before .before .before .before .before .before .before .before .before .pre .1 .1 .0 .1, c .before .before .before .before .before .before .before .before .before .pre .1 .0 .1), omega (arith, c .before .before .before .loop .inv .2 .long, c .before .before .before .before .before .before .before .before .before .pre .1 .1 .1))
+add-codes-requires c κs =
+    let at-loop = c .before .before .before in
+    let start = at-loop .before .before .before .before .before .before in (
+      omega (arith, c .before .symbol-of .ensures .1, start .pre .1 .1 .0 .1, start .pre .1 .0 .1),
+      omega (arith, at-loop .loop .inv .2 .long, start .pre .1 .1 .1),
+    )
 
 shared-slice-read-if1 : tie.Need-shared-slice-read-if1 Inv-loop μ-loop
 shared-slice-read-if1 c = search needs
 
 same-length : tie.Need-same-length Inv-loop μ-loop
-same-length c = c .before .before .before .before .add-codes .ensures .long ∙ c .before .before .before .before .before .before .before .before .loop .inv .2 .long
+same-length c =
+    let at-add-codes = c .before .before .before .before in
+    at-add-codes .add-codes .ensures .long ∙ at-add-codes .before .before .before .before .loop .inv .2 .long
 
 returns : tie.Need-returns Inv-loop μ-loop
-returns c = dot-stop _ _ _ _ _ _ _ _ _ (omega (arith, c .before .before .before .before .before .before .before .before .loop .inv .0)) (c .before .before .before .before .before .before .symbol-of .ensures .0) (c .before .before .before .before .before .before .before .before .loop .inv .2) (c .before .before .before .before .add-codes .ensures) (c .if1 .taken)
+returns c =
+    let at-add-codes = c .before .before .before .before in
+    let at-loop = at-add-codes .before .before .before .before in
+    dot-stop _ _ _ _ _ _ _ _ _ (omega (arith, at-loop .loop .inv .0))
+    (at-add-codes .before .before .symbol-of .ensures .0) (at-loop .loop .inv .2) (at-add-codes .add-codes .ensures)
+    (c .if1 .taken)
 
 add-j : tie.Need-add-j Inv-loop μ-loop
 add-j c = search needs
@@ -47,7 +59,15 @@ loop-less : tie.Need-loop-less Inv-loop μ-loop
 loop-less c = search needs
 
 loop-again : tie.Need-loop-again Inv-loop μ-loop
-loop-again c = (c .before .before .before .before .before .before .before .before .loop .inv .0, c .before .before .before .before .before .before .before .before .loop .inv .1, dot-more _ _ _ _ _ _ _ _ _ (omega (arith, c .before .before .before .before .before .before .before .before .loop .inv .0)) (c .before .before .before .before .before .before .symbol-of .ensures .0) (c .before .before .before .before .before .before .before .before .loop .inv .2) (c .before .before .before .before .add-codes .ensures) (set-on (c .if1 .left)))
+loop-again c =
+    let at-add-codes = c .before .before .before .before in
+    let at-loop = at-add-codes .before .before .before .before in (
+      at-loop .loop .inv .0,
+      at-loop .loop .inv .1,
+      dot-more _ _ _ _ _ _ _ _ _ (omega (arith, at-loop .loop .inv .0))
+          (at-add-codes .before .before .symbol-of .ensures .0) (at-loop .loop .inv .2)
+          (at-add-codes .add-codes .ensures) (set-on (c .if1 .left)),
+    )
 
 same-length-2 : tie.Need-same-length-2 Inv-loop μ-loop
 same-length-2 c = c .before .loop .inv .2 .long

@@ -17,11 +17,15 @@ abbrev μ-loop : tie.MeasureT-loop
 μ-loop s a b i₀ j₀ o₀ i j o = length s - i
 
 -- both digits stand in the book
-inside : (c : tie.After-order-with Inv-loop μ-loop) → let n = length (now (c .before .before .before .before .before .before .before .before .before .args .s)) in (c .before .before .before .before .before .loop .i < n) × (c .before .before .before .before .before .loop .j < n)
-inside c = (
-  digit-in _ _ (c .before .before .before .before .digit-at .ensures) (c .before .before .if1 .left),
-  digit-in _ _ (c .before .before .before .digit-at2 .ensures) (c .before .if2 .left),
-)
+inside :
+    (c : tie.After-order-with Inv-loop μ-loop)
+    → let n = length (now (c .before .before .before .before .before .before .before .before .before .args .s)) in
+    (c .before .before .before .before .before .loop .i < n) × (c .before .before .before .before .before .loop .j < n)
+inside c =
+    let at-if1 = c .before .before in (
+      digit-in _ _ (at-if1 .before .before .digit-at .ensures) (at-if1 .if1 .left),
+      digit-in _ _ (at-if1 .before .digit-at2 .ensures) (c .before .if2 .left),
+    )
 
 skip-zeros-requires : tie.Need-skip-zeros-requires Inv-loop μ-loop
 skip-zeros-requires c κs = search needs
@@ -42,10 +46,17 @@ ends-below-requires : tie.Need-ends-below-requires Inv-loop μ-loop
 ends-below-requires c κs = search needs
 
 returns : tie.Need-returns Inv-loop μ-loop
-returns c = c .ends-below .ensures ∙ met-ended (c .before .before .before .before .loop .inv) (c .before .before .before .digit-at .ensures) (c .before .before .digit-at2 .ensures) (c .before .if1 .taken)
+returns c =
+    let at-digit-at2 = c .before .before in
+    c .ends-below .ensures
+    ∙ met-ended (at-digit-at2 .before .before .loop .inv) (at-digit-at2 .before .digit-at .ensures)
+    (at-digit-at2 .digit-at2 .ensures) (c .before .if1 .taken)
 
 returns-2 : tie.Need-returns-2 Inv-loop μ-loop
-returns-2 c = met-longer (c .before .before .before .before .loop .inv) (c .before .before .before .digit-at .ensures) (c .before .before .digit-at2 .ensures) (c .before .if1 .left) (c .if2 .taken)
+returns-2 c =
+    let at-digit-at2 = c .before .before in
+    met-longer (at-digit-at2 .before .before .loop .inv) (at-digit-at2 .before .digit-at .ensures)
+    (at-digit-at2 .digit-at2 .ensures) (c .before .if1 .left) (c .if2 .taken)
 
 order-with-requires : tie.Need-order-with-requires Inv-loop μ-loop
 order-with-requires c κs = search needs
@@ -61,8 +72,10 @@ loop-less c = omega (arith, inside c .0)
 
 loop-again : tie.Need-loop-again Inv-loop μ-loop
 loop-again c =
-    rw (c .order-with .ensures)
-    (met-more (c .before .before .before .before .before .loop .inv) (c .before .before .before .before .digit-at .ensures) (c .before .before .before .digit-at2 .ensures) (c .before .before .if1 .left) (c .before .if2 .left))
+    let at-if1 = c .before .before in
+    rw (c .order-with .ensures) (met-more (at-if1 .before .before .before .loop .inv)
+    (at-if1 .before .before .digit-at .ensures) (at-if1 .before .digit-at2 .ensures) (at-if1 .if1 .left)
+    (c .before .if2 .left))
 
 pub is-below-spec : {M : Type 1} → statement M
 is-below-spec =

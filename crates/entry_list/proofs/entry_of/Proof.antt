@@ -24,10 +24,17 @@ add-same-part : tie.Need-add-same-part Inv-loop μ-loop
 add-same-part c = search needs
 
 same-part-requires : tie.Need-same-part-requires Inv-loop μ-loop
-same-part-requires c κs = let s = c .before .before .before in (s .pre .0, (omega (arith, s .pre .1 .0), omega arith, s .pre .1 .3))
+same-part-requires c κs =
+    let start = c .before .before .before in
+    (start .pre .0, (omega (arith, start .pre .1 .0), omega arith, start .pre .1 .3))
 
 returns : tie.Need-returns Inv-loop μ-loop
-returns c = record { low = omega arith; none = λ z. absurd (omega (arith, z, c .before .before .before .loop .inv .0)); some = λ f. c .before .same-part .ensures .yes (c .if1 .taken) }
+returns c =
+    record {
+      low = omega arith;
+      none = λ z. absurd (omega (arith, z, c .before .before .before .loop .inv .0));
+      some = λ f. c .before .same-part .ensures .yes (c .if1 .taken);
+    }
 
 add-k : tie.Need-add-k Inv-loop μ-loop
 add-k c = search needs
@@ -36,7 +43,9 @@ loop-less : tie.Need-loop-less Inv-loop μ-loop
 loop-less c = search needs
 
 loop-again : tie.Need-loop-again Inv-loop μ-loop
-loop-again c = let o = c .before .before .before .loop in (omega arith, omega arith, from-more _ 1 (o .k) (o .inv .2) (c .before .same-part .ensures .no (c .if1 .left)))
+loop-again c =
+    let o = c .before .before .before .loop in
+    (omega arith, omega arith, from-more _ 1 (o .k) (o .inv .2) (c .before .same-part .ensures .no (c .if1 .left)))
 
 returns-2 : tie.Need-returns-2 Inv-loop μ-loop
 returns-2 c = record { low = omega arith; none = λ z m a b. c .before .loop .inv .2 m a (omega (arith, b)); some = λ f. absurd (f refl) }

@@ -15,7 +15,16 @@ use Rattle.entry_list.proofs.fill_rule.Statement.{statement}
 use Rattle.entry_list.proofs.fill_rule.Tie as tie
 
 abbrev Inv-loop : tie.InvT-loop
-Inv-loop items rules strings i uses₀ wanted₀ count length₁ from₀ j₀ uses wanted from j = (j ≤ from) × (length uses ≡ 2048) × (length wanted ≡ 128) × (length₁ ≡ lengthAt items i) × ((g : Grammar) (t : Table) (r : Rule) → HoldsStrings g t items rules strings → ruleAt g i ≡ some r → ((n : ℕ) → n < 16 → getD uses₀ (i * 16 + n) 0 ≡ 0) → Filling g t i r uses₀ uses wanted₀ wanted from j)
+Inv-loop items rules strings i uses₀ wanted₀ count length₁ from₀ j₀ uses wanted from j =
+    (j ≤ from)
+    × (length uses ≡ 2048)
+    × (length wanted ≡ 128)
+    × (length₁ ≡ lengthAt items i)
+    × ((g : Grammar) (t : Table) (r : Rule)
+    → HoldsStrings g t items rules strings
+    → ruleAt g i ≡ some r
+    → ((n : ℕ) → n < 16 → getD uses₀ (i * 16 + n) 0 ≡ 0)
+    → Filling g t i r uses₀ uses wanted₀ wanted from j)
 
 abbrev μ-loop : tie.MeasureT-loop
 μ-loop items rules strings i uses₀ wanted₀ count length₁ from₀ j₀ uses wanted from j = length₁ - from
@@ -30,7 +39,14 @@ mark-of-requires : tie.Need-mark-of-requires Inv-loop μ-loop
 mark-of-requires c κs = search needs
 
 loop-holds : tie.Need-loop-holds Inv-loop μ-loop
-loop-holds c = let s = c .before .before .before .before .before in (omega arith, s .pre .1 .1 .0, s .pre .1 .1 .1, c .before .length-of .ensures .0, λ g t r S e z. filling-start g t S _ r e (c .mark-of .ensures .0) z)
+loop-holds c =
+    let start = c .before .before .before .before .before in (
+      omega arith,
+      start .pre .1 .1 .0,
+      start .pre .1 .1 .1,
+      c .before .length-of .ensures .0,
+      λ g t r S e z. filling-start g t S _ r e (c .mark-of .ensures .0) z,
+    )
 
 group-end-requires : tie.Need-group-end-requires Inv-loop μ-loop
 group-end-requires c κs = search needs
@@ -48,12 +64,21 @@ same-length-2 : tie.Need-same-length-2 Inv-loop μ-loop
 same-length-2 c = search needs
 
 returns : tie.Need-returns Inv-loop μ-loop
-returns c = let o = c .before .before .before .before .loop in
-    let s = c .before .before .before .before .before .before .before .before .before .before in
-    let h = c .before .before .group-end .ensures in (
-      (o .inv .1, o .inv .2, range-group (s .pre .1 .0 .0) (s .pre .1 .0 .1) (h .past) (omega (arith, h .within, c .before .before .before .before .before .before .length-of .ensures))),
-      λ g t r S e z. filling-fails g t S _ r e (o .inv .4 g t r S e z) (omega (arith, c .before .before .before .loop-test .taken, o .inv .3)) h
-          (c .before .entry-of .ensures) (c .if1 .taken),
+returns c =
+    let at-group-end = c .before .before in
+    let at-loop = at-group-end .before .before in
+    let start = at-loop .before .before .before .before .before .before in
+    let o = at-loop .loop in
+    let h = at-group-end .group-end .ensures in (
+      (
+        o .inv .1,
+        o .inv .2,
+        range-group (start .pre .1 .0 .0) (start .pre .1 .0 .1) (h .past) (omega (arith, h .within, at-loop .before .before .length-of .ensures)),
+      ),
+      λ g t r S e z.
+          filling-fails g t S _ r e (o .inv .4 g t r S e z)
+          (omega (arith, at-group-end .before .loop-test .taken, o .inv .3)) h (c .before .entry-of .ensures)
+          (c .if1 .taken),
     )
 
 cast-uses : tie.Need-cast-uses Inv-loop μ-loop
@@ -78,17 +103,22 @@ loop-less : tie.Need-loop-less Inv-loop μ-loop
 loop-less c = search needs
 
 loop-again : tie.Need-loop-again Inv-loop μ-loop
-loop-again c = let o = c .before .before .before .before .loop in
-    let s = c .before .before .before .before .before .before .before .before .before .before in
-    let l = c .before .before .before .loop-test .taken in
-    let q = c .before .before .before .before .before .before .length-of .ensures .1 in
+loop-again c =
+    let at-group-end = c .before .before in
+    let at-loop = at-group-end .before .before in
+    let start = at-loop .before .before .before .before .before .before in
+    let o = at-loop .loop in
+    let l = at-group-end .before .loop-test .taken in
+    let q = at-loop .before .before .length-of .ensures .1 in
     let x = c .before .entry-of .ensures in (
-      omega (arith, c .before .before .group-end .ensures .past),
+      omega (arith, at-group-end .group-end .ensures .past),
       simp length-set (o .inv .1),
       simp length-set (o .inv .2),
       o .inv .3,
-      λ g t r S e z. filling-more g t S _ r e (o .inv .4 g t r S e z) (omega (arith, l, o .inv .3)) (c .before .before .group-end .ensures) x (c .if1 .left)
-          (omega (arith, o .inv .0, l, q)) (omega (arith, s .pre .1 .0)) (o .inv .1) (o .inv .2) (omega (arith, x .low, s .pre .1 .0)) refl refl,
+      λ g t r S e z.
+          filling-more g t S _ r e (o .inv .4 g t r S e z) (omega (arith, l, o .inv .3))
+          (at-group-end .group-end .ensures) x (c .if1 .left) (omega (arith, o .inv .0, l, q))
+          (omega (arith, start .pre .1 .0)) (o .inv .1) (o .inv .2) (omega (arith, x .low, start .pre .1 .0)) refl refl,
     )
 
 same-length-3 : tie.Need-same-length-3 Inv-loop μ-loop

@@ -13,13 +13,23 @@ use Rattle.entry_list.proofs.fill_rules.Statement.{statement}
 use Rattle.entry_list.proofs.fill_rules.Tie as tie
 
 abbrev Inv-loop : tie.InvT-loop
-Inv-loop items rules strings uses₀ wanted₀ i₀ uses wanted i = (1 ≤ i) × (i ≤ rules + 1) × (length uses ≡ 2048) × (length wanted ≡ 128) × ((g : Grammar) (t : Table) → HoldsStrings g t items rules strings → ((x : ℕ) → getD uses₀ x 0 ≡ 0) → Filled g t i uses wanted₀ wanted)
+Inv-loop items rules strings uses₀ wanted₀ i₀ uses wanted i =
+    (1 ≤ i)
+    × (i ≤ rules + 1)
+    × (length uses ≡ 2048)
+    × (length wanted ≡ 128)
+    × ((g : Grammar) (t : Table)
+    → HoldsStrings g t items rules strings
+    → ((x : ℕ) → getD uses₀ x 0 ≡ 0)
+    → Filled g t i uses wanted₀ wanted)
 
 abbrev μ-loop : tie.MeasureT-loop
 μ-loop items rules strings uses₀ wanted₀ i₀ uses wanted i = rules + 1 - i
 
 loop-holds : tie.Need-loop-holds Inv-loop μ-loop
-loop-holds c = let s = c .before .before .before in (omega arith, omega arith, s .pre .1 .1 .0, s .pre .1 .1 .1, λ g t S z. filled-start g t S z)
+loop-holds c =
+    let start = c .before .before .before in
+    (omega arith, omega arith, start .pre .1 .1 .0, start .pre .1 .1 .1, λ g t S z. filled-start g t S z)
 
 fill-rule-requires : tie.Need-fill-rule-requires Inv-loop μ-loop
 fill-rule-requires c κs = search needs
@@ -34,11 +44,15 @@ same-length-2 : tie.Need-same-length-2 Inv-loop μ-loop
 same-length-2 c = search needs
 
 returns : tie.Need-returns Inv-loop μ-loop
-returns c = let o = c .before .before .before .before .before .before .before .before .before .loop in
-    let f = c .before .before .before .before .before .fill-rule in (
+returns c =
+    let at-fill-rule = c .before .before .before .before .before in
+    let at-loop-test = at-fill-rule .before .before .before in
+    let o = at-loop-test .before .loop in
+    let f = at-fill-rule .fill-rule in (
       f .ensures .0,
-      λ g t S z. filled-fails g t S (o .inv .0) (c .before .before .before .before .before .before .before .before .loop-test .taken) (o .inv .4 g t S z) (λ r h zr. f .ensures .1 g t r S h zr)
-          (is-named (f .result) (c .match .keys2)),
+      λ g t S z.
+          filled-fails g t S (o .inv .0) (at-loop-test .loop-test .taken) (o .inv .4 g t S z)
+          (λ r h zr. f .ensures .1 g t r S h zr) (is-named (f .result) (c .match .keys2)),
     )
 
 add-i : tie.Need-add-i Inv-loop μ-loop
@@ -48,13 +62,18 @@ loop-less : tie.Need-loop-less Inv-loop μ-loop
 loop-less c = search needs
 
 loop-again : tie.Need-loop-again Inv-loop μ-loop
-loop-again c = let o = c .before .before .before .before .before .before .before .before .before .before .loop in
-    let f = c .before .before .before .before .before .before .fill-rule .ensures in (
+loop-again c =
+    let at-fill-rule = c .before .before .before .before .before .before in
+    let at-loop-test = at-fill-rule .before .before .before in
+    let o = at-loop-test .before .loop in
+    let f = at-fill-rule .fill-rule .ensures in (
       omega arith,
       omega arith,
       f .0 .0,
       f .0 .1,
-      λ g t S z. filled-more g t S (o .inv .0) (c .before .before .before .before .before .before .before .before .before .loop-test .taken) (o .inv .4 g t S z) (λ r h zr. f .1 g t r S h zr) (c .enum-told .given .1),
+      λ g t S z.
+          filled-more g t S (o .inv .0) (at-loop-test .loop-test .taken) (o .inv .4 g t S z)
+          (λ r h zr. f .1 g t r S h zr) (c .enum-told .given .1),
     )
 
 same-length-3 : tie.Need-same-length-3 Inv-loop μ-loop

@@ -29,7 +29,14 @@ slice-aggregate-fill-rules : tie.Need-slice-aggregate-fill-rules
 slice-aggregate-fill-rules c = search needs
 
 fill-rules-requires : tie.Need-fill-rules-requires
-fill-rules-requires c κs = let s = c .before .before .before .before .before .before in (s .pre .0, ((s .pre .1 .0 .0, s .pre .1 .0 .2), (ap length (s .pre .1 .1) ∙ length-replicate {A = ℕ} 2048 0, refl)))
+fill-rules-requires c κs =
+    let start = c .before .before .before .before .before .before in (
+      start .pre .0,
+      (
+        (start .pre .1 .0 .0, start .pre .1 .0 .2),
+        (ap length (start .pre .1 .1) ∙ length-replicate {A = ℕ} 2048 0, refl),
+      ),
+    )
 
 enum-told : tie.Need-enum-told
 enum-told c = search needs
@@ -38,10 +45,14 @@ same-length : tie.Need-same-length
 same-length c = search needs
 
 returns-2 : tie.Need-returns-2
-returns-2 c = let f = c .before .before .before .before .fill-rules in (
-  (f .ensures .0 .0, f .ensures .0 .2),
-  λ g t S e. still (f .result) (is-named (f .result) (c .match .keys2)) (f .ensures .1 g t S (zeros-of 2048 (c .before .before .before .before .before .before .before .before .before .before .before .pre .1 .1))),
-)
+returns-2 c =
+    let at-fill-rules = c .before .before .before .before in
+    let f = at-fill-rules .fill-rules in (
+      (f .ensures .0 .0, f .ensures .0 .2),
+      λ g t S e.
+          still (f .result) (is-named (f .result) (c .match .keys2))
+          (f .ensures .1 g t S (zeros-of 2048 (at-fill-rules .before .before .before .before .before .before .before .pre .1 .1))),
+    )
 
 slice-aggregate-lowest-unset : tie.Need-slice-aggregate-lowest-unset
 slice-aggregate-lowest-unset c = search needs
@@ -63,15 +74,21 @@ same-length-2 c = search needs
 
 returns-3 : tie.Need-returns-3
 returns-3 c =
-    let f = c .before .before .before .before .before .before .before .before .before .before .fill-rules .ensures in
-    let s = c .before .before .before .before .before .before .before .before .before .before .before .before .before .before .before .before .before in
-    let u = c .before .before .before .lowest-unset in
+    let at-lowest-unset = c .before .before .before in
+    let at-fill-rules = at-lowest-unset .before .before .before .before .before .before .before in
+    let at-if1 = at-fill-rules .before .before .before in
+    let start = at-if1 .before .before .before .before in
+    let f = at-fill-rules .fill-rules .ensures in
+    let u = at-lowest-unset .lowest-unset in
     let l = lowest-range _ _ _ (u .result) (u .ensures) (c .before .unwanted .given .1) in (
       (f .0 .0, range-entry (l .0) (omega (arith, l .1))),
       λ g t S e.
-          let h = c .before .before .before .before .before .before .before .before .before .before .before .before .before .before .is-goal .ensures .yes (not-false _ (c .before .before .before .before .before .before .before .before .before .before .before .before .before .if1 .left)) in
-          let F = fine (f .1 g t S (zeros-of 2048 (s .pre .1 .1))) (c .before .before .before .before .before .enum-told .given .1) in
-          record { is = entry-unwanted g t S refl (goal-entry g t S (s .pre .1 .0 .1) (h .0, h .1 ∙ sym e) .1) F _ (omega arith) (u .result) (u .ensures) (c .before .unwanted .given .1) },
+          let h = at-if1 .before .is-goal .ensures .yes (not-false _ (at-if1 .if1 .left)) in
+          let F = fine (f .1 g t S (zeros-of 2048 (start .pre .1 .1))) (at-lowest-unset .before .before .enum-told .given .1) in
+          record {
+            is = entry-unwanted g t S refl (goal-entry g t S (start .pre .1 .0 .1) (h .0, h .1 ∙ sym e) .1) F _
+                (omega arith) (u .result) (u .ensures) (c .before .unwanted .given .1);
+          },
     )
 
 same-length-3 : tie.Need-same-length-3
@@ -79,14 +96,22 @@ same-length-3 c = search needs
 
 returns-4 : tie.Need-returns-4
 returns-4 c =
-    let f = c .before .before .before .before .before .before .before .before .before .fill-rules .ensures in
-    let s = c .before .before .before .before .before .before .before .before .before .before .before .before .before .before .before .before in
+    let at-enum-told = c .before .before .before .before in
+    let at-fill-rules = at-enum-told .before .before .before .before .before in
+    let at-if1 = at-fill-rules .before .before .before in
+    let start = at-if1 .before .before .before .before in
+    let f = at-fill-rules .fill-rules .ensures in
     let u = c .before .before .lowest-unset in (
       (f .0 .0, range-none),
       λ g t S e.
-          let h = c .before .before .before .before .before .before .before .before .before .before .before .before .before .is-goal .ensures .yes (not-false _ (c .before .before .before .before .before .before .before .before .before .before .before .before .if1 .left)) in
-          let F = fine (f .1 g t S (zeros-of 2048 (s .pre .1 .1))) (c .before .before .before .before .enum-told .given .1) in
-          record { is = (entries-hold g t S refl (s .pre .1 .0 .1) (h .0, h .1 ∙ sym e) F _ (omega arith) (u .result) (u .ensures) (c .enum-told2 .given .1), uses-hold g t S F) },
+          let h = at-if1 .before .is-goal .ensures .yes (not-false _ (at-if1 .if1 .left)) in
+          let F = fine (f .1 g t S (zeros-of 2048 (start .pre .1 .1))) (at-enum-told .enum-told .given .1) in
+          record {
+            is = (
+              entries-hold g t S refl (start .pre .1 .0 .1) (h .0, h .1 ∙ sym e) F _ (omega arith) (u .result) (u .ensures) (c .enum-told2 .given .1),
+              uses-hold g t S F,
+            );
+          },
     )
 
 pub find-entry-fault-spec : {M : Type 1} → statement M

@@ -25,7 +25,15 @@ start-of-requires : tie.Need-start-of-requires Inv-loop μ-loop
 start-of-requires c κs = search needs
 
 returns : tie.Need-returns Inv-loop μ-loop
-returns c = let o = c .before .before .before .loop in record { past = o .inv .0; within = omega (arith, c .before .before .before .before .before .pre .1 .2); inside = o .inv .2; edge = λ l z. c .if1 .taken (c .before .start-of .ensures .0 ∙ z) }
+returns c =
+    let at-loop = c .before .before .before in
+    let o = at-loop .loop in
+    record {
+      past = o .inv .0;
+      within = omega (arith, at-loop .before .before .pre .1 .2);
+      inside = o .inv .2;
+      edge = λ l z. c .if1 .taken (c .before .start-of .ensures .0 ∙ z);
+    }
 
 add-k-2 : tie.Need-add-k-2 Inv-loop μ-loop
 add-k-2 c = search needs
@@ -34,10 +42,21 @@ loop-less : tie.Need-loop-less Inv-loop μ-loop
 loop-less c = search needs
 
 loop-again : tie.Need-loop-again Inv-loop μ-loop
-loop-again c = let o = c .before .before .before .loop in (omega arith, omega arith, from-more _ _ (o .k) (o .inv .2) (sym (c .before .start-of .ensures .0) ∙ c .if1 .left))
+loop-again c =
+    let o = c .before .before .before .loop in
+    (omega arith, omega arith, from-more _ _ (o .k) (o .inv .2) (sym (c .before .start-of .ensures .0) ∙ c .if1 .left))
 
 returns-2 : tie.Need-returns-2 Inv-loop μ-loop
-returns-2 c = let o = c .before .loop in let e = c .before .before .before .pre .1 .2 in record { past = c .before .before .before .pre .1 .1; within = omega (arith, e); inside = λ m a b. o .inv .2 m a (omega (arith, b)); edge = λ l z. omega (arith, l, e) }
+returns-2 c =
+    let start = c .before .before .before in
+    let o = c .before .loop in
+    let e = start .pre .1 .2 in
+    record {
+      past = start .pre .1 .1;
+      within = omega (arith, e);
+      inside = λ m a b. o .inv .2 m a (omega (arith, b));
+      edge = λ l z. omega (arith, l, e);
+    }
 
 pub group-end-spec : {M : Type 1} → statement M
 group-end-spec =

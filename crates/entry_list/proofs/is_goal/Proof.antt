@@ -18,7 +18,11 @@ returns-2 : tie.Need-returns-2
 returns-2 c = is-no _ (λ h. c .if2 .taken (c .before .symbol-of .ensures .0 ∙ h .1))
 
 returns-3 : tie.Need-returns-3
-returns-3 c = is-yes _ (sym (c .before .before .before .length-of .ensures .0) ∙ c .before .before .if1 .left, sym (c .before .symbol-of .ensures .0) ∙ c .if2 .left)
+returns-3 c =
+    is-yes _ (
+      sym (c .before .before .before .length-of .ensures .0) ∙ c .before .before .if1 .left,
+      sym (c .before .symbol-of .ensures .0) ∙ c .if2 .left,
+    )
 
 pub is-goal-spec : {M : Type 1} → statement M
 is-goal-spec =

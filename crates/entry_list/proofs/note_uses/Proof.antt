@@ -13,18 +13,22 @@ slice-aggregate-fill-rules c = search needs
 
 fill-rules-requires : tie.Need-fill-rules-requires
 fill-rules-requires c κs =
-    let s = c .before .before .before .before in
-    (s .pre .0, ((s .pre .1 .0, s .pre .1 .1), (ap length (s .pre .1 .2) ∙ length-replicate {A = ℕ} 2048 0, refl)))
+    let start = c .before .before .before .before in (
+      start .pre .0,
+      ((start .pre .1 .0, start .pre .1 .1), (ap length (start .pre .1 .2) ∙ length-replicate {A = ℕ} 2048 0, refl)),
+    )
 
 same-length : tie.Need-same-length
 same-length c = search needs
 
 returns : tie.Need-returns
 returns c =
-    let f = c .before .before .before .fill-rules in (
+    let at-fill-rules = c .before .before .before in
+    let f = at-fill-rules .fill-rules in (
       f .ensures .0 .0,
       λ g t S M.
-          uses-hold g t S (met (f .result) (f .ensures .1 g t S (zeros-of 2048 (c .before .before .before .before .before .before .before .before .pre .1 .2))) M),
+          uses-hold g t S
+          (met (f .result) (f .ensures .1 g t S (zeros-of 2048 (at-fill-rules .before .before .before .before .before .pre .1 .2))) M),
     )
 
 pub note-uses-spec : {M : Type 1} → statement M

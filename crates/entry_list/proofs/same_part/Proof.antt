@@ -34,7 +34,11 @@ symbol-of-requires-2 : tie.Need-symbol-of-requires-2 Inv-loop μ-loop
 symbol-of-requires-2 c κs = search needs
 
 returns-2 : tie.Need-returns-2 Inv-loop μ-loop
-returns-2 c = is-no _ (λ h. c .if2 .taken (c .before .before .symbol-of .ensures .0 ∙ (h .same-symbols (c .before .before .before .before .loop .j) (omega arith) ∙ sym (c .before .symbol-of2 .ensures .0))))
+returns-2 c =
+    is-no _ (λ h.
+    c .if2 .taken (c .before .before .symbol-of .ensures .0
+    ∙ (h .same-symbols (c .before .before .before .before .loop .j) (omega arith)
+    ∙ sym (c .before .symbol-of2 .ensures .0))))
 
 add-j : tie.Need-add-j Inv-loop μ-loop
 add-j c = search needs
@@ -43,10 +47,18 @@ loop-less : tie.Need-loop-less Inv-loop μ-loop
 loop-less c = search needs
 
 loop-again : tie.Need-loop-again Inv-loop μ-loop
-loop-again c = (omega arith, below-more _ _ (c .before .before .before .before .loop .inv .1) (sym (c .before .before .symbol-of .ensures .0) ∙ (c .if2 .left ∙ c .before .symbol-of2 .ensures .0)))
+loop-again c = (
+  omega arith,
+  below-more _ _ (c .before .before .before .before .loop .inv .1)
+      (sym (c .before .before .symbol-of .ensures .0) ∙ (c .if2 .left ∙ c .before .symbol-of2 .ensures .0)),
+)
 
 returns-3 : tie.Need-returns-3 Inv-loop μ-loop
-returns-3 c = is-yes _ (record { same-length = sym (c .before .before .before .length-of .ensures .0) ∙ c .before .before .if1 .left; same-symbols = λ k l. c .before .loop .inv .1 k (omega (arith, l)) })
+returns-3 c =
+    is-yes _ (record {
+      same-length = sym (c .before .before .before .length-of .ensures .0) ∙ c .before .before .if1 .left;
+      same-symbols = λ k l. c .before .loop .inv .1 k (omega (arith, l));
+    })
 
 pub same-part-spec : {M : Type 1} → statement M
 same-part-spec =

@@ -15,8 +15,14 @@ use Rattle.entry_strings.proofs.add_groups.Tie as tie
 
 abbrev Inv-loop : tie.InvT-loop
 Inv-loop items₀ rules strings i length₁ from₀ n₀ items from n =
-    Ready items rules n × (n ≤ 128) × (length₁ ≡ lengthAt items i) × (length items ≡ length items₀)
-    × ((g : Grammar) (l : List (List ℕ)) (size : ℕ) (r : Rule) → Stored g l size items₀ rules strings → ruleAt g i ≡ some r → Joining g r l size items rules from n)
+    Ready items rules n
+    × (n ≤ 128)
+    × (length₁ ≡ lengthAt items i)
+    × (length items ≡ length items₀)
+    × ((g : Grammar) (l : List (List ℕ)) (size : ℕ) (r : Rule)
+    → Stored g l size items₀ rules strings
+    → ruleAt g i ≡ some r
+    → Joining g r l size items rules from n)
 
 abbrev μ-loop : tie.MeasureT-loop
 μ-loop items₀ rules strings i length₁ from₀ n₀ items from n = length₁ - from
@@ -34,14 +40,26 @@ mark-of-requires : tie.Need-mark-of-requires Inv-loop μ-loop
 mark-of-requires c κs = search needs
 
 loop-holds : tie.Need-loop-holds Inv-loop μ-loop
-loop-holds c = let s = c .before .before .before .before .before in
-    (s .pre .0, omega (arith, s .pre .1), c .before .before .length-of .ensures .0, refl, λ g l size r h e. joining-start (s .args .i) e h (omega (arith, s .pre .1)) (c .mark-of .ensures .0))
+loop-holds c =
+    let start = c .before .before .before .before .before in (
+      start .pre .0,
+      omega (arith, start .pre .1),
+      c .before .before .length-of .ensures .0,
+      refl,
+      λ g l size r h e. joining-start (start .args .i) e h (omega (arith, start .pre .1)) (c .mark-of .ensures .0),
+    )
 
 same-length : tie.Need-same-length Inv-loop μ-loop
 same-length c = search needs
 
 returns : tie.Need-returns Inv-loop μ-loop
-returns c = let o = c .before .before .loop in ((o .inv .0, o .inv .1), λ g l size r h e. joining-stops (c .before .before .before .before .before .before .before .before .args .i) e (o .inv .4 g l size r h e) (o .inv .1) (c .if1 .taken))
+returns c =
+    let o = c .before .before .loop in (
+      (o .inv .0, o .inv .1),
+      λ g l size r h e.
+          joining-stops (c .before .before .before .before .before .before .before .before .args .i) e
+          (o .inv .4 g l size r h e) (o .inv .1) (c .if1 .taken),
+    )
 
 add-group-end : tie.Need-add-group-end Inv-loop μ-loop
 add-group-end c = search needs
@@ -59,22 +77,33 @@ loop-less : tie.Need-loop-less Inv-loop μ-loop
 loop-less c = search needs
 
 loop-again : tie.Need-loop-again Inv-loop μ-loop
-loop-again c = let o = c .before .before .before .before .before .before .before .before .loop in
-    let s = c .before .before .before .before .before .before .before .before .before .before .before .before .before .before in
+loop-again c =
+    let at-group-end = c .before .before .before .before in
+    let at-if1 = at-group-end .before .before in
+    let start = at-if1 .before .before .before .before .before .before .before .before in
+    let o = at-if1 .before .before .loop in
     let a = c .before .before .add-part .ensures in (
       a .0 .ready,
-      omega (arith, a .0 .more, c .before .before .before .before .before .before .if1 .left),
-      o .inv .2 ∙ sym (a .0 .rows (s .args .i * 64 + 1) (omega (arith, s .pre .1))),
+      omega (arith, a .0 .more, at-if1 .if1 .left),
+      o .inv .2 ∙ sym (a .0 .rows (start .args .i * 64 + 1) (omega (arith, start .pre .1))),
       search needs,
-      λ g l size r h e. joining-more (s .args .i) e (o .inv .4 g l size r h e) (o .inv .1) (omega (arith, c .before .before .before .before .before .before .before .loop-test .taken, o .inv .2)) (c .before .before .before .before .group-end .ensures) (λ k γ. a .1 g k size γ),
+      λ g l size r h e.
+          joining-more (start .args .i) e (o .inv .4 g l size r h e) (o .inv .1)
+          (omega (arith, at-if1 .before .loop-test .taken, o .inv .2)) (at-group-end .group-end .ensures)
+          (λ k γ. a .1 g k size γ),
     )
 
 same-length-2 : tie.Need-same-length-2 Inv-loop μ-loop
 same-length-2 c = search needs
 
 returns-2 : tie.Need-returns-2 Inv-loop μ-loop
-returns-2 c = let o = c .before .loop in
-    ((o .inv .0, o .inv .1), λ g l size r h e. joining-ends (c .before .before .before .before .before .before .before .args .i) e (o .inv .4 g l size r h e) (o .inv .1) (omega (arith, o .inv .2, c .loop-test .left)))
+returns-2 c =
+    let o = c .before .loop in (
+      (o .inv .0, o .inv .1),
+      λ g l size r h e.
+          joining-ends (c .before .before .before .before .before .before .before .args .i) e (o .inv .4 g l size r h e)
+          (o .inv .1) (omega (arith, o .inv .2, c .loop-test .left)),
+    )
 
 pub add-groups-spec : {M : Type 1} → statement M
 add-groups-spec =

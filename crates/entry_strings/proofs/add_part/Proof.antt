@@ -17,7 +17,9 @@ slice-aggregate-load-part : tie.Need-slice-aggregate-load-part
 slice-aggregate-load-part c = search needs
 
 load-part-requires : tie.Need-load-part-requires
-load-part-requires c κs = let s = c .before .before .before in (s .pre .0 .shaped, ((omega (arith, s .pre .1), s .pre .1 .2), (refl, zeros-low 67)))
+load-part-requires c κs =
+    let start = c .before .before .before in
+    (start .pre .0 .shaped, ((omega (arith, start .pre .1), start .pre .1 .2), (refl, zeros-low 67)))
 
 slice-aggregate-add-string : tie.Need-slice-aggregate-add-string
 slice-aggregate-add-string c = search needs
@@ -26,19 +28,26 @@ add-add-string : tie.Need-add-add-string
 add-add-string c = search needs
 
 add-string-requires : tie.Need-add-string-requires
-add-string-requires c κs = let s = c .before .before .before .before .before .before .before in
-    let e = c .before .before .before .load-part .ensures in (s .pre .0, ((s .pre .1 .0, omega arith, omega (arith, s .pre .1), e .0 .0), e .0 .1))
+add-string-requires c κs =
+    let at-load-part = c .before .before .before in
+    let start = at-load-part .before .before .before .before in
+    let e = at-load-part .load-part .ensures in
+    (start .pre .0, ((start .pre .1 .0, omega arith, omega (arith, start .pre .1), e .0 .0), e .0 .1))
 
 same-length : tie.Need-same-length
 same-length c = search needs
 
 returns : tie.Need-returns
-returns c = let s = c .before .before .before .before .before .before .before .before .before .before in
+returns c =
+    let at-load-part = c .before .before .before .before .before .before in
+    let start = at-load-part .before .before .before .before in
     let a = c .before .before .add-string in
-    let e = c .before .before .before .before .before .before .load-part in (
+    let e = at-load-part .load-part in (
       a .ensures .0,
-      λ g l size γ h p. subst (λ (δ : List ℕ). Stored g (addString l δ) size (a .last .0) (s .args .rules) (a .result))
-          (part-string p (e .last .1 .1 .1 .1 .1 .0) (omega (arith, e .ensures .0 .0, s .pre .1)) (e .ensures .1)) (a .ensures .1 g l size h),
+      λ g l size γ h p.
+          subst (λ (δ : List ℕ). Stored g (addString l δ) size (a .last .0) (start .args .rules) (a .result))
+          (part-string p (e .last .1 .1 .1 .1 .1 .0) (omega (arith, e .ensures .0 .0, start .pre .1)) (e .ensures .1))
+          (a .ensures .1 g l size h),
     )
 
 pub add-part-spec : {M : Type 1} → statement M

@@ -21,11 +21,15 @@ same-length : tie.Need-same-length
 same-length c = search needs
 
 returns : tie.Need-returns
-returns c = let s = c .before .before .before .before .before in (
-  grown-same (s .pre .0),
-  λ g l size h. stored-same h (drop 1 (take (s .args .count) (now (s .args .numbers))))
-      (c .before .find-entry .ensures (entryLines 1 l) (take (s .args .count) (now (s .args .numbers))) (lines-count h) (rows-in h (omega (arith, s .pre .1 .0))) (held s)) (λ z. omega (arith, z, c .if1 .taken)),
-)
+returns c =
+    let at5 = c .before .before .before .before .before in (
+      grown-same (at5 .pre .0),
+      λ g l size h.
+          stored-same h (drop 1 (take (at5 .args .count) (now (at5 .args .numbers))))
+          (c .before .find-entry .ensures (entryLines 1 l) (take (at5 .args .count) (now (at5 .args .numbers)))
+          (lines-count h) (rows-in h (omega (arith, at5 .pre .1 .0))) (held at5))
+          (λ z. omega (arith, z, c .if1 .taken)),
+    )
 
 add-store-row : tie.Need-add-store-row
 add-store-row c = search needs
@@ -37,10 +41,16 @@ mul-store-row : tie.Need-mul-store-row
 mul-store-row c = search needs
 
 store-row-requires : tie.Need-store-row-requires
-store-row-requires c κs = let s = c .before .before .before .before .before .before in (
-  (s .pre .1 .0 .1, s .pre .1 .0 .2, s .pre .1 .0 .3, omega (arith, s .pre .0 .few-rules, s .pre .1 .0)),
-  ((λ k l. omega (arith, s .pre .1 .1 k)), (λ j a b. s .pre .0 .empty j a)),
-)
+store-row-requires c κs =
+    let start = c .before .before .before .before .before .before in (
+      (
+        start .pre .1 .0 .1,
+        start .pre .1 .0 .2,
+        start .pre .1 .0 .3,
+        omega (arith, start .pre .0 .few-rules, start .pre .1 .0),
+      ),
+      ((λ k l. omega (arith, start .pre .1 .1 k)), (λ j a b. start .pre .0 .empty j a)),
+    )
 
 add-result : tie.Need-add-result
 add-result c = search needs
@@ -49,13 +59,18 @@ same-length-2 : tie.Need-same-length-2
 same-length-2 c = search needs
 
 returns-2 : tie.Need-returns-2
-returns-2 c = let s = c .before .before .before .before .before .before .before .before .before in
-    let few = s .pre .1 .0 .0 in
-    let fits = string-fits (now (s .args .numbers)) (s .args .count) (s .pre .1 .1) (s .pre .1 .0 .2) in
+returns-2 c =
+    let at-if1 = c .before .before .before .before in
+    let at9 = at-if1 .before .before .before .before .before in
+    let few = at9 .pre .1 .0 .0 in
+    let fits = string-fits (now (at9 .args .numbers)) (at9 .args .count) (at9 .pre .1 .1) (at9 .pre .1 .0 .2) in
     let e = c .before .before .store-row .ensures in (
-      grown-more (s .pre .0) few fits e,
-      λ g l size h. stored-more h (drop 1 (take (s .args .count) (now (s .args .numbers))))
-          (c .before .before .before .before .before .find-entry .ensures (entryLines 1 l) (take (s .args .count) (now (s .args .numbers))) (lines-count h) (rows-in h (omega (arith, few))) (held s)) (omega (arith, c .before .before .before .before .if1 .left)) fits e,
+      grown-more (at9 .pre .0) few fits e,
+      λ g l size h.
+          stored-more h (drop 1 (take (at9 .args .count) (now (at9 .args .numbers))))
+          (at-if1 .before .find-entry .ensures (entryLines 1 l) (take (at9 .args .count) (now (at9 .args .numbers)))
+          (lines-count h) (rows-in h (omega (arith, few))) (held at9))
+          (omega (arith, at-if1 .if1 .left)) fits e,
     )
 
 pub add-string-spec : {M : Type 1} → statement M

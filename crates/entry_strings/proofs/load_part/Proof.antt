@@ -41,14 +41,17 @@ loop-less : tie.Need-loop-less Inv-loop μ-loop
 loop-less c = search needs
 
 loop-again : tie.Need-loop-again Inv-loop μ-loop
-loop-again c = let o = c .before .before .loop in
-    let a = c .before .before .before .before .before .args in
+loop-again c =
+    let start = c .before .before .before .before .before in
+    let o = c .before .before .loop in
+    let a = start .args in
     let l = c .before .loop-test .taken in
     let e = c .symbol-of .ensures in (
       omega arith,
       simp length-set (o .inv .1),
-      low-set (o .numbers) (o .k + 1) _ (omega (arith, o .inv .1, l, c .before .before .before .before .before .pre .1 .0)) (o .inv .2) (e .1),
-      part-more (o .numbers) (λ j. symbolAt (a .items .now) (a .i) (a .from + j)) (o .k) (omega (arith, o .inv .1, l, c .before .before .before .before .before .pre .1 .0)) (o .inv .3) (e .0),
+      low-set (o .numbers) (o .k + 1) _ (omega (arith, o .inv .1, l, start .pre .1 .0)) (o .inv .2) (e .1),
+      part-more (o .numbers) (λ j. symbolAt (a .items .now) (a .i) (a .from + j)) (o .k)
+          (omega (arith, o .inv .1, l, start .pre .1 .0)) (o .inv .3) (e .0),
     )
 
 same-length : tie.Need-same-length Inv-loop μ-loop

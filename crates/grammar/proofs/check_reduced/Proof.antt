@@ -20,13 +20,17 @@ returns : tie.Need-returns
 returns c =
     λ g r.
     c .refuse .ensures
-    ∙ sym (ap replyOf (reduced-unproductive g (sym (c .before .before .before .before .lowest-unproductive .ensures g (ready-holds r) (terminals-is r) (nonterminals-is r)) ∙ c .before .before .unproductive .given .1)))
+    ∙ sym (ap replyOf (reduced-unproductive g (sym
+    (c .before .before .before .before .lowest-unproductive .ensures g (ready-holds r) (terminals-is r) (nonterminals-is r))
+    ∙ c .before .before .unproductive .given .1)))
 
 enum-told : tie.Need-enum-told
 enum-told c = search needs
 
 lowest-unreachable-requires : tie.Need-lowest-unreachable-requires
-lowest-unreachable-requires c κs = (ready-shaped (c .before .before .before .before .pre .ready), (ready-ranges (c .before .before .before .before .pre .ready) .1, ready-ranges (c .before .before .before .before .pre .ready) .0 .1))
+lowest-unreachable-requires c κs =
+    let start = c .before .before .before .before in
+    (ready-shaped (start .pre .ready), (ready-ranges (start .pre .ready) .1, ready-ranges (start .pre .ready) .0 .1))
 
 enum-known-unreachable : tie.Need-enum-known-unreachable
 enum-known-unreachable c = search needs
@@ -36,23 +40,26 @@ refuse-requires-2 c κs = search needs
 
 returns-2 : tie.Need-returns-2
 returns-2 c =
+    let at-lowest-unreachable = c .before .before .before .before in
     λ g r.
     c .refuse2 .ensures
-    ∙ sym
-    (ap replyOf
-    (reduced-unreachable g (sym (c .before .before .before .before .before .before .before .lowest-unproductive .ensures g (ready-holds r) (terminals-is r) (nonterminals-is r)) ∙ c .before .before .before .before .before .enum-told .given .1)
-    (sym (c .before .before .before .before .lowest-unreachable .ensures g (ready-holds r) (goal-is r) (nonterminals-is r)) ∙ c .before .before .unreachable .given .1)))
+    ∙ sym (ap replyOf (reduced-unreachable g (sym
+    (at-lowest-unreachable .before .before .before .lowest-unproductive .ensures g (ready-holds r) (terminals-is r) (nonterminals-is r))
+    ∙ at-lowest-unreachable .before .enum-told .given .1)
+    (sym (at-lowest-unreachable .lowest-unreachable .ensures g (ready-holds r) (goal-is r) (nonterminals-is r))
+    ∙ c .before .before .unreachable .given .1)))
 
 enum-told-2 : tie.Need-enum-told-2
 enum-told-2 c = search needs
 
 returns-3 : tie.Need-returns-3
 returns-3 c =
+    let at-enum-told = c .before .before .before in
     λ g r.
     ap reply.Read (r .heading)
-    ∙ sym
-    (ap replyOf
-    (reduced-accepted g (sym (c .before .before .before .before .before .lowest-unproductive .ensures g (ready-holds r) (terminals-is r) (nonterminals-is r)) ∙ c .before .before .before .enum-told .given .1)
+    ∙ sym (ap replyOf (reduced-accepted g (sym
+    (at-enum-told .before .before .lowest-unproductive .ensures g (ready-holds r) (terminals-is r) (nonterminals-is r))
+    ∙ at-enum-told .enum-told .given .1)
     (sym (c .before .before .lowest-unreachable .ensures g (ready-holds r) (goal-is r) (nonterminals-is r)) ∙ c .enum-told2 .given .1)))
 
 pub check-reduced-spec : {M : Type 1} → statement M

@@ -32,8 +32,12 @@ same-length c = search needs
 
 returns : tie.Need-returns
 returns c =
-    let k = length (now (c .before .before .before .before .before .before .before .before .before .before .before .before .before .args .items)) in
-    let d = rejected-cleared (short-accepted _ k (c .before .before .before .before .read-into .ensures .0) (c .before .before .before .before .before .before .before .before .before .before .if1 .taken) (c .before .enum-told .given .1)) k (c .before .before .before .before .before .before .before .before .clear .ensures) in
+    let at-read-into = c .before .before .before .before in
+    let at-clear = at-read-into .before .before .before .before in
+    let at-if1 = at-clear .before .before in
+    let k = length (now (at-if1 .before .before .before .args .items)) in
+    let d = rejected-cleared (short-accepted _ k (at-read-into .read-into .ensures .0) (at-if1 .if1 .taken) (c .before .enum-told .given .1)) k
+    (at-clear .clear .ensures) in
     (c .refuse .ensures ∙ d .0, d .1)
 
 same-length-2 : tie.Need-same-length-2
@@ -41,8 +45,11 @@ same-length-2 c = search needs
 
 returns-2 : tie.Need-returns-2
 returns-2 c =
-    let k = length (now (c .before .before .before .before .before .before .before .before .before .before .before .before .before .args .items)) in
-    rejected-cleared (short-rejected _ k (c .before .before .before .before .read-into .ensures .0) (c .before .reply .given .1)) k (c .before .before .before .before .before .before .before .before .clear .ensures)
+    let at-read-into = c .before .before .before .before in
+    let at-clear = at-read-into .before .before .before .before in
+    let k = length (now (at-clear .before .before .before .before .before .args .items)) in
+    rejected-cleared (short-rejected _ k (at-read-into .read-into .ensures .0) (c .before .reply .given .1)) k
+    (at-clear .clear .ensures)
 
 read-into-requires-2 : tie.Need-read-into-requires-2
 read-into-requires-2 c κs = search needs
@@ -52,9 +59,14 @@ same-length-3 c = search needs
 
 returns-3 : tie.Need-returns-3
 returns-3 c =
-    let k = length (now (c .before .before .before .before .before .before .before .args .items)) in
-    let e = long-enough (now (c .before .before .before .before .before .before .before .args .book)) k (c .before .before .before .before .if1 .left) in
-    (c .before .before .read-into2 .ensures .0 ∙ ap replyOf (sym e), c .before .before .read-into2 .ensures .1 ∙ ap (λ (b : Book). memoryOf b k) (sym e))
+    let at-read-into2 = c .before .before in
+    let at-if1 = at-read-into2 .before .before in
+    let start = at-if1 .before .before .before in
+    let k = length (now (start .args .items)) in
+    let e = long-enough (now (start .args .book)) k (at-if1 .if1 .left) in (
+      at-read-into2 .read-into2 .ensures .0 ∙ ap replyOf (sym e),
+      at-read-into2 .read-into2 .ensures .1 ∙ ap (λ (b : Book). memoryOf b k) (sym e),
+    )
 
 pub read-grammar-spec : {M : Type 1} → statement M
 read-grammar-spec =

@@ -24,8 +24,12 @@ enum-known-first-2 c = search needs
 
 read-rules-requires : tie.Need-read-rules-requires
 read-rules-requires c κs =
-    let r = header-ranged _ _ _ (sym (c .before .before .before .before .read-header .ensures) ∙ c .before .before .first2 .given .1) in
-    ((r .t-range .1, r .n-range .1), (c .before .before .before .before .before .if1 .left, (c .before .before .before .before .before .before .before .before .pre .0, omega (arith, r .rules-range .1, c .before .before .before .before .before .before .before .before .pre .1))))
+    let at-read-header = c .before .before .before .before in
+    let start = at-read-header .before .before .before .before in
+    let r = header-ranged _ _ _ (sym (at-read-header .read-header .ensures) ∙ c .before .before .first2 .given .1) in (
+      (r .t-range .1, r .n-range .1),
+      (at-read-header .before .if1 .left, (start .pre .0, omega (arith, r .rules-range .1, start .pre .1))),
+    )
 
 enum-known-lines : tie.Need-enum-known-lines
 enum-known-lines c = search needs
@@ -41,20 +45,30 @@ same-length c = search needs
 
 returns-2 : tie.Need-returns-2
 returns-2 c =
-    rejected-told
-    (line-extra _ (c .before .before .before .before .before .before .before .before .before .before .before .before .before .if1 .left) (sym (c .before .before .before .before .before .before .before .before .before .before .before .before .read-header .ensures) ∙ c .before .before .before .before .before .before .before .before .before .before .first2 .given .1) (c .before .before .before .before .before .before .before .read-rules .ensures .0) (c .before .before .before .lines2 .given .1) (c .before .if2 .taken))
+    let at-lines2 = c .before .before .before in
+    let at-read-rules = at-lines2 .before .before .before .before in
+    let at-first2 = at-read-rules .before .before .before in
+    rejected-told (line-extra _ (at-first2 .before .before .before .if1 .left)
+    (sym (at-first2 .before .before .read-header .ensures) ∙ at-first2 .first2 .given .1)
+    (at-read-rules .read-rules .ensures .0) (at-lines2 .lines2 .given .1) (c .before .if2 .taken))
     (c .refuse2 .ensures) _ _
 
 returns-3 : tie.Need-returns-3
-returns-3 c = rejected-told (no-header _ (c .before .before .before .before .if1 .left) (sym (c .before .before .before .read-header .ensures) ∙ c .before .first .given .1)) refl _ _
+returns-3 c =
+    rejected-told
+    (no-header _ (c .before .before .before .before .if1 .left) (sym (c .before .before .before .read-header .ensures) ∙ c .before .first .given .1))
+    refl _ _
 
 same-length-2 : tie.Need-same-length-2
 same-length-2 c = search needs
 
 returns-4 : tie.Need-returns-4
 returns-4 c =
-    rejected-told
-    (no-rules _ (c .before .before .before .before .before .before .before .before .before .before .before .if1 .left) (sym (c .before .before .before .before .before .before .before .before .before .before .read-header .ensures) ∙ c .before .before .before .before .before .before .before .before .first2 .given .1) (c .before .before .before .before .before .read-rules .ensures .0) (c .before .lines .given .1))
+    let at-read-rules = c .before .before .before .before .before in
+    let at-first2 = at-read-rules .before .before .before in
+    rejected-told (no-rules _ (at-first2 .before .before .before .if1 .left)
+    (sym (at-first2 .before .before .read-header .ensures) ∙ at-first2 .first2 .given .1)
+    (at-read-rules .read-rules .ensures .0) (c .before .lines .given .1))
     refl _ _
 
 same-length-3 : tie.Need-same-length-3
@@ -62,8 +76,12 @@ same-length-3 c = search needs
 
 returns-5 : tie.Need-returns-5
 returns-5 c =
-    all-lines _ (c .before .before .before .before .before .before .before .before .before .before .before .before .if1 .left) (sym (c .before .before .before .before .before .before .before .before .before .before .before .read-header .ensures) ∙ c .before .before .before .before .before .before .before .before .before .first2 .given .1) (c .before .before .before .before .before .before .read-rules .ensures .0) (c .before .before .lines2 .given .1) (c .if2 .left)
-    (c .before .before .before .before .before .before .read-rules .ensures .1)
+    let at-read-rules = c .before .before .before .before .before .before in
+    let at-first2 = at-read-rules .before .before .before in
+    all-lines _ (at-first2 .before .before .before .if1 .left)
+    (sym (at-first2 .before .before .read-header .ensures) ∙ at-first2 .first2 .given .1)
+    (at-read-rules .read-rules .ensures .0) (c .before .before .lines2 .given .1) (c .if2 .left)
+    (at-read-rules .read-rules .ensures .1)
 
 pub read-lines-spec : {M : Type 1} → statement M
 read-lines-spec =

@@ -25,7 +25,13 @@ add-read-rule c = omega (arith, c .before .before .before .before .before .pre .
 
 read-rule-requires : tie.Need-read-rule-requires Inv-loop μ-loop
 read-rule-requires c κs =
-    (c .before .before .before .before .before .pre .0, (c .before .before .before .before .before .pre .1 .0, row-empty _ _ _ _ _ _ (c .before .before .loop .inv .2) (c .before .loop-test .taken) (c .before .before .before .before .before .pre .1 .1 .1)))
+    let start = c .before .before .before .before .before in (
+      start .pre .0,
+      (
+        start .pre .1 .0,
+        row-empty _ _ _ _ _ _ (c .before .before .loop .inv .2) (c .before .loop-test .taken) (start .pre .1 .1 .1),
+      ),
+    )
 
 enum-known-line : tie.Need-enum-known-line Inv-loop μ-loop
 enum-known-line c = search needs
@@ -38,7 +44,10 @@ same-length c = search needs
 
 returns : tie.Need-returns Inv-loop μ-loop
 returns c =
-    listing-refused _ _ _ _ _ _ (c .before .before .before .before .before .before .before .before .loop .inv .2) (c .before .before .before .before .before .before .before .loop-test .taken) (c .before .before .before .before .before .read-rule .ensures .0) (c .before .before .before .before .before .read-rule .ensures .1) (c .before .line2 .given .1)
+    let at-read-rule = c .before .before .before .before .before in
+    listing-refused _ _ _ _ _ _ (at-read-rule .before .before .before .loop .inv .2)
+    (at-read-rule .before .before .loop-test .taken) (at-read-rule .read-rule .ensures .0)
+    (at-read-rule .read-rule .ensures .1) (c .before .line2 .given .1)
 
 add-i : tie.Need-add-i Inv-loop μ-loop
 add-i c = search needs
@@ -47,11 +56,14 @@ loop-less : tie.Need-loop-less Inv-loop μ-loop
 loop-less c = search needs
 
 loop-again : tie.Need-loop-again Inv-loop μ-loop
-loop-again c = (
-  search needs,
-  search needs,
-  listing-read _ _ _ _ _ _ (c .before .before .before .before .before .before .before .before .loop .inv .2) (c .before .before .before .before .before .before .before .loop-test .taken) (c .before .before .before .before .before .read-rule .ensures .0) (c .before .before .before .before .before .read-rule .ensures .1) (c .before .line .given .1),
-)
+loop-again c =
+    let at-read-rule = c .before .before .before .before .before in (
+      search needs,
+      search needs,
+      listing-read _ _ _ _ _ _ (at-read-rule .before .before .before .loop .inv .2)
+          (at-read-rule .before .before .loop-test .taken) (at-read-rule .read-rule .ensures .0)
+          (at-read-rule .read-rule .ensures .1) (c .before .line .given .1),
+    )
 
 same-length-2 : tie.Need-same-length-2 Inv-loop μ-loop
 same-length-2 c = search needs

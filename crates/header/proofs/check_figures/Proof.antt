@@ -25,7 +25,13 @@ refuse-requires-2 c κs = search needs
 
 returns-2 : tie.Need-returns-2
 unfolding figuresOf
-returns-2 c = c .refuse2 .ensures ∙ simp (holds (c .before .before .before .before .in-range .ensures) (c .before .before .before .if1 .left), fails (c .before .before .in-range2 .ensures) (c .before .if2 .taken))
+returns-2 c =
+    let at-if1 = c .before .before .before in
+    c .refuse2 .ensures
+    ∙ simp (
+      holds (at-if1 .before .in-range .ensures) (at-if1 .if1 .left),
+      fails (c .before .before .in-range2 .ensures) (c .before .if2 .taken),
+    )
 
 in-range-requires-3 : tie.Need-in-range-requires-3
 in-range-requires-3 c κs = search needs
@@ -36,8 +42,14 @@ refuse-requires-3 c κs = search needs
 returns-3 : tie.Need-returns-3
 unfolding figuresOf
 returns-3 c =
+    let at-if2 = c .before .before .before in
+    let at-if1 = at-if2 .before .before in
     c .refuse3 .ensures
-    ∙ simp (holds (c .before .before .before .before .before .before .in-range .ensures) (c .before .before .before .before .before .if1 .left), holds (c .before .before .before .before .in-range2 .ensures) (c .before .before .before .if2 .left), fails (c .before .before .in-range3 .ensures) (c .before .if3 .taken))
+    ∙ simp (
+      holds (at-if1 .before .in-range .ensures) (at-if1 .if1 .left),
+      holds (at-if2 .before .in-range2 .ensures) (at-if2 .if2 .left),
+      fails (c .before .before .in-range3 .ensures) (c .before .if3 .taken),
+    )
 
 refuse-requires-4 : tie.Need-refuse-requires-4
 refuse-requires-4 c κs = search needs
@@ -45,11 +57,14 @@ refuse-requires-4 c κs = search needs
 returns-4 : tie.Need-returns-4
 unfolding figuresOf
 returns-4 c =
+    let at-if3 = c .before .before in
+    let at-if2 = at-if3 .before .before in
+    let at-if1 = at-if2 .before .before in
     c .refuse4 .ensures
     ∙ simp (
-      holds (c .before .before .before .before .before .before .before .in-range .ensures) (c .before .before .before .before .before .before .if1 .left),
-      holds (c .before .before .before .before .before .in-range2 .ensures) (c .before .before .before .before .if2 .left),
-      holds (c .before .before .before .in-range3 .ensures) (c .before .before .if3 .left),
+      holds (at-if1 .before .in-range .ensures) (at-if1 .if1 .left),
+      holds (at-if2 .before .in-range2 .ensures) (at-if2 .if2 .left),
+      holds (at-if3 .before .in-range3 .ensures) (at-if3 .if3 .left),
       lt-leb _ _ (c .before .if4 .taken),
     )
 
@@ -62,22 +77,29 @@ refuse-requires-5 c κs = search needs
 returns-5 : tie.Need-returns-5
 unfolding figuresOf
 returns-5 c =
+    let at-if4 = c .before .before .before in
+    let at-if3 = at-if4 .before in
+    let at-if2 = at-if3 .before .before in
+    let at-if1 = at-if2 .before .before in
     c .refuse5 .ensures
     ∙ simp (
-      holds (c .before .before .before .before .before .before .before .before .before .in-range .ensures) (c .before .before .before .before .before .before .before .before .if1 .left),
-      holds (c .before .before .before .before .before .before .before .in-range2 .ensures) (c .before .before .before .before .before .before .if2 .left),
-      holds (c .before .before .before .before .before .in-range3 .ensures) (c .before .before .before .before .if3 .left),
-      le-leb _ _ (c .before .before .before .if4 .left),
+      holds (at-if1 .before .in-range .ensures) (at-if1 .if1 .left),
+      holds (at-if2 .before .in-range2 .ensures) (at-if2 .if2 .left),
+      holds (at-if3 .before .in-range3 .ensures) (at-if3 .if3 .left),
+      le-leb _ _ (at-if4 .if4 .left),
       fails (c .before .before .is-nonterminal .ensures) (c .before .if5 .taken),
     )
 
 returns-6 : tie.Need-returns-6
 unfolding figuresOf
 returns-6 c =
+    let at-if3 = c .before .before .before in
+    let at-if2 = at-if3 .before .before in
+    let at-if1 = at-if2 .before .before in
     simp (
-      holds (c .before .before .before .before .before .before .before .before .in-range .ensures) (c .before .before .before .before .before .before .before .if1 .left),
-      holds (c .before .before .before .before .before .before .in-range2 .ensures) (c .before .before .before .before .before .if2 .left),
-      holds (c .before .before .before .before .in-range3 .ensures) (c .before .before .before .if3 .left),
+      holds (at-if1 .before .in-range .ensures) (at-if1 .if1 .left),
+      holds (at-if2 .before .in-range2 .ensures) (at-if2 .if2 .left),
+      holds (at-if3 .before .in-range3 .ensures) (at-if3 .if3 .left),
       le-leb _ _ (c .before .before .if4 .left),
       holds (c .before .is-nonterminal .ensures) (c .if5 .left),
     )

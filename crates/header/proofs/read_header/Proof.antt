@@ -26,7 +26,13 @@ refuse-requires-2 c κs = search needs
 
 returns-2 : tie.Need-returns-2
 unfolding headerOf
-returns-2 c = c .refuse2 .ensures ∙ simp (sym (c .before .before .before .before .before .read-field .ensures) ∙ c .before .before .before .letter .given .1, ne-eqb _ _ (c .before .if1 .taken))
+returns-2 c =
+    let at-letter = c .before .before .before in
+    c .refuse2 .ensures
+    ∙ simp (
+      sym (at-letter .before .before .read-field .ensures) ∙ at-letter .letter .given .1,
+      ne-eqb _ _ (c .before .if1 .taken),
+    )
 
 read-field-requires-2 : tie.Need-read-field-requires-2
 read-field-requires-2 c κs = search needs
@@ -40,10 +46,11 @@ refuse-requires-3 c κs = search needs
 returns-3 : tie.Need-returns-3
 unfolding headerOf
 returns-3 c =
+    let at-if1 = c .before .before .before in
     c .refuse3 .ensures
     ∙ simp (
-      sym (c .before .before .before .before .before .before .before .read-field .ensures) ∙ c .before .before .before .before .before .letter .given .1,
-      eq-eqb _ _ (c .before .before .before .if1 .left),
+      sym (at-if1 .before .before .before .before .read-field .ensures) ∙ at-if1 .before .before .letter .given .1,
+      eq-eqb _ _ (at-if1 .if1 .left),
       else-number {A = HeaderLine} (c .before .before .read-field2 .ensures) (c .before .match2 .keys2),
     )
 
@@ -59,11 +66,13 @@ refuse-requires-4 c κs = search needs
 returns-4 : tie.Need-returns-4
 unfolding headerOf
 returns-4 c =
+    let at-t = c .before .before .before .before in
+    let at-if1 = at-t .before .before .before in
     c .refuse4 .ensures
     ∙ simp (
-      sym (c .before .before .before .before .before .before .before .before .before .before .before .read-field .ensures) ∙ c .before .before .before .before .before .before .before .before .before .letter .given .1,
-      eq-eqb _ _ (c .before .before .before .before .before .before .before .if1 .left),
-      sym (c .before .before .before .before .before .before .read-field2 .ensures) ∙ c .before .before .before .before .t .given .1,
+      sym (at-if1 .before .before .before .before .read-field .ensures) ∙ at-if1 .before .before .letter .given .1,
+      eq-eqb _ _ (at-if1 .if1 .left),
+      sym (at-t .before .before .read-field2 .ensures) ∙ at-t .t .given .1,
       else-number {A = HeaderLine} (c .before .before .read-field3 .ensures) (c .before .match3 .keys2),
     )
 
@@ -79,12 +88,15 @@ refuse-requires-5 c κs = search needs
 returns-5 : tie.Need-returns-5
 unfolding headerOf
 returns-5 c =
+    let at-n = c .before .before .before .before in
+    let at-t = at-n .before .before .before .before in
+    let at-if1 = at-t .before .before .before in
     c .refuse5 .ensures
     ∙ simp (
-      sym (c .before .before .before .before .before .before .before .before .before .before .before .before .before .before .before .read-field .ensures) ∙ c .before .before .before .before .before .before .before .before .before .before .before .before .before .letter .given .1,
-      eq-eqb _ _ (c .before .before .before .before .before .before .before .before .before .before .before .if1 .left),
-      sym (c .before .before .before .before .before .before .before .before .before .before .read-field2 .ensures) ∙ c .before .before .before .before .before .before .before .before .t .given .1,
-      sym (c .before .before .before .before .before .before .read-field3 .ensures) ∙ c .before .before .before .before .n .given .1,
+      sym (at-if1 .before .before .before .before .read-field .ensures) ∙ at-if1 .before .before .letter .given .1,
+      eq-eqb _ _ (at-if1 .if1 .left),
+      sym (at-t .before .before .read-field2 .ensures) ∙ at-t .t .given .1,
+      sym (at-n .before .before .read-field3 .ensures) ∙ at-n .n .given .1,
       else-number {A = HeaderLine} (c .before .before .read-field4 .ensures) (c .before .match4 .keys2),
     )
 
@@ -100,13 +112,17 @@ refuse-requires-6 c κs = search needs
 returns-6 : tie.Need-returns-6
 unfolding headerOf
 returns-6 c =
+    let at-rules = c .before .before .before .before in
+    let at-n = at-rules .before .before .before .before in
+    let at-t = at-n .before .before .before .before in
+    let at-if1 = at-t .before .before .before in
     c .refuse6 .ensures
     ∙ simp (
-      sym (c .before .before .before .before .before .before .before .before .before .before .before .before .before .before .before .before .before .before .before .read-field .ensures) ∙ c .before .before .before .before .before .before .before .before .before .before .before .before .before .before .before .before .before .letter .given .1,
-      eq-eqb _ _ (c .before .before .before .before .before .before .before .before .before .before .before .before .before .before .before .if1 .left),
-      sym (c .before .before .before .before .before .before .before .before .before .before .before .before .before .before .read-field2 .ensures) ∙ c .before .before .before .before .before .before .before .before .before .before .before .before .t .given .1,
-      sym (c .before .before .before .before .before .before .before .before .before .before .read-field3 .ensures) ∙ c .before .before .before .before .before .before .before .before .n .given .1,
-      sym (c .before .before .before .before .before .before .read-field4 .ensures) ∙ c .before .before .before .before .rules .given .1,
+      sym (at-if1 .before .before .before .before .read-field .ensures) ∙ at-if1 .before .before .letter .given .1,
+      eq-eqb _ _ (at-if1 .if1 .left),
+      sym (at-t .before .before .read-field2 .ensures) ∙ at-t .t .given .1,
+      sym (at-n .before .before .read-field3 .ensures) ∙ at-n .n .given .1,
+      sym (at-rules .before .before .read-field4 .ensures) ∙ at-rules .rules .given .1,
       else-number {A = HeaderLine} (c .before .before .read-field5 .ensures) (c .before .match5 .keys2),
     )
 
@@ -116,15 +132,20 @@ refuse-requires-7 c κs = search needs
 returns-7 : tie.Need-returns-7
 unfolding headerOf
 returns-7 c =
+    let at-goal = c .before .before .before in
+    let at-rules = at-goal .before .before .before .before in
+    let at-n = at-rules .before .before .before .before in
+    let at-t = at-n .before .before .before .before in
+    let at-if1 = at-t .before .before .before in
     c .refuse7 .ensures
     ∙ simp (
-      sym (c .before .before .before .before .before .before .before .before .before .before .before .before .before .before .before .before .before .before .before .before .before .before .read-field .ensures) ∙ c .before .before .before .before .before .before .before .before .before .before .before .before .before .before .before .before .before .before .before .before .letter .given .1,
-      eq-eqb _ _ (c .before .before .before .before .before .before .before .before .before .before .before .before .before .before .before .before .before .before .if1 .left),
-      sym (c .before .before .before .before .before .before .before .before .before .before .before .before .before .before .before .before .before .read-field2 .ensures) ∙ c .before .before .before .before .before .before .before .before .before .before .before .before .before .before .before .t .given .1,
-      sym (c .before .before .before .before .before .before .before .before .before .before .before .before .before .read-field3 .ensures) ∙ c .before .before .before .before .before .before .before .before .before .before .before .n .given .1,
-      sym (c .before .before .before .before .before .before .before .before .before .read-field4 .ensures) ∙ c .before .before .before .before .before .before .before .rules .given .1,
-      sym (c .before .before .before .before .before .read-field5 .ensures) ∙ c .before .before .before .goal .given .1,
-      not-true (c .before .before .before .goal .given .0 .1 .0 .ended) (c .before .if2 .taken),
+      sym (at-if1 .before .before .before .before .read-field .ensures) ∙ at-if1 .before .before .letter .given .1,
+      eq-eqb _ _ (at-if1 .if1 .left),
+      sym (at-t .before .before .read-field2 .ensures) ∙ at-t .t .given .1,
+      sym (at-n .before .before .read-field3 .ensures) ∙ at-n .n .given .1,
+      sym (at-rules .before .before .read-field4 .ensures) ∙ at-rules .rules .given .1,
+      sym (at-goal .before .before .read-field5 .ensures) ∙ at-goal .goal .given .1,
+      not-true (at-goal .goal .given .0 .1 .0 .ended) (c .before .if2 .taken),
     )
 
 check-figures-requires : tie.Need-check-figures-requires
@@ -133,15 +154,20 @@ check-figures-requires c κs = search needs
 returns-8 : tie.Need-returns-8
 unfolding headerOf
 returns-8 c =
+    let at-goal = c .before .before .before in
+    let at-rules = at-goal .before .before .before .before in
+    let at-n = at-rules .before .before .before .before in
+    let at-t = at-n .before .before .before .before in
+    let at-if1 = at-t .before .before .before in
     c .check-figures .ensures
     ∙ simp (
-      sym (c .before .before .before .before .before .before .before .before .before .before .before .before .before .before .before .before .before .before .before .before .before .before .read-field .ensures) ∙ c .before .before .before .before .before .before .before .before .before .before .before .before .before .before .before .before .before .before .before .before .letter .given .1,
-      eq-eqb _ _ (c .before .before .before .before .before .before .before .before .before .before .before .before .before .before .before .before .before .before .if1 .left),
-      sym (c .before .before .before .before .before .before .before .before .before .before .before .before .before .before .before .before .before .read-field2 .ensures) ∙ c .before .before .before .before .before .before .before .before .before .before .before .before .before .before .before .t .given .1,
-      sym (c .before .before .before .before .before .before .before .before .before .before .before .before .before .read-field3 .ensures) ∙ c .before .before .before .before .before .before .before .before .before .before .before .n .given .1,
-      sym (c .before .before .before .before .before .before .before .before .before .read-field4 .ensures) ∙ c .before .before .before .before .before .before .before .rules .given .1,
-      sym (c .before .before .before .before .before .read-field5 .ensures) ∙ c .before .before .before .goal .given .1,
-      not-false (c .before .before .before .goal .given .0 .1 .0 .ended) (c .before .if2 .left),
+      sym (at-if1 .before .before .before .before .read-field .ensures) ∙ at-if1 .before .before .letter .given .1,
+      eq-eqb _ _ (at-if1 .if1 .left),
+      sym (at-t .before .before .read-field2 .ensures) ∙ at-t .t .given .1,
+      sym (at-n .before .before .read-field3 .ensures) ∙ at-n .n .given .1,
+      sym (at-rules .before .before .read-field4 .ensures) ∙ at-rules .rules .given .1,
+      sym (at-goal .before .before .read-field5 .ensures) ∙ at-goal .goal .given .1,
+      not-false (at-goal .goal .given .0 .1 .0 .ended) (c .before .if2 .left),
     )
 
 pub read-header-spec : {M : Type 1} → statement M

@@ -15,7 +15,9 @@ abbrev μ-loop : tie.MeasureT-loop
 μ-loop items kernels links lookaheads kinds values gotos entries uses nul fst count rules lines codes p grown₀ next₀ grown next = next
 
 last-line-requires : tie.Need-last-line-requires Inv-loop μ-loop
-last-line-requires c κs = (c .before .before .before .before .before .before .before .before .before .before .before .before .pre .0 .lined .linked, c .before .before .before .before .before .before .before .before .before .before .before .before .pre .1 .1 .0)
+last-line-requires c κs =
+    let start = c .before .before .before .before .before .before .before .before .before .before .before .before in
+    (start .pre .0 .lined .linked, start .pre .1 .1 .0)
 
 loop-holds : tie.Need-loop-holds Inv-loop μ-loop
 loop-holds c = lines-start _ (c .last-line .ensures .0)
@@ -24,27 +26,55 @@ sub-l : tie.Need-sub-l Inv-loop μ-loop
 sub-l c = search needs
 
 item-of-requires : tie.Need-item-of-requires Inv-loop μ-loop
-item-of-requires c κs = (c .before .before .before .before .before .before .before .before .before .before .before .before .before .before .before .pre .0 .lined .some-lines, omega (arith, c .before .loop .inv .passed .low))
+item-of-requires c κs =
+    let start = c .before .before .before .before .before .before .before .before .before .before .before .before .before .before .before in
+    (start .pre .0 .lined .some-lines, omega (arith, c .before .loop .inv .passed .low))
 
 dot-of-requires : tie.Need-dot-of-requires Inv-loop μ-loop
-dot-of-requires c κs = (c .before .before .before .before .before .before .before .before .before .before .before .before .before .before .before .before .pre .0 .lined .some-lines, omega (arith, c .before .before .loop .inv .passed .low))
+dot-of-requires c κs =
+    let start = c .before .before .before .before .before .before .before .before .before .before .before .before .before .before .before .before in
+    (start .pre .0 .lined .some-lines, omega (arith, c .before .before .loop .inv .passed .low))
 
 mul-add-item : tie.Need-mul-add-item Inv-loop μ-loop
 mul-add-item c = search needs
 
 add-item-requires : tie.Need-add-item-requires Inv-loop μ-loop
-add-item-requires c κs = let p = c .before .before .before .before .before .before .before .before .before .before .before .before .before .before .before .before .before .before .pre in let o = c .before .before .before .before .loop .inv in
-    (p .0, (p .1 .0, (p .1 .1 .0, c .before .before .item-of .ensures .1, c .before .dot-of .ensures .1, omega (arith, o .passed .low, p .1 .1 .1), omega (arith, o .adding .long, p .1 .1 .2))))
+add-item-requires c κs =
+    let at-loop = c .before .before .before .before in
+    let p = at-loop .before .before .before .before .before .before .before .before .before .before .before .before .before .before .pre in
+    let o = at-loop .loop .inv in (
+      p .0,
+      (
+        p .1 .0,
+        (
+          p .1 .1 .0,
+          c .before .before .item-of .ensures .1,
+          c .before .dot-of .ensures .1,
+          omega (arith, o .passed .low, p .1 .1 .1),
+          omega (arith, o .adding .long, p .1 .1 .2),
+        ),
+      ),
+    )
 
 line-before-requires : tie.Need-line-before-requires Inv-loop μ-loop
-line-before-requires c κs = (c .before .before .before .before .before .before .before .before .before .before .before .before .before .before .before .before .before .before .before .before .before .pre .0 .lined .linked, (omega (arith, c .before .before .before .before .before .before .before .loop .inv .passed .low), c .before .before .before .before .before .before .before .before .before .before .before .before .before .before .before .before .before .before .before .before .before .pre .0 .lined .some-lines .few))
+line-before-requires c κs =
+    let at-loop = c .before .before .before .before .before .before .before in
+    let start = at-loop .before .before .before .before .before .before .before .before .before .before .before .before .before .before in (
+      start .pre .0 .lined .linked,
+      (omega (arith, at-loop .loop .inv .passed .low), start .pre .0 .lined .some-lines .few),
+    )
 
 loop-less : tie.Need-loop-less Inv-loop μ-loop
 loop-less c = search needs
 
 loop-again : tie.Need-loop-again Inv-loop μ-loop
-loop-again c = lines-more (c .before .before .before .before .before .before .before .before .loop .inv) (λ e. omega (arith, e))
-    (line-item (c .before .before .before .before .before .before .before .before .loop .next - 1) (c .before .before .before .before .before .before .item-of .ensures .0) (c .before .before .before .before .before .dot-of .ensures .0) (c .before .before .before .add-item .ensures)) (c .line-before .ensures .0)
+loop-again c =
+    let at-add-item = c .before .before .before in
+    let at-dot-of = at-add-item .before .before in
+    let at-loop = at-dot-of .before .before .before in
+    lines-more (at-loop .loop .inv) (λ e. omega (arith, e))
+    (line-item (at-loop .loop .next - 1) (at-dot-of .before .item-of .ensures .0) (at-dot-of .dot-of .ensures .0) (at-add-item .add-item .ensures))
+    (c .line-before .ensures .0)
 
 same-length : tie.Need-same-length Inv-loop μ-loop
 same-length c = c .before .loop .inv .adding .long

@@ -20,7 +20,10 @@ same-length : tie.Need-same-length
 same-length c = search needs
 
 returns-2 : tie.Need-returns-2
-returns-2 c = line-row (c .before .before .before .before .before .is-of .ensures .yes (not-false _ (c .before .before .before .before .if1 .left))) (c .before .before .add-codes .ensures)
+returns-2 c =
+    let at-if1 = c .before .before .before .before in
+    line-row (at-if1 .before .is-of .ensures .yes (not-false _ (at-if1 .if1 .left)))
+    (c .before .before .add-codes .ensures)
 
 pub add-line-spec : {M : Type 1} → statement M
 add-line-spec =

@@ -12,7 +12,9 @@ abbrev μ-loop : tie.MeasureT-loop
 μ-loop kernels links from lines count codes s i k start grown₀ p₀ grown p = p
 
 last-line-requires : tie.Need-last-line-requires Inv-loop μ-loop
-last-line-requires c κs = (c .before .before .before .before .pre .1 .0, c .before .before .before .before .pre .1 .1 .0)
+last-line-requires c κs =
+    let start = c .before .before .before .before in
+    (start .pre .1 .0, start .pre .1 .1 .0)
 
 loop-holds : tie.Need-loop-holds Inv-loop μ-loop
 loop-holds c = lines-start _ (c .last-line .ensures .0)
@@ -21,16 +23,25 @@ sub-l : tie.Need-sub-l Inv-loop μ-loop
 sub-l c = search needs
 
 add-line-requires : tie.Need-add-line-requires Inv-loop μ-loop
-add-line-requires c κs = let p = c .before .before .before .before .before .before .before .before .pre in let o = c .before .before .loop .inv in (p .0, (omega (arith, o .passed .low), p .1 .1 .1, p .1 .1 .2, omega (arith, o .adding .long, p .1 .1 .3)))
+add-line-requires c κs =
+    let p = c .before .before .before .before .before .before .before .before .pre in
+    let o = c .before .before .loop .inv in
+    (p .0, (omega (arith, o .passed .low), p .1 .1 .1, p .1 .1 .2, omega (arith, o .adding .long, p .1 .1 .3)))
 
 line-before-requires : tie.Need-line-before-requires Inv-loop μ-loop
-line-before-requires c κs = (c .before .before .before .before .before .before .before .before .before .before .before .pre .1 .0, (omega (arith, c .before .before .before .before .before .loop .inv .passed .low), c .before .before .before .before .before .before .before .before .before .before .before .pre .0 .few))
+line-before-requires c κs =
+    let at-loop = c .before .before .before .before .before in
+    let start = at-loop .before .before .before .before .before .before in
+    (start .pre .1 .0, (omega (arith, at-loop .loop .inv .passed .low), start .pre .0 .few))
 
 loop-less : tie.Need-loop-less Inv-loop μ-loop
 loop-less c = search needs
 
 loop-again : tie.Need-loop-again Inv-loop μ-loop
-loop-again c = lines-more (c .before .before .before .before .before .before .loop .inv) (λ e. omega (arith, e)) (c .before .before .before .add-line .ensures) (c .line-before .ensures .0)
+loop-again c =
+    let at-add-line = c .before .before .before in
+    lines-more (at-add-line .before .before .before .loop .inv) (λ e. omega (arith, e)) (at-add-line .add-line .ensures)
+    (c .line-before .ensures .0)
 
 same-length : tie.Need-same-length Inv-loop μ-loop
 same-length c = c .before .loop .inv .adding .long

@@ -4,13 +4,17 @@ use Rattle.inclusions.proofs.add_move.Statement.{statement}
 use Rattle.inclusions.proofs.add_move.Tie as tie
 
 symbol-after-requires : tie.Need-symbol-after-requires
-symbol-after-requires c κs = (c .before .before .before .before .before .before .before .before .pre .0 .shaped, c .before .before .before .before .before .before .before .before .pre .1 .1 .2)
+symbol-after-requires c κs =
+    let start = c .before .before .before .before .before .before .before .before in
+    (start .pre .0 .shaped, start .pre .1 .1 .2)
 
 returns : tie.Need-returns
 returns c = move-still _ (c .before .symbol-after .ensures .0) (c .if1 .taken)
 
 next-of-requires : tie.Need-next-of-requires
-next-of-requires c κs = (c .before .before .before .before .before .before .before .before .before .before .pre .1 .0, (c .before .before .before .before .before .before .before .before .before .before .pre .1 .1 .1, c .before .symbol-after .ensures .1))
+next-of-requires c κs =
+    let start = c .before .before .before .before .before .before .before .before .before .before in
+    (start .pre .1 .0, (start .pre .1 .1 .1, c .before .symbol-after .ensures .1))
 
 returns-2 : tie.Need-returns-2
 returns-2 c = move-nowhere _ (c .before .before .before .symbol-after .ensures .0) (c .before .next-of .ensures .0) (c .if2 .taken)
@@ -19,13 +23,24 @@ add-add-lines : tie.Need-add-add-lines
 add-add-lines c = search needs
 
 add-lines-requires : tie.Need-add-lines-requires
-add-lines-requires c κs = (c .before .before .before .before .before .before .before .before .before .before .before .before .before .pre .0 .some-lines, (c .before .before .before .before .before .before .before .before .before .before .before .before .before .pre .0 .linked, (c .before .before .next-of .ensures .1, c .before .before .before .before .before .before .before .before .before .before .before .before .before .pre .1 .1 .0, c .before .before .before .before .before .before .before .before .before .before .before .before .before .pre .1 .1 .4, c .before .before .before .before .before .before .before .before .before .before .before .before .before .pre .1 .1 .5)))
+add-lines-requires c κs =
+    let start = c .before .before .before .before .before .before .before .before .before .before .before .before .before in (
+      start .pre .0 .some-lines,
+      (
+        start .pre .0 .linked,
+        (c .before .before .next-of .ensures .1, start .pre .1 .1 .0, start .pre .1 .1 .4, start .pre .1 .1 .5),
+      ),
+    )
 
 same-length : tie.Need-same-length
 same-length c = search needs
 
 returns-3 : tie.Need-returns-3
-returns-3 c = move-to _ (c .before .before .before .before .before .before .before .symbol-after .ensures .0) (c .before .before .before .before .before .next-of .ensures .0) (c .before .before .before .before .before .before .if1 .left) (c .before .before .before .before .if2 .left) (c .before .before .add-lines .ensures)
+returns-3 c =
+    let at-if2 = c .before .before .before .before in
+    let at-if1 = at-if2 .before .before in
+    move-to _ (at-if1 .before .symbol-after .ensures .0) (at-if2 .before .next-of .ensures .0) (at-if1 .if1 .left)
+    (at-if2 .if2 .left) (c .before .before .add-lines .ensures)
 
 pub add-move-spec : {M : Type 1} → statement M
 add-move-spec =

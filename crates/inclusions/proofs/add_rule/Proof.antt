@@ -4,16 +4,33 @@ use Rattle.inclusions.proofs.add_rule.Statement.{statement}
 use Rattle.inclusions.proofs.add_rule.Tie as tie
 
 left-of-requires : tie.Need-left-of-requires
-left-of-requires c κs = (c .before .before .before .before .before .before .before .before .before .before .before .before .pre .0 .lined .shaped, c .before .before .before .before .before .before .before .before .before .before .before .before .pre .1 .1 .1)
+left-of-requires c κs =
+    let start = c .before .before .before .before .before .before .before .before .before .before .before .before in
+    (start .pre .0 .lined .shaped, start .pre .1 .1 .1)
 
 sub-add-item : tie.Need-sub-add-item
-sub-add-item c = omega (arith, c .left-of .ensures .0, c .before .before .before .before .before .before .before .before .before .before .before .before .before .pre .1 .1 .2)
+sub-add-item c =
+    let start = c .before .before .before .before .before .before .before .before .before .before .before .before .before in
+    omega (arith, c .left-of .ensures .0, start .pre .1 .1 .2)
 
 mul-add-item : tie.Need-mul-add-item
 mul-add-item c = omega (arith, c .left-of .ensures .1)
 
 add-item-requires : tie.Need-add-item-requires
-add-item-requires c κs = (c .before .before .before .before .before .before .before .before .before .before .before .before .before .before .pre .0, (c .before .before .before .before .before .before .before .before .before .before .before .before .before .before .pre .1 .0, (c .before .before .before .before .before .before .before .before .before .before .before .before .before .before .pre .1 .1 .0, c .before .before .before .before .before .before .before .before .before .before .before .before .before .before .pre .1 .1 .1, omega arith, omega (arith, c .before .left-of .ensures .1, c .before .before .before .before .before .before .before .before .before .before .before .before .before .before .pre .1 .1 .3), c .before .before .before .before .before .before .before .before .before .before .before .before .before .before .pre .1 .1 .4)))
+add-item-requires c κs =
+    let start = c .before .before .before .before .before .before .before .before .before .before .before .before .before .before in (
+      start .pre .0,
+      (
+        start .pre .1 .0,
+        (
+          start .pre .1 .1 .0,
+          start .pre .1 .1 .1,
+          omega arith,
+          omega (arith, c .before .left-of .ensures .1, start .pre .1 .1 .3),
+          start .pre .1 .1 .4,
+        ),
+      ),
+    )
 
 same-length : tie.Need-same-length
 same-length c = c .before .before .add-item .ensures .long

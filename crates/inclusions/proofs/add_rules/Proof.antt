@@ -11,9 +11,18 @@ use Rattle.inclusions.proofs.add_rules.Statement.{statement}
 use Rattle.inclusions.proofs.add_rules.Tie as tie
 
 abbrev Inv-loop : tie.InvT-loop
-Inv-loop items kernels links kinds values gotos entries uses nul fst present follow count rules lines codes p grown₀ i₀ grown i =
-    (1 ≤ i) × Adding (RulesAsk items kernels kinds values gotos entries uses nul fst present follow rules lines codes p) grown₀ grown
-    × ((j : ℕ) → 1 ≤ j → j < i → Present items present j → (y : ℕ) → RuleAsks items kernels kinds values gotos entries uses nul fst follow rules lines codes p j y → On grown y)
+Inv-loop items kernels links kinds values gotos entries uses nul fst present follow count rules lines codes p grown₀ i₀
+    grown i =
+    (1 ≤ i)
+    × Adding (RulesAsk items kernels kinds values gotos entries uses nul fst present follow rules lines codes p) grown₀
+    grown
+    × ((j : ℕ)
+    → 1 ≤ j
+    → j < i
+    → Present items present j
+    → (y : ℕ)
+    → RuleAsks items kernels kinds values gotos entries uses nul fst follow rules lines codes p j y
+    → On grown y)
 
 abbrev μ-loop : tie.MeasureT-loop
 μ-loop items kernels links kinds values gotos entries uses nul fst present follow count rules lines codes p grown₀ i₀ grown i = rules + 1 - i
@@ -22,7 +31,9 @@ loop-holds : tie.Need-loop-holds Inv-loop μ-loop
 loop-holds c = (omega arith, adding-none _, λ j a b. absurd (no-gap a b))
 
 is-present-requires : tie.Need-is-present-requires Inv-loop μ-loop
-is-present-requires c κs = let p = c .before .before .before .before .before .before .before .before .before .before .before .before .before .before .before .pre in (p .0 .lined .shaped, (omega (arith, p .0 .rules-within), p .1 .1 .1))
+is-present-requires c κs =
+    let p = c .before .before .before .before .before .before .before .before .before .before .before .before .before .before .before .pre in
+    (p .0 .lined .shaped, (omega (arith, p .0 .rules-within), p .1 .1 .1))
 
 add-i : tie.Need-add-i Inv-loop μ-loop
 add-i c = search needs
@@ -31,36 +42,58 @@ loop-less : tie.Need-loop-less Inv-loop μ-loop
 loop-less c = search needs
 
 loop-again : tie.Need-loop-again Inv-loop μ-loop
-loop-again c = let o = c .before .before .before .loop .inv in
-    (omega arith, o .1, from-more _ 1 (c .before .before .before .loop .i) (o .2) (λ h. absurd (c .before .is-present .ensures .no (not-true _ (c .if1 .taken)) h)))
+loop-again c =
+    let at-loop = c .before .before .before in
+    let o = at-loop .loop .inv in (
+      omega arith,
+      o .1,
+      from-more _ 1 (at-loop .loop .i) (o .2) (λ h. absurd (c .before .is-present .ensures .no (not-true _ (c .if1 .taken)) h)),
+    )
 
 add-rule-requires : tie.Need-add-rule-requires Inv-loop μ-loop
-add-rule-requires c κs = let p = c .before .before .before .before .before .before .before .before .before .before .before .before .before .before .before .before .before .before .pre in (
-  p .0,
-  (
-    p .1 .0,
-    (
-      p .1 .1 .0,
-      omega (arith, p .0 .rules-within),
-      c .before .before .is-present .ensures .yes (not-false _ (c .before .if1 .left)) .nonterminal,
-      p .1 .1 .2,
-      omega (arith, c .before .before .before .before .loop .inv .1 .long, p .1 .1 .3),
-    ),
-  ),
-)
+add-rule-requires c κs =
+    let at-loop = c .before .before .before .before in
+    let p = at-loop .before .before .before .before .before .before .before .before .before .before .before .before .before .before .pre in (
+      p .0,
+      (
+        p .1 .0,
+        (
+          p .1 .1 .0,
+          omega (arith, p .0 .rules-within),
+          c .before .before .is-present .ensures .yes (not-false _ (c .before .if1 .left)) .nonterminal,
+          p .1 .1 .2,
+          omega (arith, at-loop .loop .inv .1 .long, p .1 .1 .3),
+        ),
+      ),
+    )
 
 add-i-2 : tie.Need-add-i-2 Inv-loop μ-loop
-add-i-2 c = omega (arith, c .before .before .before .before .before .before .before .before .before .before .before .before .before .before .before .before .before .before .before .before .before .pre .0 .few-rules)
+add-i-2 c =
+    let start = c .before .before .before .before .before .before .before .before .before .before .before .before .before .before .before .before .before
+    .before .before .before .before in
+    omega (arith, start .pre .0 .few-rules)
 
 loop-less-2 : tie.Need-loop-less-2 Inv-loop μ-loop
 loop-less-2 c = search needs
 
 loop-again-2 : tie.Need-loop-again-2 Inv-loop μ-loop
-loop-again-2 c = let w = c .before .before .add-rule .ensures in let o = c .before .before .before .before .before .before .before .loop .inv in let i = c .before .before .before .before .before .before .before .loop .i in (
-  omega arith,
-  adding-then (o .1) (λ y h. record { rule = i; above = o .0; below = omega arith; here = c .before .before .before .before .before .is-present .ensures .yes (not-false _ (c .before .before .before .before .if1 .left)); asks = h }) w,
-  from-more _ 1 i (λ j a b h y x. w .kept y (o .2 j a b h y x)) (λ h. w .every),
-)
+loop-again-2 c =
+    let at-if1 = c .before .before .before .before in
+    let at-loop = at-if1 .before .before .before in
+    let w = c .before .before .add-rule .ensures in
+    let o = at-loop .loop .inv in
+    let i = at-loop .loop .i in (
+      omega arith,
+      adding-then (o .1) (λ y h. record {
+        rule = i;
+        above = o .0;
+        below = omega arith;
+        here = at-if1 .before .is-present .ensures .yes (not-false _ (at-if1 .if1 .left));
+        asks = h;
+      })
+          w,
+      from-more _ 1 i (λ j a b h y x. w .kept y (o .2 j a b h y x)) (λ h. w .every),
+    )
 
 same-length : tie.Need-same-length Inv-loop μ-loop
 same-length c = c .before .loop .inv .1 .long

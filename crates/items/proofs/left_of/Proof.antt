@@ -14,7 +14,9 @@ wide-requires : tie.Need-wide-requires
 wide-requires c κs = search needs
 
 returns : tie.Need-returns
-returns c = (c .wide .ensures .0, omega (arith, c .before .before .before .pre .0 .lefts (c .before .before .before .args .i) (c .before .before .before .pre .1)))
+returns c =
+    let start = c .before .before .before in
+    (c .wide .ensures .0, omega (arith, start .pre .0 .lefts (start .args .i) (start .pre .1)))
 
 pub left-of-spec : {M : Type 1} → statement M
 left-of-spec = tie.close (tie.spec mul-wide shared-slice-read-wide wide-requires returns)

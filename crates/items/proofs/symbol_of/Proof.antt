@@ -20,7 +20,11 @@ wide-requires : tie.Need-wide-requires
 wide-requires c κs = search needs
 
 returns : tie.Need-returns
-returns c = (c .wide .ensures .0, omega (arith, c .before .before .before .pre .0 .symbols (c .before .before .before .args .i) (c .before .before .before .args .k) (c .before .before .before .pre .1 .0) (c .before .before .before .pre .1 .1)))
+returns c =
+    let start = c .before .before .before in (
+      c .wide .ensures .0,
+      omega (arith, start .pre .0 .symbols (start .args .i) (start .args .k) (start .pre .1 .0) (start .pre .1 .1)),
+    )
 
 pub symbol-of-spec : {M : Type 1} → statement M
 symbol-of-spec = tie.close (tie.spec mul-wide add-wide add-wide-2 shared-slice-read-wide wide-requires returns)

@@ -34,7 +34,12 @@ loop-less : tie.Need-loop-less Inv-loop μ-loop
 loop-less c = search needs
 
 loop-again : tie.Need-loop-again Inv-loop μ-loop
-loop-again c = (omega arith, simp length-set (c .before .loop .inv .1), clear-more (c .before .loop .links) _ (c .before .loop .inv .1) (omega arith) (c .before .loop .inv .2))
+loop-again c =
+    let at-loop = c .before in (
+      omega arith,
+      simp length-set (at-loop .loop .inv .1),
+      clear-more (at-loop .loop .links) _ (at-loop .loop .inv .1) (omega arith) (at-loop .loop .inv .2),
+    )
 
 same-length : tie.Need-same-length Inv-loop μ-loop
 same-length c = search needs

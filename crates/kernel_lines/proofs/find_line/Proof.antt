@@ -26,12 +26,14 @@ is-of-requires : tie.Need-is-of-requires Inv-loop μ-loop
 is-of-requires c κs = search needs
 
 returns : tie.Need-returns Inv-loop μ-loop
-returns c = let h = c .before .is-of .ensures .yes (c .if1 .taken) in record {
-  low = omega arith;
-  state = c .before .before .before .loop .inv .here (λ e. omega (arith, e));
-  item = h .0;
-  dot = h .1;
-}
+returns c =
+    let h = c .before .is-of .ensures .yes (c .if1 .taken) in
+    record {
+      low = omega arith;
+      state = c .before .before .before .loop .inv .here (λ e. omega (arith, e));
+      item = h .0;
+      dot = h .1;
+    }
 
 line-before-requires : tie.Need-line-before-requires Inv-loop μ-loop
 line-before-requires c κs = search needs
@@ -40,7 +42,9 @@ loop-less : tie.Need-loop-less Inv-loop μ-loop
 loop-less c = search needs
 
 loop-again : tie.Need-loop-again Inv-loop μ-loop
-loop-again c = passed-more (c .before .before .before .before .loop .inv) (λ e. omega (arith, e)) (c .before .before .is-of .ensures .no (c .before .if1 .left)) (c .line-before .ensures .0)
+loop-again c =
+    passed-more (c .before .before .before .before .loop .inv) (λ e. omega (arith, e))
+    (c .before .before .is-of .ensures .no (c .before .if1 .left)) (c .line-before .ensures .0)
 
 returns-2 : tie.Need-returns-2 Inv-loop μ-loop
 returns-2 c = λ s. passed-all (c .before .loop .inv) (omega arith) (s .line) (s .is-it .low) (s .is-it .state) (s .is-it .item, s .is-it .dot)

@@ -14,7 +14,10 @@ shared-slice-read-result : tie.Need-shared-slice-read-result
 shared-slice-read-result c = search needs
 
 returns : tie.Need-returns
-returns c = let e = c .before .pre .0 .last (c .before .args .q) (c .before .pre .1) in (e, last-low (c .before .args .kernels .now) _ _ e)
+returns c =
+    let start = c .before in
+    let e = start .pre .0 .last (start .args .q) (start .pre .1) in
+    (e, last-low (start .args .kernels .now) _ _ e)
 
 pub last-line-spec : {M : Type 1} → statement M
 last-line-spec = tie.close (tie.spec add-result mul-result shared-slice-read-result returns)

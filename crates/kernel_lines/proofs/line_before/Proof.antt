@@ -11,7 +11,10 @@ shared-slice-read-result : tie.Need-shared-slice-read-result
 shared-slice-read-result c = search needs
 
 returns : tie.Need-returns
-returns c = let e = c .before .pre .0 .previous (c .before .args .l) (c .before .pre .1 .0) in (e, last-low (c .before .args .kernels .now) _ _ e)
+returns c =
+    let start = c .before in
+    let e = start .pre .0 .previous (start .args .l) (start .pre .1 .0) in
+    (e, last-low (start .args .kernels .now) _ _ e)
 
 pub line-before-spec : {M : Type 1} → statement M
 line-before-spec = tie.close (tie.spec mul-result shared-slice-read-result returns)

@@ -58,13 +58,19 @@ loop-less : tie.Need-loop-less Inv-loop μ-loop
 loop-less c = search needs
 
 loop-again : tie.Need-loop-again Inv-loop μ-loop
-loop-again c = let i = c .before .before .before .loop .inv in (omega arith, linked-line (i .1) (omega arith) (c .before .state-of .result) (c .before .state-of .ensures .0) (c .before .state-of .ensures .1) refl refl)
+loop-again c =
+    let i = c .before .before .before .loop .inv in (
+      omega arith,
+      linked-line (i .1) (omega arith) (c .before .state-of .result) (c .before .state-of .ensures .0) (c .before .state-of .ensures .1) refl refl,
+    )
 
 same-length : tie.Need-same-length Inv-loop μ-loop
 same-length c = search needs
 
 returns : tie.Need-returns Inv-loop μ-loop
-returns c = let i = c .before .loop .inv in let e : c .before .loop .l ≡ c .before .before .before .before .before .before .before .before .args .lines = omega arith in
+returns c =
+    let i = c .before .loop .inv in
+    let e : c .before .loop .l ≡ c .before .before .before .before .before .before .before .before .args .lines = omega arith in
     subst (Linked _ _) e (record { room = omega (arith, i .1 .room); previous = i .1 .previous; last = i .1 .last })
 
 pub link-lines-spec : {M : Type 1} → statement M

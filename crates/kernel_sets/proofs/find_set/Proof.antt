@@ -11,7 +11,8 @@ use Rattle.kernel_sets.proofs.find_set.Statement.{statement}
 use Rattle.kernel_sets.proofs.find_set.Tie as tie
 
 abbrev Inv-loop : tie.InvT-loop
-Inv-loop sets starts states lines len end p₀ p = (p ≤ states) × ((k : ℕ) → k < p → part sets (getD starts k 0) (getD starts (k + 1) 0) ≡ part sets lines end → ⊥)
+Inv-loop sets starts states lines len end p₀ p =
+    (p ≤ states) × ((k : ℕ) → k < p → part sets (getD starts k 0) (getD starts (k + 1) 0) ≡ part sets lines end → ⊥)
 
 abbrev μ-loop : tie.MeasureT-loop
 μ-loop sets starts states lines len end p₀ p = states - p
@@ -38,16 +39,38 @@ shared-slice-read-b : tie.Need-shared-slice-read-b Inv-loop μ-loop
 shared-slice-read-b c = search needs
 
 mul-same-set : tie.Need-mul-same-set Inv-loop μ-loop
-mul-same-set c = let b = c .before .before .before .before .before .before .pre .0 in let p = c .before .before .before .loop .p in let l = c .before .before .loop-test .taken in let h : getD (c .before .before .before .before .before .before .args .starts .now) p 0 ≤ length (c .before .before .before .before .before .before .args .sets .now) = omega (arith, b .rise p l, start-low b (p + 1) (omega arith), b .room) in search needs
+mul-same-set c =
+    let at-loop-test = c .before .before in
+    let start = at-loop-test .before .before .before .before in
+    let b = start .pre .0 in
+    let p = at-loop-test .before .loop .p in
+    let l = at-loop-test .loop-test .taken in
+    let h : getD (start .args .starts .now) p 0 ≤ length (start .args .sets .now) = omega (arith, b .rise p l, start-low b (p + 1) (omega arith), b .room) in
+    search needs
 
 sub-same-set : tie.Need-sub-same-set Inv-loop μ-loop
-sub-same-set c = let b = c .before .before .before .before .before .before .pre .0 in let p = c .before .before .before .loop .p in let l = c .before .before .loop-test .taken in omega (arith, b .rise p l, start-low b (p + 1) (omega arith), b .room)
+sub-same-set c =
+    let at-loop-test = c .before .before in
+    let b = at-loop-test .before .before .before .before .pre .0 in
+    let p = at-loop-test .before .loop .p in
+    let l = at-loop-test .loop-test .taken in
+    omega (arith, b .rise p l, start-low b (p + 1) (omega arith), b .room)
 
 part-same-set-start : tie.Need-part-same-set-start Inv-loop μ-loop
-part-same-set-start c = let b = c .before .before .before .before .before .before .pre .0 in let p = c .before .before .before .loop .p in let l = c .before .before .loop-test .taken in omega (arith, b .rise p l, start-low b (p + 1) (omega arith), b .room)
+part-same-set-start c =
+    let at-loop-test = c .before .before in
+    let b = at-loop-test .before .before .before .before .pre .0 in
+    let p = at-loop-test .before .loop .p in
+    let l = at-loop-test .loop-test .taken in
+    omega (arith, b .rise p l, start-low b (p + 1) (omega arith), b .room)
 
 part-same-set-end : tie.Need-part-same-set-end Inv-loop μ-loop
-part-same-set-end c = let b = c .before .before .before .before .before .before .pre .0 in let p = c .before .before .before .loop .p in let l = c .before .before .loop-test .taken in omega (arith, b .rise p l, start-low b (p + 1) (omega arith), b .room)
+part-same-set-end c =
+    let at-loop-test = c .before .before in
+    let b = at-loop-test .before .before .before .before .pre .0 in
+    let p = at-loop-test .before .loop .p in
+    let l = at-loop-test .loop-test .taken in
+    omega (arith, b .rise p l, start-low b (p + 1) (omega arith), b .room)
 
 mul-same-set-2 : tie.Need-mul-same-set-2 Inv-loop μ-loop
 mul-same-set-2 c = search needs
@@ -65,7 +88,11 @@ same-set-requires : tie.Need-same-set-requires Inv-loop μ-loop
 same-set-requires c κs = search needs
 
 returns : tie.Need-returns Inv-loop μ-loop
-returns c = (omega arith, set-found _ _ _ _ (c .before .before .before .before .before .before .before .loop .p) (c .before .before .before .before .before .before .loop-test .taken) (c .before .same-set .ensures .yes (c .if1 .taken)))
+returns c =
+    let at-loop-test = c .before .before .before .before .before .before in (
+      omega arith,
+      set-found _ _ _ _ (at-loop-test .before .loop .p) (at-loop-test .loop-test .taken) (c .before .same-set .ensures .yes (c .if1 .taken)),
+    )
 
 add-p : tie.Need-add-p Inv-loop μ-loop
 add-p c = search needs
@@ -74,7 +101,11 @@ loop-less : tie.Need-loop-less Inv-loop μ-loop
 loop-less c = search needs
 
 loop-again : tie.Need-loop-again Inv-loop μ-loop
-loop-again c = (omega arith, below-more _ _ (c .before .before .before .before .before .before .before .loop .inv .1) (λ e. c .before .same-set .ensures .no (c .if1 .left) e))
+loop-again c = (
+  omega arith,
+  below-more _ _ (c .before .before .before .before .before .before .before .loop .inv .1)
+      (λ e. c .before .same-set .ensures .no (c .if1 .left) e),
+)
 
 returns-2 : tie.Need-returns-2 Inv-loop μ-loop
 returns-2 c = (omega arith, set-missing _ _ _ _ (λ k h. c .before .loop .inv .1 k (omega arith)))

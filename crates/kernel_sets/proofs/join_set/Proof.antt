@@ -16,7 +16,9 @@ same-length : tie.Need-same-length
 same-length c = search needs
 
 returns : tie.Need-returns
-returns c = let p = c .before .before .before .before .before .pre in joins-known _ _ _ _ _ (p .0) (p .1 .0) (p .1 .1) (c .before .find-set .ensures .1) (omega (arith, c .if1 .taken))
+returns c =
+    let p = c .before .before .before .before .before .pre in
+    joins-known _ _ _ _ _ (p .0) (p .1 .0) (p .1 .1) (c .before .find-set .ensures .1) (omega (arith, c .if1 .taken))
 
 add-starts : tie.Need-add-starts
 add-starts c = search needs
@@ -43,7 +45,10 @@ same-length-2 : tie.Need-same-length-2
 same-length-2 c = search needs
 
 returns-2 : tie.Need-returns-2
-returns-2 c = let p = c .before .before .before .before .before .pre in joins-new _ _ _ _ _ (p .0) (p .1 .0) (p .1 .1) _ refl (omega (arith, p .1 .2, p .1 .4)) (c .before .find-set .ensures .1) (omega (arith, c .if1 .left)) (p .1 .2) (p .1 .3)
+returns-2 c =
+    let p = c .before .before .before .before .before .pre in
+    joins-new _ _ _ _ _ (p .0) (p .1 .0) (p .1 .1) _ refl (omega (arith, p .1 .2, p .1 .4))
+    (c .before .find-set .ensures .1) (omega (arith, c .if1 .left)) (p .1 .2) (p .1 .3)
 
 pub join-set-spec : {M : Type 1} → statement M
 join-set-spec =

@@ -10,16 +10,36 @@ use Rattle.kernel_sets.proofs.leave_state.Statement.{statement}
 use Rattle.kernel_sets.proofs.leave_state.Tie as tie
 
 abbrev Inv-loop : tie.InvT-loop
-Inv-loop q moved n sets₀ starts₀ states lines kinds₀ values₀ gotos₀ found₀ end₀ x₀ sets starts kinds values gotos found end x = (1 ≤ x) × (x ≤ 128) × Lengths sets₀ starts₀ kinds₀ values₀ gotos₀ sets starts kinds values gotos × Leaving (take n moved) sets₀ starts₀ kinds₀ values₀ gotos₀ q states lines sets starts kinds values gotos found end x
+Inv-loop q moved n sets₀ starts₀ states lines kinds₀ values₀ gotos₀ found₀ end₀ x₀ sets starts kinds values gotos found
+    end x =
+    (1 ≤ x)
+    × (x ≤ 128)
+    × Lengths sets₀ starts₀ kinds₀ values₀ gotos₀ sets starts kinds values gotos
+    × Leaving (take n moved) sets₀ starts₀ kinds₀ values₀ gotos₀ q states lines sets starts kinds values gotos found end
+    x
 
 abbrev μ-loop : tie.MeasureT-loop
 μ-loop q moved n sets₀ starts₀ states lines kinds₀ values₀ gotos₀ found₀ end₀ x₀ sets starts kinds values gotos found end x = 128 - x
 
 loop-holds : tie.Need-loop-holds Inv-loop μ-loop
-loop-holds c = let p = c .before .before .before .before .before .before .pre in (omega arith, omega arith, lengths-same _ _ _ _ _, leaving-start _ (p .0) (p .1 .1 .0 .1) (p .1 .1 .0 .2))
+loop-holds c =
+    let p = c .before .before .before .before .before .before .pre in
+    (omega arith, omega arith, lengths-same _ _ _ _ _, leaving-start _ (p .0) (p .1 .1 .0 .1) (p .1 .1 .0 .2))
 
 visit-symbol-requires : tie.Need-visit-symbol-requires Inv-loop μ-loop
-visit-symbol-requires c κs = let p = c .before .before .before .before .before .before .before .before .before .before .pre in let i = c .before .before .before .loop .inv in (i .3 .bounds, (p .1 .0 .0, omega (arith, p .1 .0 .1, p .1 .0 .2, i .2 .sets-long, i .3 .few-lines), i .3 .few-states, i .3 .few-lines, omega (arith, p .1 .0 .3, i .2 .starts-long)))
+visit-symbol-requires c κs =
+    let at-loop = c .before .before .before in
+    let p = at-loop .before .before .before .before .before .before .before .pre in
+    let i = at-loop .loop .inv in (
+      i .3 .bounds,
+      (
+        p .1 .0 .0,
+        omega (arith, p .1 .0 .1, p .1 .0 .2, i .2 .sets-long, i .3 .few-lines),
+        i .3 .few-states,
+        i .3 .few-lines,
+        omega (arith, p .1 .0 .3, i .2 .starts-long),
+      ),
+    )
 
 same-length : tie.Need-same-length Inv-loop μ-loop
 same-length c = search needs
@@ -37,7 +57,11 @@ same-length-5 : tie.Need-same-length-5 Inv-loop μ-loop
 same-length-5 c = search needs
 
 returns : tie.Need-returns Inv-loop μ-loop
-returns c = leaves-full _ (c .before .before .before .before .before .before .before .before .before .loop .inv .3) (c .before .before .before .before .before .before .before .before .loop-test .taken) (c .before .before .before .before .before .visit-symbol .ensures) (inl (c .if1 .taken))
+returns c =
+    let at-visit-symbol = c .before .before .before .before .before in
+    let at-loop-test = at-visit-symbol .before .before .before in
+    leaves-full _ (at-loop-test .before .loop .inv .3) (at-loop-test .loop-test .taken)
+    (at-visit-symbol .visit-symbol .ensures) (inl (c .if1 .taken))
 
 same-length-6 : tie.Need-same-length-6 Inv-loop μ-loop
 same-length-6 c = search needs
@@ -55,10 +79,23 @@ same-length-10 : tie.Need-same-length-10 Inv-loop μ-loop
 same-length-10 c = search needs
 
 returns-2 : tie.Need-returns-2 Inv-loop μ-loop
-returns-2 c = leaves-full _ (c .before .before .before .before .before .before .before .before .before .before .loop .inv .3) (c .before .before .before .before .before .before .before .before .before .loop-test .taken) (c .before .before .before .before .before .before .visit-symbol .ensures) (inr (c .if2 .taken))
+returns-2 c =
+    let at-visit-symbol = c .before .before .before .before .before .before in
+    let at-loop-test = at-visit-symbol .before .before .before in
+    leaves-full _ (at-loop-test .before .loop .inv .3) (at-loop-test .loop-test .taken)
+    (at-visit-symbol .visit-symbol .ensures) (inr (c .if2 .taken))
 
 store-next-requires : tie.Need-store-next-requires Inv-loop μ-loop
-store-next-requires c κs = let p = c .before .before .before .before .before .before .before .before .before .before .before .before .before .before .before .before .before .before .before .before .pre in let i = c .before .before .before .before .before .before .before .before .before .before .before .before .before .loop .inv in let j = c .before .before .before .before .before .before .before .before .before .visit-symbol .ensures in (cells-kept (i .2) (p .1 .1 .1), (p .1 .1 .0 .0, c .before .before .before .before .before .before .before .before .before .before .before .before .loop-test .taken, omega (arith, joined-low j, c .before .before .before .before .if1 .left)))
+store-next-requires c κs =
+    let at-if1 = c .before .before .before .before in
+    let at-visit-symbol = at-if1 .before .before .before .before .before in
+    let at-loop-test = at-visit-symbol .before .before .before in
+    let p = at-loop-test .before .before .before .before .before .before .before .before .pre in
+    let i = at-loop-test .before .loop .inv in
+    let j = at-visit-symbol .visit-symbol .ensures in (
+      cells-kept (i .2) (p .1 .1 .1),
+      (p .1 .1 .0 .0, at-loop-test .loop-test .taken, omega (arith, joined-low j, at-if1 .if1 .left)),
+    )
 
 add-x : tie.Need-add-x Inv-loop μ-loop
 add-x c = search needs
@@ -67,7 +104,18 @@ loop-less : tie.Need-loop-less Inv-loop μ-loop
 loop-less c = search needs
 
 loop-again : tie.Need-loop-again Inv-loop μ-loop
-loop-again c = let i = c .before .before .before .before .before .before .before .before .before .before .before .before .before .before .before .before .before .before .before .before .loop .inv in (omega arith, omega arith, search needs, leaving-more _ (i .3) (c .before .before .before .before .before .before .before .before .before .before .before .before .before .before .before .before .before .before .before .loop-test .taken) (c .before .before .before .before .before .before .before .before .before .before .before .before .before .before .before .before .visit-symbol .ensures) (i .0) (c .before .before .before .before .before .before .before .before .before .before .before .if1 .left) (c .before .before .before .before .before .before .before .before .before .before .if2 .left) (c .before .before .before .before .before .before .store-next .ensures))
+loop-again c =
+    let at-store-next = c .before .before .before .before .before .before in
+    let at-if2 = at-store-next .before .before .before .before in
+    let at-visit-symbol = at-if2 .before .before .before .before .before .before in
+    let at-loop-test = at-visit-symbol .before .before .before in
+    let i = at-loop-test .before .loop .inv in (
+      omega arith,
+      omega arith,
+      search needs,
+      leaving-more _ (i .3) (at-loop-test .loop-test .taken) (at-visit-symbol .visit-symbol .ensures) (i .0)
+          (at-if2 .before .if1 .left) (at-if2 .if2 .left) (at-store-next .store-next .ensures),
+    )
 
 same-length-11 : tie.Need-same-length-11 Inv-loop μ-loop
 same-length-11 c = search needs

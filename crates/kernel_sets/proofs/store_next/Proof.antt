@@ -54,7 +54,10 @@ same-length-3 : tie.Need-same-length-3
 same-length-3 c = search needs
 
 returns-3 : tie.Need-returns-3
-returns-3 c = let p = c .before .before .pre in stores-shift _ _ _ _ _ _ (c .before .if1 .left) (c .if2 .left) (omega (arith, p .0 .kinds-room)) (omega (arith, p .0 .values-room))
+returns-3 c =
+    let p = c .before .before .pre in
+    stores-shift _ _ _ _ _ _ (c .before .if1 .left) (c .if2 .left) (omega (arith, p .0 .kinds-room))
+    (omega (arith, p .0 .values-room))
 
 pub store-next-spec : {M : Type 1} → statement M
 store-next-spec =

@@ -12,10 +12,20 @@ same-length : tie.Need-same-length
 same-length c = search needs
 
 returns : tie.Need-returns
-returns c = let p = c .before .before .before .before .before .before .before .before .pre in let e = c .before .before .before .pick-moves .ensures in joins-none _ _ _ _ _ _ _ (p .0) (search needs) (e .0 .1) (e .1) (c .if1 .taken)
+returns c =
+    let at-pick-moves = c .before .before .before in
+    let p = at-pick-moves .before .before .before .before .before .pre in
+    let e = at-pick-moves .pick-moves .ensures in
+    joins-none _ _ _ _ _ _ _ (p .0) (search needs) (e .0 .1) (e .1) (c .if1 .taken)
 
 join-set-requires : tie.Need-join-set-requires
-join-set-requires c κs = let p = c .before .before .before .before .before .before .before .before .before .before .pre in let e = c .before .before .before .before .before .pick-moves .ensures in (stored-bounds _ _ _ _ _ _ _ (p .0) (search needs) (e .0 .1) (e .1), (omega arith, search needs, p .1 .2, p .1 .3, p .1 .4))
+join-set-requires c κs =
+    let at-pick-moves = c .before .before .before .before .before in
+    let p = at-pick-moves .before .before .before .before .before .pre in
+    let e = at-pick-moves .pick-moves .ensures in (
+      stored-bounds _ _ _ _ _ _ _ (p .0) (search needs) (e .0 .1) (e .1),
+      (omega arith, search needs, p .1 .2, p .1 .3, p .1 .4),
+    )
 
 same-length-2 : tie.Need-same-length-2
 same-length-2 c = search needs
@@ -24,7 +34,11 @@ same-length-3 : tie.Need-same-length-3
 same-length-3 c = search needs
 
 returns-2 : tie.Need-returns-2
-returns-2 c = let p = c .before .before .before .before .before .before .before .before .before .before .before .before .before .pre in let e = c .before .before .before .before .before .before .before .before .pick-moves .ensures in joins-stored _ _ _ _ _ _ _ (p .0) (search needs) (e .0 .1) (e .1) (c .before .before .join-set .ensures)
+returns-2 c =
+    let at-pick-moves = c .before .before .before .before .before .before .before .before in
+    let p = at-pick-moves .before .before .before .before .before .pre in
+    let e = at-pick-moves .pick-moves .ensures in
+    joins-stored _ _ _ _ _ _ _ (p .0) (search needs) (e .0 .1) (e .1) (c .before .before .join-set .ensures)
 
 pub visit-symbol-spec : {M : Type 1} → statement M
 visit-symbol-spec =

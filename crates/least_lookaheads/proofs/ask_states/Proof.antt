@@ -7,7 +7,12 @@ use Rattle.least_lookaheads.proofs.ask_states.Statement.{statement}
 use Rattle.least_lookaheads.proofs.ask_states.Tie as tie
 
 abbrev Inv-loop : tie.InvT-loop
-Inv-loop items kernels links lookaheads kinds values gotos entries uses nul fst starts through changed count rules lines codes all grown₀ p₀ grown p = (1 ≤ p) × (p ≤ all + 1) × StatesAdd items kernels lookaheads kinds values gotos entries uses nul fst rules lines codes changed all p grown₀ grown
+Inv-loop items kernels links lookaheads kinds values gotos entries uses nul fst starts through changed count rules lines
+    codes all grown₀ p₀ grown p =
+    (1 ≤ p)
+    × (p ≤ all + 1)
+    × StatesAdd items kernels lookaheads kinds values gotos entries uses nul fst rules lines codes changed all p grown₀
+    grown
 
 abbrev μ-loop : tie.MeasureT-loop
 μ-loop items kernels links lookaheads kinds values gotos entries uses nul fst starts through changed count rules lines codes all grown₀ p₀ grown p = all + 1 - p
@@ -16,29 +21,65 @@ loop-holds : tie.Need-loop-holds Inv-loop μ-loop
 loop-holds c = (omega arith, omega arith, states-start _)
 
 shared-slice-read-if1 : tie.Need-shared-slice-read-if1 Inv-loop μ-loop
-shared-slice-read-if1 c = omega (arith, c .before .loop-test .taken, c .before .before .before .before .before .before .before .before .before .before .before .before .before .before .before .before .before .before .pre .1 .1 .1 .1 .0, c .before .before .before .before .before .before .before .before .before .before .before .before .before .before .before .before .before .before .pre .1 .1 .1 .1 .1)
+shared-slice-read-if1 c =
+    let start = c .before .before .before .before .before .before .before .before .before .before .before .before .before .before .before .before .before
+    .before in
+    omega (arith, c .before .loop-test .taken, start .pre .1 .1 .1 .1 .0, start .pre .1 .1 .1 .1 .1)
 
 add-p : tie.Need-add-p Inv-loop μ-loop
-add-p c = omega (arith, c .before .before .loop-test .taken, c .before .before .before .before .before .before .before .before .before .before .before .before .before .before .before .before .before .before .before .pre .1 .1 .1 .1 .0)
+add-p c =
+    let start = c .before .before .before .before .before .before .before .before .before .before .before .before .before .before .before .before .before
+    .before .before in
+    omega (arith, c .before .before .loop-test .taken, start .pre .1 .1 .1 .1 .0)
 
 loop-less : tie.Need-loop-less Inv-loop μ-loop
 loop-less c = omega (arith, c .before .before .loop-test .taken)
 
 loop-again : tie.Need-loop-again Inv-loop μ-loop
-loop-again c = let o = c .before .before .before .loop .inv in (omega arith, omega (arith, c .before .before .loop-test .taken), states-skip (o .2) (c .if1 .taken) refl)
+loop-again c =
+    let o = c .before .before .before .loop .inv in
+    (omega arith, omega (arith, c .before .before .loop-test .taken), states-skip (o .2) (c .if1 .taken) refl)
 
 ask-state-requires : tie.Need-ask-state-requires Inv-loop μ-loop
-ask-state-requires c κs = let p = c .before .before .before .before .before .before .before .before .before .before .before .before .before .before .before .before .before .before .before .before .pre in
-    (p .0, (p .1 .0, (p .1 .1 .0, (p .1 .1 .1 .0, (omega (arith, p .1 .1 .1 .1 .0, c .before .before .before .loop-test .taken), p .1 .1 .1 .1 .2, omega (arith, c .before .before .before .before .loop .inv .2 .long, p .1 .1 .1 .1 .3))))))
+ask-state-requires c κs =
+    let at-loop-test = c .before .before .before in
+    let p = at-loop-test .before .before .before .before .before .before .before .before .before .before .before .before .before .before .before .before
+    .before .pre in (
+      p .0,
+      (
+        p .1 .0,
+        (
+          p .1 .1 .0,
+          (
+            p .1 .1 .1 .0,
+            (
+              omega (arith, p .1 .1 .1 .1 .0, at-loop-test .loop-test .taken),
+              p .1 .1 .1 .1 .2,
+              omega (arith, at-loop-test .before .loop .inv .2 .long, p .1 .1 .1 .1 .3),
+            ),
+          ),
+        ),
+      ),
+    )
 
 add-p-2 : tie.Need-add-p-2 Inv-loop μ-loop
-add-p-2 c = omega (arith, c .before .before .before .before .before .before .loop-test .taken, c .before .before .before .before .before .before .before .before .before .before .before .before .before .before .before .before .before .before .before .before .before .before .before .pre .1 .1 .1 .1 .0)
+add-p-2 c =
+    let at-loop-test = c .before .before .before .before .before .before in
+    let start = at-loop-test .before .before .before .before .before .before .before .before .before .before .before .before .before .before .before .before
+    .before in
+    omega (arith, at-loop-test .loop-test .taken, start .pre .1 .1 .1 .1 .0)
 
 loop-less-2 : tie.Need-loop-less-2 Inv-loop μ-loop
 loop-less-2 c = omega (arith, c .before .before .before .before .before .before .loop-test .taken)
 
 loop-again-2 : tie.Need-loop-again-2 Inv-loop μ-loop
-loop-again-2 c = let o = c .before .before .before .before .before .before .before .loop .inv in (omega arith, omega (arith, c .before .before .before .before .before .before .loop-test .taken), states-more (o .2) (o .0) (c .before .before .before .before .before .before .loop-test .taken) refl (c .before .before .ask-state .ensures))
+loop-again-2 c =
+    let at-loop-test = c .before .before .before .before .before .before in
+    let o = at-loop-test .before .loop .inv in (
+      omega arith,
+      omega (arith, at-loop-test .loop-test .taken),
+      states-more (o .2) (o .0) (at-loop-test .loop-test .taken) refl (c .before .before .ask-state .ensures),
+    )
 
 same-length : tie.Need-same-length Inv-loop μ-loop
 same-length c = c .before .loop .inv .2 .long

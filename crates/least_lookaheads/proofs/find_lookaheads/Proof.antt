@@ -9,13 +9,19 @@ use Rattle.least_lookaheads.proofs.find_lookaheads.Statement.{statement
 use Rattle.least_lookaheads.proofs.find_lookaheads.Tie as tie
 
 abbrev Inv-passes : tie.InvT-passes
-Inv-passes items kernels links kinds values gotos entries uses nul fst starts through rules strings lines all codes lookaheads₀ count changed₀ grown₀ lookaheads changed grown = Passing items entries uses kernels kinds values gotos nul fst rules strings lines all codes lookaheads₀ changed grown lookaheads
+Inv-passes items kernels links kinds values gotos entries uses nul fst starts through rules strings lines all codes
+    lookaheads₀ count changed₀ grown₀ lookaheads changed grown =
+    Passing items entries uses kernels kinds values gotos nul fst rules strings lines all codes lookaheads₀ changed
+    grown lookaheads
 
 abbrev μ-passes : tie.MeasureT-passes
-μ-passes items kernels links kinds values gotos entries uses nul fst starts through rules strings lines all codes lookaheads₀ count changed₀ grown₀ lookaheads changed grown = zeros lookaheads
+μ-passes items kernels links kinds values gotos entries uses nul fst starts through rules strings lines all codes
+    lookaheads₀ count changed₀ grown₀ lookaheads changed grown = zeros lookaheads
 
 add-count : tie.Need-add-count Inv-passes μ-passes
-add-count c = omega (arith, c .before .before .before .before .before .before .before .before .before .before .before .before .before .pre .0 .few-rules, c .before .before .before .before .before .before .before .before .before .before .before .before .before .pre .1 .1 .1 .1 .1)
+add-count c =
+    let start = c .before .before .before .before .before .before .before .before .before .before .before .before .before in
+    omega (arith, start .pre .0 .few-rules, start .pre .1 .1 .1 .1 .1)
 
 clear-requires : tie.Need-clear-requires Inv-passes μ-passes
 clear-requires c κs = search needs
@@ -27,14 +33,33 @@ slice-aggregate-add-lines : tie.Need-slice-aggregate-add-lines Inv-passes μ-pas
 slice-aggregate-add-lines c = search needs
 
 add-add-lines : tie.Need-add-add-lines Inv-passes μ-passes
-add-add-lines c = omega (arith, c .before .before .before .before .before .before .before .before .before .before .before .before .before .before .before .before .before .before .pre .0 .few-rules)
+add-add-lines c =
+    let start = c .before .before .before .before .before .before .before .before .before .before .before .before .before .before .before .before .before
+    .before in
+    omega (arith, start .pre .0 .few-rules)
 
 add-lines-requires : tie.Need-add-lines-requires Inv-passes μ-passes
-add-lines-requires c κs = let p = c .before .before .before .before .before .before .before .before .before .before .before .before .before .before .before .before .before .before .before .pre in
-    (p .0 .lined .some-lines, (p .0 .lined .linked, (omega arith, omega arith, search needs, omega (arith, zeroed {n = length (c .before .before .before .before .before .before .before .before .before .before .before .before .before .before .before .before .before .before .before .args .lookaheads .now)} (c .before .before .before .before .clear .ensures) refl, p .1 .1 .1 .1 .2))))
+add-lines-requires c κs =
+    let at-clear = c .before .before .before .before in
+    let start = at-clear .before .before .before .before .before .before .before .before .before .before .before .before .before .before .before in
+    let p = start .pre in (
+      p .0 .lined .some-lines,
+      (
+        p .0 .lined .linked,
+        (
+          omega arith,
+          omega arith,
+          search needs,
+          omega (arith, zeroed {n = length (start .args .lookaheads .now)} (at-clear .clear .ensures) refl, p .1 .1 .1 .1 .2),
+        ),
+      ),
+    )
 
 passes-holds : tie.Need-passes-holds Inv-passes μ-passes
-passes-holds c = passing-start _ refl refl (c .before .before .before .before .before .before .before .before .before .before .before .before .before .before .before .before .before .before .before .before .before .before .pre .1 .1 .1 .1 .0)
+passes-holds c =
+    let start = c .before .before .before .before .before .before .before .before .before .before .before .before .before .before .before .before .before
+    .before .before .before .before .before in
+    passing-start _ refl refl (start .pre .1 .1 .1 .1 .0)
 
 slice-aggregate-make-pass : tie.Need-slice-aggregate-make-pass Inv-passes μ-passes
 slice-aggregate-make-pass c = search needs
@@ -43,36 +68,70 @@ slice-aggregate-make-pass-2 : tie.Need-slice-aggregate-make-pass-2 Inv-passes μ
 slice-aggregate-make-pass-2 c = search needs
 
 make-pass-requires : tie.Need-make-pass-requires Inv-passes μ-passes
-make-pass-requires c κs = let p = c .before .before .before .before .before .before .before .before .before .before .before .before .before .before .before .before .before .before .before .before .before .before .before .before .before .before .pre in let o = c .before .before .before .passes .inv in (
-  p .0,
-  (
-    p .1 .0,
-    (
-      p .1 .1 .0,
+make-pass-requires c κs =
+    let at-passes = c .before .before .before in
+    let at-add-lines = at-passes .before .before .before in
+    let at-clear = at-add-lines .before .before .before .before .before in
+    let start = at-clear .before .before .before .before .before .before .before .before .before .before .before .before .before .before .before in
+    let p = start .pre in
+    let o = at-passes .passes .inv in (
+      p .0,
       (
-        p .1 .1 .1 .0,
+        p .1 .0,
         (
-          p .1 .1 .1 .1 .0,
-          o .noted-long,
-          omega (arith, o .grown-long, p .0 .lined .some-lines .few),
-          omega (arith, o .long, c .before .before .before .before .before .before .add-lines .ensures .long, zeroed {n = length (c .before .before .before .before .before .before .before .before .before .before .before .before .before .before .before .before .before .before .before .before .before .before .before .before .before .before .args .lookaheads .now)} (c .before .before .before .before .before .before .before .before .before .before .before .clear .ensures) refl, p .1 .1 .1 .1 .2),
+          p .1 .1 .0,
+          (
+            p .1 .1 .1 .0,
+            (
+              p .1 .1 .1 .1 .0,
+              o .noted-long,
+              omega (arith, o .grown-long, p .0 .lined .some-lines .few),
+              omega (
+                arith,
+                o .long,
+                at-add-lines .add-lines .ensures .long,
+                zeroed {n = length (start .args .lookaheads .now)} (at-clear .clear .ensures) refl,
+                p .1 .1 .1 .1 .2,
+              ),
+            ),
+          ),
         ),
       ),
-    ),
-  ),
-)
+    )
 
 passes-less : tie.Need-passes-less Inv-passes μ-passes
 passes-less c = omega (arith, c .before .before .before .before .before .make-pass .ensures .merged .count, c .if1 .left)
 
 passes-again : tie.Need-passes-again Inv-passes μ-passes
-passes-again c = passing-more (c .before .before .before .before .before .before .before .before .before .passes .inv) (c .before .before .before .before .before .before .before .before .before .before .before .before .before .before .before .before .before .before .before .before .before .before .before .before .before .before .before .before .before .before .before .before .pre .0 .ready .few-codes) (c .before .before .before .before .before .make-pass .ensures)
+passes-again c =
+    let at-make-pass = c .before .before .before .before .before in
+    let at-passes = at-make-pass .before .before .before .before in
+    let start = at-passes .before .before .before .before .before .before .before .before .before .before .before .before .before .before .before .before
+    .before .before .before .before .before .before .before in
+    passing-more (at-passes .passes .inv) (start .pre .0 .ready .few-codes) (at-make-pass .make-pass .ensures)
 
 same-length : tie.Need-same-length Inv-passes μ-passes
-same-length c = c .before .before .before .before .before .make-pass .ensures .merged .long ∙ (c .before .before .before .before .before .before .before .before .before .passes .inv .long ∙ (c .before .before .before .before .before .before .before .before .before .before .before .before .add-lines .ensures .long ∙ zeroed {n = length (c .before .before .before .before .before .before .before .before .before .before .before .before .before .before .before .before .before .before .before .before .before .before .before .before .before .before .before .before .before .before .before .before .args .lookaheads .now)} (c .before .before .before .before .before .before .before .before .before .before .before .before .before .before .before .before .before .clear .ensures) refl))
+same-length c =
+    let at-make-pass = c .before .before .before .before .before in
+    let at-passes = at-make-pass .before .before .before .before in
+    let at-add-lines = at-passes .before .before .before in
+    let at-clear = at-add-lines .before .before .before .before .before in
+    let start = at-clear .before .before .before .before .before .before .before .before .before .before .before .before .before .before .before in
+    at-make-pass .make-pass .ensures .merged .long
+    ∙ (at-passes .passes .inv .long
+    ∙ (at-add-lines .add-lines .ensures .long
+    ∙ zeroed {n = length (start .args .lookaheads .now)} (at-clear .clear .ensures) refl))
 
 returns : tie.Need-returns Inv-passes μ-passes
-returns c = λ g S. found-all (c .before .before .before .before .before .before .before .before .before .passes .inv) (c .before .before .before .before .before .before .before .before .before .before .before .before .before .before .before .before .before .before .before .before .before .before .before .before .before .before .before .before .before .before .before .before .pre .0 .ready .few-codes) (c .before .before .before .before .before .make-pass .ensures) (length (c .before .before .before .before .before .before .before .before .before .before .before .before .before .before .before .before .before .before .before .before .before .before .before .before .before .before .before .before .before .before .before .before .args .lookaheads .now)) refl (c .before .before .before .before .before .before .before .before .before .before .before .before .before .before .before .before .before .clear .ensures) (c .before .before .before .before .before .before .before .before .before .before .before .before .add-lines .ensures)
+returns c =
+    let at-make-pass = c .before .before .before .before .before in
+    let at-passes = at-make-pass .before .before .before .before in
+    let at-add-lines = at-passes .before .before .before in
+    let at-clear = at-add-lines .before .before .before .before .before in
+    let start = at-clear .before .before .before .before .before .before .before .before .before .before .before .before .before .before .before in
+    λ g S.
+    found-all (at-passes .passes .inv) (start .pre .0 .ready .few-codes) (at-make-pass .make-pass .ensures)
+    (length (start .args .lookaheads .now)) refl (at-clear .clear .ensures) (at-add-lines .add-lines .ensures)
     (omega (arith, c .if1 .taken)) g S
 
 pub find-lookaheads-spec : {M : Type 1} → statement M

@@ -16,7 +16,9 @@ abbrev μ-loop : tie.MeasureT-loop
 μ-loop entries uses i groups rows₀ j₀ rows j = groups - j
 
 loop-holds : tie.Need-loop-holds Inv-loop μ-loop
-loop-holds c = let s = c .before .before .before in (omega arith, s .pre .0 .2, groups-start (s .pre .0 .2))
+loop-holds c =
+    let start = c .before .before .before in
+    (omega arith, start .pre .0 .2, groups-start (start .pre .0 .2))
 
 mul-wide : tie.Need-mul-wide Inv-loop μ-loop
 mul-wide c = search needs
@@ -55,7 +57,14 @@ loop-less : tie.Need-loop-less Inv-loop μ-loop
 loop-less c = search needs
 
 loop-again : tie.Need-loop-again Inv-loop μ-loop
-loop-again c = let o = c .before .before .before .before .loop in let s = c .before .before .before .before .before .before .before .before in (omega arith, simp length-set (o .inv .1), groups-more (o .inv .2) (c .before .before .before .loop-test .taken) (s .pre .1 .0) (s .pre .1 .1) (c .before .wide .ensures .0))
+loop-again c =
+    let at-loop-test = c .before .before .before in
+    let start = at-loop-test .before .before .before .before .before in
+    let o = at-loop-test .before .loop in (
+      omega arith,
+      simp length-set (o .inv .1),
+      groups-more (o .inv .2) (at-loop-test .loop-test .taken) (start .pre .1 .0) (start .pre .1 .1) (c .before .wide .ensures .0),
+    )
 
 same-length : tie.Need-same-length Inv-loop μ-loop
 same-length c = search needs

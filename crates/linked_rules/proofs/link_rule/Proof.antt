@@ -39,7 +39,10 @@ add-rows : tie.Need-add-rows
 add-rows c = search needs
 
 slice-write-rows-2 : tie.Need-slice-write-rows-2
-slice-write-rows-2 c = simp length-set (omega (arith, c .before .before .before .before .link-groups .ensures .long, c .before .before .before .before .before .before .before .before .before .before .before .pre .1 .1))
+slice-write-rows-2 c =
+    let at-link-groups = c .before .before .before .before in
+    simp length-set
+    (omega (arith, at-link-groups .link-groups .ensures .long, at-link-groups .before .before .before .before .before .before .before .pre .1 .1))
 
 unit-of-requires : tie.Need-unit-of-requires
 unit-of-requires c κs = search needs
@@ -54,7 +57,10 @@ add-rows-2 : tie.Need-add-rows-2
 add-rows-2 c = search needs
 
 slice-write-rows-3 : tie.Need-slice-write-rows-3
-slice-write-rows-3 c = simp length-set (omega (arith, c .before .before .before .before .before .link-groups .ensures .long, c .before .before .before .before .before .before .before .before .before .before .before .before .pre .1 .1))
+slice-write-rows-3 c =
+    let at-link-groups = c .before .before .before .before .before in
+    simp length-set
+    (omega (arith, at-link-groups .link-groups .ensures .long, at-link-groups .before .before .before .before .before .before .before .pre .1 .1))
 
 cast-rows-4 : tie.Need-cast-rows-4
 cast-rows-4 c = search needs
@@ -66,13 +72,21 @@ add-rows-3 : tie.Need-add-rows-3
 add-rows-3 c = search needs
 
 slice-write-rows-4 : tie.Need-slice-write-rows-4
-slice-write-rows-4 c = simp length-set (omega (arith, c .before .before .before .before .before .link-groups .ensures .long, c .before .before .before .before .before .before .before .before .before .before .before .before .pre .1 .1))
+slice-write-rows-4 c =
+    let at-link-groups = c .before .before .before .before .before in
+    simp length-set
+    (omega (arith, at-link-groups .link-groups .ensures .long, at-link-groups .before .before .before .before .before .before .before .pre .1 .1))
 
 same-length : tie.Need-same-length
 same-length c = search needs
 
 returns : tie.Need-returns
-returns c = rule-linked (c .before .before .before .before .before .before .before .before .before .before .before .before .pre .1 .1 .1) (c .before .before .before .before .before .before .before .count-groups .ensures) (c .before .before .before .before .before .link-groups .ensures) (c .before .before .mark-of .ensures .0) (ap (λ (x : ℕ). x % 64) (c .before .left-of .ensures .0)) (c .unit-of .ensures .0)
+returns c =
+    let at-link-groups = c .before .before .before .before .before in
+    rule-linked (at-link-groups .before .before .before .before .before .before .before .pre .1 .1 .1)
+    (at-link-groups .before .before .count-groups .ensures) (at-link-groups .link-groups .ensures)
+    (c .before .before .mark-of .ensures .0) (ap (λ (x : ℕ). x % 64) (c .before .left-of .ensures .0))
+    (c .unit-of .ensures .0)
 
 pub link-rule-spec : {M : Type 1} → statement M
 link-rule-spec =

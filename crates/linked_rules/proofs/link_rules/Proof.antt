@@ -20,12 +20,18 @@ slice-aggregate-note-uses : tie.Need-slice-aggregate-note-uses Inv-loop μ-loop
 slice-aggregate-note-uses c = search needs
 
 note-uses-requires : tie.Need-note-uses-requires Inv-loop μ-loop
-note-uses-requires c κs = let s = c .before .before .before .before in (s .pre .0, (s .pre .1 .0, s .pre .1 .1, refl))
+note-uses-requires c κs =
+    let start = c .before .before .before .before in
+    (start .pre .0, (start .pre .1 .0, start .pre .1 .1, refl))
 
 loop-holds : tie.Need-loop-holds Inv-loop μ-loop
 loop-holds c =
-    let s = c .before .before .before .before .before .before in
-    (omega arith, omega arith, ap length (s .pre .1 .3) ∙ length-replicate {A = ℕ} 8448 0, rules-start (s .pre .1 .3))
+    let start = c .before .before .before .before .before .before in (
+      omega arith,
+      omega arith,
+      ap length (start .pre .1 .3) ∙ length-replicate {A = ℕ} 8448 0,
+      rules-start (start .pre .1 .3),
+    )
 
 add-link-rule : tie.Need-add-link-rule Inv-loop μ-loop
 add-link-rule c = search needs
@@ -35,9 +41,15 @@ slice-aggregate-link-rule c = search needs
 
 link-rule-requires : tie.Need-link-rule-requires Inv-loop μ-loop
 link-rule-requires c κs =
-    let s = c .before .before .before .before .before .before .before .before .before .before in
-    let low = c .before .before .loop-test .taken in
-    (s .pre .0, ((s .pre .1 .2, c .before .before .before .before .before .note-uses .ensures .0, c .before .before .before .loop .inv .2), (omega (arith, low), omega (arith, low, s .pre .1 .0))))
+    let at-loop = c .before .before .before in
+    let start = at-loop .before .before .before .before .before .before .before in
+    let low = c .before .before .loop-test .taken in (
+      start .pre .0,
+      (
+        (start .pre .1 .2, at-loop .before .before .note-uses .ensures .0, at-loop .loop .inv .2),
+        (omega (arith, low), omega (arith, low, start .pre .1 .0)),
+      ),
+    )
 
 add-i : tie.Need-add-i Inv-loop μ-loop
 add-i c = search needs
@@ -46,10 +58,16 @@ loop-less : tie.Need-loop-less Inv-loop μ-loop
 loop-less c = search needs
 
 loop-again : tie.Need-loop-again Inv-loop μ-loop
-loop-again c = let o = c .before .before .before .before .before .before .loop in let e = c .before .before .link-rule .ensures in (omega arith, omega arith, e .long, rules-more (o .inv .3) e)
+loop-again c =
+    let o = c .before .before .before .before .before .before .loop in
+    let e = c .before .before .link-rule .ensures in
+    (omega arith, omega arith, e .long, rules-more (o .inv .3) e)
 
 same-length : tie.Need-same-length Inv-loop μ-loop
-same-length c = c .before .loop .inv .2 ∙ sym (ap length (c .before .before .before .before .before .before .before .before .pre .1 .3) ∙ length-replicate {A = ℕ} 8448 0)
+same-length c =
+    c .before .loop .inv .2
+    ∙ sym
+    (ap length (c .before .before .before .before .before .before .before .before .pre .1 .3) ∙ length-replicate {A = ℕ} 8448 0)
 
 returns : tie.Need-returns Inv-loop μ-loop
 returns c =

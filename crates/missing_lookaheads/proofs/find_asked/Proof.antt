@@ -9,7 +9,8 @@ use Rattle.missing_lookaheads.proofs.find_asked.Statement.{statement}
 use Rattle.missing_lookaheads.proofs.find_asked.Tie as tie
 
 abbrev Inv-loop : tie.InvT-loop
-Inv-loop kernels links lookaheads asked lines count codes q source p₀ p = Passed (λ l. (c : ℕ) → c < codes → On asked (l * 64 + c) → On lookaheads (l * 64 + c)) kernels q lines p
+Inv-loop kernels links lookaheads asked lines count codes q source p₀ p =
+    Passed (λ l. (c : ℕ) → c < codes → On asked (l * 64 + c) → On lookaheads (l * 64 + c)) kernels q lines p
 
 abbrev μ-loop : tie.MeasureT-loop
 μ-loop kernels links lookaheads asked lines count codes q source p₀ p = p
@@ -24,25 +25,43 @@ sub-l : tie.Need-sub-l Inv-loop μ-loop
 sub-l c = search needs
 
 find-code-requires : tie.Need-find-code-requires Inv-loop μ-loop
-find-code-requires c κs = (omega (arith, c .before .loop .inv .low), c .before .before .before .before .before .before .before .pre .0 .few, c .before .before .before .before .before .before .before .pre .1 .1 .1, c .before .before .before .before .before .before .before .pre .1 .1 .2, c .before .before .before .before .before .before .before .pre .1 .1 .3)
+find-code-requires c κs =
+    let start = c .before .before .before .before .before .before .before in (
+      omega (arith, c .before .loop .inv .low),
+      start .pre .0 .few,
+      start .pre .1 .1 .1,
+      start .pre .1 .1 .2,
+      start .pre .1 .1 .3,
+    )
 
 enum-known-found : tie.Need-enum-known-found Inv-loop μ-loop
 enum-known-found c = search needs
 
 returns : tie.Need-returns Inv-loop μ-loop
-returns c = let o = c .before .before .before .before .before .loop .inv in let h = c .before .before .before .find-code .ensures .found _ (c .before .found .given .1) in lack-code (omega (arith, o .low)) (o .here (λ e. omega (arith, e))) (h .1) (h .2) (h .3)
+returns c =
+    let at-find-code = c .before .before .before in
+    let o = at-find-code .before .before .loop .inv in
+    let h = at-find-code .find-code .ensures .found _ (c .before .found .given .1) in
+    lack-code (omega (arith, o .low)) (o .here (λ e. omega (arith, e))) (h .1) (h .2) (h .3)
 
 enum-told : tie.Need-enum-told Inv-loop μ-loop
 enum-told c = search needs
 
 line-before-requires : tie.Need-line-before-requires Inv-loop μ-loop
-line-before-requires c κs = (c .before .before .before .before .before .before .before .before .before .before .pre .1 .0, (omega (arith, c .before .before .before .before .loop .inv .low), c .before .before .before .before .before .before .before .before .before .before .pre .0 .few))
+line-before-requires c κs =
+    let at-loop = c .before .before .before .before in
+    let start = at-loop .before .before .before .before .before .before in
+    (start .pre .1 .0, (omega (arith, at-loop .loop .inv .low), start .pre .0 .few))
 
 loop-less : tie.Need-loop-less Inv-loop μ-loop
 loop-less c = search needs
 
 loop-again : tie.Need-loop-again Inv-loop μ-loop
-loop-again c = passed-more (c .before .before .before .before .before .loop .inv) (λ e. omega (arith, e)) (λ d l o. c .before .before .before .find-code .ensures .none (c .before .enum-told .given .1) d (omega arith) l o) (c .line-before .ensures .0)
+loop-again c =
+    let at-find-code = c .before .before .before in
+    passed-more (at-find-code .before .before .loop .inv) (λ e. omega (arith, e))
+    (λ d l o. at-find-code .find-code .ensures .none (c .before .enum-told .given .1) d (omega arith) l o)
+    (c .line-before .ensures .0)
 
 returns-2 : tie.Need-returns-2 Inv-loop μ-loop
 returns-2 c = lack-none (λ l b e d s o. passed-all (c .before .loop .inv) (omega arith) l b e d s o)

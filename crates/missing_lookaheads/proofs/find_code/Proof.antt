@@ -33,7 +33,9 @@ loop-less : tie.Need-loop-less Inv-loop μ-loop
 loop-less c = search needs
 
 loop-again : tie.Need-loop-again Inv-loop μ-loop
-loop-again c = (omega arith, from-more _ 0 (c .before .before .before .loop .c) (c .before .before .before .loop .inv .1) (λ o. absurd (o .nonzero (c .if1 .taken))))
+loop-again c =
+    let at-loop = c .before .before .before in
+    (omega arith, from-more _ 0 (at-loop .loop .c) (at-loop .loop .inv .1) (λ o. absurd (o .nonzero (c .if1 .taken))))
 
 mul-if2 : tie.Need-mul-if2 Inv-loop μ-loop
 mul-if2 c = search needs
@@ -45,7 +47,9 @@ shared-slice-read-if2 : tie.Need-shared-slice-read-if2 Inv-loop μ-loop
 shared-slice-read-if2 c = search needs
 
 returns : tie.Need-returns Inv-loop μ-loop
-returns c = misses-at (omega arith) (c .before .before .before .before .loop-test .taken) (record { nonzero = c .before .before .if1 .left }) (λ o. o .nonzero (c .if2 .taken))
+returns c =
+    misses-at (omega arith) (c .before .before .before .before .loop-test .taken)
+    (record { nonzero = c .before .before .if1 .left }) (λ o. o .nonzero (c .if2 .taken))
 
 add-c-2 : tie.Need-add-c-2 Inv-loop μ-loop
 add-c-2 c = search needs
@@ -54,7 +58,9 @@ loop-less-2 : tie.Need-loop-less-2 Inv-loop μ-loop
 loop-less-2 c = search needs
 
 loop-again-2 : tie.Need-loop-again-2 Inv-loop μ-loop
-loop-again-2 c = (omega arith, from-more _ 0 (c .before .before .before .before .before .loop .c) (c .before .before .before .before .before .loop .inv .1) (λ o. record { nonzero = c .if2 .left }))
+loop-again-2 c =
+    let at-loop = c .before .before .before .before .before in
+    (omega arith, from-more _ 0 (at-loop .loop .c) (at-loop .loop .inv .1) (λ o. record { nonzero = c .if2 .left }))
 
 returns-2 : tie.Need-returns-2 Inv-loop μ-loop
 returns-2 c = misses-none (λ d a l o. c .before .loop .inv .1 d a (omega (arith, l)) o)

@@ -19,13 +19,25 @@ slice-aggregate-find-asked : tie.Need-slice-aggregate-find-asked
 slice-aggregate-find-asked c = search needs
 
 find-asked-requires : tie.Need-find-asked-requires
-find-asked-requires c κs = let p = c .before .before .before .before .before .before .before .before .pre in
-    (p .0, (p .1 .0, (p .1 .1 .0, omega arith, omega (arith, p .0 .few, c .before .before .ask-goal .ensures .long, length-replicate {A = ℕ} 65536 0), p .1 .1 .2)))
+find-asked-requires c κs =
+    let p = c .before .before .before .before .before .before .before .before .pre in (
+      p .0,
+      (
+        p .1 .0,
+        (
+          p .1 .1 .0,
+          omega arith,
+          omega (arith, p .0 .few, c .before .before .ask-goal .ensures .long, length-replicate {A = ℕ} 65536 0),
+          p .1 .1 .2,
+        ),
+      ),
+    )
 
 returns : tie.Need-returns
 returns c = (
   λ codes u. lack-at u _ (c .find-asked .ensures),
-  λ g t items kinds values gotos nul fst strings codes u H. goal-lack g t H u 65536 refl (c .before .before .before .ask-goal .ensures) _ (c .find-asked .ensures),
+  λ g t items kinds values gotos nul fst strings codes u H.
+      goal-lack g t H u 65536 refl (c .before .before .before .ask-goal .ensures) _ (c .find-asked .ensures),
 )
 
 pub find-goal-spec : {M : Type 1} → statement M

@@ -13,9 +13,14 @@ use Rattle.missing_lookaheads.proofs.find_lack.Statement.{statement}
 use Rattle.missing_lookaheads.proofs.find_lack.Tie as tie
 
 abbrev Inv-loop : tie.InvT-loop
-Inv-loop items entries kernels links lookaheads kinds values gotos named uses nul fst starts through rules strings lines codes states q p₀ p =
-    (1 ≤ p) × (p ≤ states + 1) × ((g : Grammar) (t : Table) → Given g t items entries kernels lookaheads kinds values gotos named rules strings lines states codes
-    → HoldsUses uses g t → LookaheadsBelow g t (FirstBy codes nul fst) p q)
+Inv-loop items entries kernels links lookaheads kinds values gotos named uses nul fst starts through rules strings lines
+    codes states q p₀ p =
+    (1 ≤ p)
+    × (p ≤ states + 1)
+    × ((g : Grammar) (t : Table)
+    → Given g t items entries kernels lookaheads kinds values gotos named rules strings lines states codes
+    → HoldsUses uses g t
+    → LookaheadsBelow g t (FirstBy codes nul fst) p q)
 
 abbrev μ-loop : tie.MeasureT-loop
 μ-loop items entries kernels links lookaheads kinds values gotos named uses nul fst starts through rules strings lines codes states q p₀ p = states + 1 - p
@@ -24,7 +29,9 @@ add-find-goal : tie.Need-add-find-goal Inv-loop μ-loop
 add-find-goal c = search needs
 
 find-goal-requires : tie.Need-find-goal-requires Inv-loop μ-loop
-find-goal-requires c κs = let p = c .before .before .before .before .before .before .before .before .before .before .before .before .before .before .pre in let S = p .0 in
+find-goal-requires c κs =
+    let p = c .before .before .before .before .before .before .before .before .before .before .before .before .before .before .pre in
+    let S = p .0 in
     (S .some-lines, (p .1 .0 .linked, (p .1 .1 .2, S .few-rules, S .codes-room, omega (arith, S .entries-room))))
 
 enum-told : tie.Need-enum-told Inv-loop μ-loop
@@ -34,14 +41,20 @@ enum-told-2 : tie.Need-enum-told-2 Inv-loop μ-loop
 enum-told-2 c = search needs
 
 returns : tie.Need-returns Inv-loop μ-loop
-returns c = let f = c .before .before .find-goal in let s = c .before .before .before .before .before .before .before .before .before .before .before .before .before .before .before .before .before in
-    (f .ensures .0 (s .args .codes) (s .pre .1 .1 .0), λ g t G U. still (f .ensures .1 g t _ _ _ _ _ _ _ _ (s .pre .0 .some-strings) (G .held)) (c .enum-told2 .given .1))
+returns c =
+    let start = c .before .before .before .before .before .before .before .before .before .before .before .before .before .before .before .before .before in
+    let f = c .before .before .find-goal in (
+      f .ensures .0 (start .args .codes) (start .pre .1 .1 .0),
+      λ g t G U. still (f .ensures .1 g t _ _ _ _ _ _ _ _ (start .pre .0 .some-strings) (G .held)) (c .enum-told2 .given .1),
+    )
 
 loop-holds : tie.Need-loop-holds Inv-loop μ-loop
 loop-holds c = (omega arith, omega arith, λ g t G U. below-none g t _)
 
 find-from-requires : tie.Need-find-from-requires Inv-loop μ-loop
-find-from-requires c κs = let p = c .before .before .before .before .before .before .before .before .before .before .before .before .before .before .before .before .before .before .before .pre in
+find-from-requires c κs =
+    let p = c .before .before .before .before .before .before .before .before .before .before .before .before .before .before .before .before .before .before
+    .before .pre in
     (p .0, (p .1 .0, (c .before .loop .inv .0, omega (arith, p .1 .1 .1), p .1 .1 .2)))
 
 enum-told-3 : tie.Need-enum-told-3 Inv-loop μ-loop
@@ -54,7 +67,11 @@ returns-2 : tie.Need-returns-2 Inv-loop μ-loop
 returns-2 c = let f = c .before .before .find-from .ensures in (f .0, λ g t G U. still (f .1 g t _ G U) (c .enum-told4 .given .1))
 
 add-p : tie.Need-add-p Inv-loop μ-loop
-add-p c = omega (arith, c .before .before .before .loop-test .taken, c .before .before .before .before .before .before .before .before .before .before .before .before .before .before .before .before .before .before .before .before .before .before .pre .1 .1 .1)
+add-p c =
+    let at-loop-test = c .before .before .before in
+    let start = at-loop-test .before .before .before .before .before .before .before .before .before .before .before .before .before .before .before .before
+    .before .before .before in
+    omega (arith, at-loop-test .loop-test .taken, start .pre .1 .1 .1)
 
 loop-less : tie.Need-loop-less Inv-loop μ-loop
 loop-less c = search needs
@@ -63,17 +80,24 @@ loop-again : tie.Need-loop-again Inv-loop μ-loop
 loop-again c = (
   omega arith,
   omega arith,
-  λ g t G U. below-more g t _ (c .before .before .before .before .loop .inv .2 g t G U) (fine (c .before .before .find-from .ensures .1 g t _ G U) (c .enum-told3 .given .1)),
+  λ g t G U.
+      below-more g t _ (c .before .before .before .before .loop .inv .2 g t G U)
+      (fine (c .before .before .find-from .ensures .1 g t _ G U) (c .enum-told3 .given .1)),
 )
 
 returns-3 : tie.Need-returns-3 Inv-loop μ-loop
-returns-3 c = let s = c .before .before .before .before .before .before .before .before .before .before .before .before .before .before .before .before .before .before .before in (
-  tt,
-  λ g t G U. record {
-    is = lookaheads-all g t _ (G .held .fits .form) (omega (arith, G .state-count, c .loop-test .left)) _ (c .before .loop .inv .2 g t G U)
-        (fine (c .before .before .before .before .find-goal .ensures .1 g t _ _ _ _ (s .args .nul .now) (s .args .fst .now) _ (s .args .codes) (s .pre .0 .some-strings) (G .held)) (c .before .before .enum-told .given .1));
-  },
-)
+returns-3 c =
+    let at-find-goal = c .before .before .before .before in
+    let start = at-find-goal .before .before .before .before .before .before .before .before .before .before .before .before .before .before .before in (
+      tt,
+      λ g t G U. record {
+        is = lookaheads-all g t _ (G .held .fits .form) (omega (arith, G .state-count, c .loop-test .left)) _
+            (c .before .loop .inv .2 g t G U) (fine (at-find-goal .find-goal .ensures .1 g t _ _ _ _
+            (start .args .nul .now) (start .args .fst .now) _ (start .args .codes) (start .pre .0 .some-strings)
+            (G .held))
+            (c .before .before .enum-told .given .1));
+      },
+    )
 
 pub find-lack-spec : {M : Type 1} → statement M
 find-lack-spec =

@@ -38,7 +38,11 @@ loop-less : tie.Need-loop-less Inv-loop μ-loop
 loop-less c = omega arith
 
 loop-again : tie.Need-loop-again Inv-loop μ-loop
-loop-again c = (omega arith, omega arith, below-more _ _ (c .before .before .before .before .loop .inv .2) (on-at (c .before .before .symbol-of .ensures .0) (set-on (c .if1 .left))))
+loop-again c = (
+  omega arith,
+  omega arith,
+  below-more _ _ (c .before .before .before .before .loop .inv .2) (on-at (c .before .before .symbol-of .ensures .0) (set-on (c .if1 .left))),
+)
 
 returns-2 : tie.Need-returns-2 Inv-loop μ-loop
 returns-2 c = is-yes _ (λ i l. c .before .loop .inv .2 i (omega arith))

@@ -51,13 +51,24 @@ slice-read-if1 : tie.Need-slice-read-if1 Inv-rules μ-rules Inv-passes μ-passes
 slice-read-if1 c = omega (arith, c .before .before .before .rules .inv .2 .long, c .before .left-of .ensures .1)
 
 all-flagged-requires : tie.Need-all-flagged-requires Inv-rules μ-rules Inv-passes μ-passes
-all-flagged-requires c κs = (c .before .before .before .before .before .before .before .before .before .pre .0, (omega arith, c .before .before .before .before .before .rules .inv .2 .long))
+all-flagged-requires c κs =
+    let at-rules = c .before .before .before .before .before in
+    (at-rules .before .before .before .before .pre .0, (omega arith, at-rules .rules .inv .2 .long))
 
 slice-write-flags : tie.Need-slice-write-flags Inv-rules μ-rules Inv-passes μ-passes
-slice-write-flags c = omega (arith, c .before .before .before .before .before .before .before .rules .inv .2 .long, c .before .before .before .before .before .left-of .ensures .1)
+slice-write-flags c =
+    let at-left-of = c .before .before .before .before .before in
+    omega (arith, at-left-of .before .before .rules .inv .2 .long, at-left-of .left-of .ensures .1)
 
 add-added : tie.Need-add-added Inv-rules μ-rules Inv-passes μ-passes
-add-added c = omega (arith, c .before .before .before .before .before .before .before .rules .inv .2 .count, zeros-le (c .before .before .before .before .before .before .before .before .passes .flags), c .before .before .before .before .before .before .before .before .passes .inv .0)
+add-added c =
+    let at-rules = c .before .before .before .before .before .before .before in
+    omega (
+      arith,
+      at-rules .rules .inv .2 .count,
+      zeros-le (at-rules .before .passes .flags),
+      at-rules .before .passes .inv .0,
+    )
 
 add-i : tie.Need-add-i Inv-rules μ-rules Inv-passes μ-passes
 add-i c = search needs
@@ -66,15 +77,20 @@ rules-less : tie.Need-rules-less Inv-rules μ-rules Inv-passes μ-passes
 rules-less c = search needs
 
 rules-again : tie.Need-rules-again Inv-rules μ-rules Inv-passes μ-passes
-rules-again c = let p = c .before .before .before .before .rules .inv .2 in
-    let le = c .before .before .left-of .ensures in
-    let fs = c .before .before .before .before .rules .flags in
-    let i = c .before .before .before .before .rules .i in (
+rules-again c =
+    let at-left-of = c .before .before in
+    let at-rules = at-left-of .before .before in
+    let start = at-rules .before .before .before .before in
+    let p = at-rules .rules .inv .2 in
+    let le = at-left-of .left-of .ensures in
+    let fs = at-rules .rules .flags in
+    let i = at-rules .rules .i in (
       omega arith,
       omega arith,
-      ⊎-elim
-          (λ w. pass-add _ _ (c .before .before .left-of .result) (w .4) (w .5) p (le .1) (w .0 .taken)
-          (fired (c .before .before .before .before .before .before .before .before .args .m .now) (c .before .before .before .before .before .before .before .before .args .rules) i fs (c .before .before .before .before .rules .inv .0) (omega arith) (p .only) (w .2 .ensures .yes (w .3 .taken)) (le .0)))
+      ⊎-elim (λ w.
+          pass-add _ _ (at-left-of .left-of .result) (w .4) (w .5) p (le .1) (w .0 .taken)
+          (fired (start .args .m .now) (start .args .rules) i fs (at-rules .rules .inv .0) (omega arith) (p .only)
+          (w .2 .ensures .yes (w .3 .taken)) (le .0)))
           (⊎-elim
           (λ w. pass-more _ _ (w .4) (w .5) p (λ d. from-more _ 1 i d (λ all. absurd (w .2 .ensures .no (w .3 .left) all))))
           (λ w. pass-more _ _ (w .1) (w .2) p (λ d. from-more _ 1 i d (λ _. on-at (le .0) (set-on (w .0 .left))))))

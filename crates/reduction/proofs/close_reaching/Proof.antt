@@ -73,12 +73,13 @@ rules-less : tie.Need-rules-less Inv-symbols μ-symbols Inv-rules μ-rules Inv-p
 rules-less c = search needs
 
 rules-again : tie.Need-rules-again Inv-symbols μ-symbols Inv-rules μ-rules Inv-passes μ-passes
-rules-again c = (
-  omega arith,
-  omega arith,
-  pass-more _ _ refl refl (c .before .before .before .before .rules .inv .2)
-      (λ d. from-more _ 1 (c .before .before .before .before .rules .i) d (λ on. not-off on (c .before .before .left-of .ensures .0) (c .if1 .taken))),
-)
+rules-again c =
+    let at-rules = c .before .before .before .before in (
+      omega arith,
+      omega arith,
+      pass-more _ _ refl refl (at-rules .rules .inv .2)
+          (λ d. from-more _ 1 (at-rules .rules .i) d (λ on. not-off on (c .before .before .left-of .ensures .0) (c .if1 .taken))),
+    )
 
 length-of-requires : tie.Need-length-of-requires Inv-symbols μ-symbols Inv-rules μ-rules Inv-passes μ-passes
 length-of-requires c κs = search needs
@@ -97,7 +98,16 @@ slice-write-flags : tie.Need-slice-write-flags Inv-symbols μ-symbols Inv-rules 
 slice-write-flags c = omega (arith, c .before .before .before .before .symbols .inv .2 .long, c .before .before .symbol-of .ensures .1)
 
 add-reached : tie.Need-add-reached Inv-symbols μ-symbols Inv-rules μ-rules Inv-passes μ-passes
-add-reached c = omega (arith, c .before .before .before .before .symbols .inv .2 .count, c .before .before .before .before .before .before .before .before .before .before .rules .inv .2 .count, zeros-le (c .before .before .before .before .before .before .before .before .before .before .before .passes .flags), c .before .before .before .before .before .before .before .before .before .before .before .passes .inv .0)
+add-reached c =
+    let at-symbols = c .before .before .before .before in
+    let at-rules = at-symbols .before .before .before .before .before .before in
+    omega (
+      arith,
+      at-symbols .symbols .inv .2 .count,
+      at-rules .rules .inv .2 .count,
+      zeros-le (at-rules .before .passes .flags),
+      at-rules .before .passes .inv .0,
+    )
 
 add-k : tie.Need-add-k Inv-symbols μ-symbols Inv-rules μ-rules Inv-passes μ-passes
 add-k c = search needs
@@ -106,15 +116,22 @@ symbols-less : tie.Need-symbols-less Inv-symbols μ-symbols Inv-rules μ-rules I
 symbols-less c = search needs
 
 symbols-again : tie.Need-symbols-again Inv-symbols μ-symbols Inv-rules μ-rules Inv-passes μ-passes
-symbols-again c = let p = c .before .before .before .before .symbols .inv .2 in
-    let k = c .before .before .before .before .symbols .k in
-    let se = c .before .before .symbol-of .ensures in (
+symbols-again c =
+    let at-symbol-of = c .before .before in
+    let at-symbols = at-symbol-of .before .before in
+    let at-if1 = at-symbols .before .before in
+    let at-rules = at-if1 .before .before .before .before in
+    let start = at-rules .before .before .before .before in
+    let p = at-symbols .symbols .inv .2 in
+    let k = at-symbols .symbols .k in
+    let se = at-symbol-of .symbol-of .ensures in (
       omega arith,
-      c .before .before .before .before .symbols .inv .1,
-      ⊎-elim
-          (λ w. pass-add _ _ (c .before .before .symbol-of .result) (w .1) (w .2) p (se .1) (w .0 .taken)
-          (fired (c .before .before .before .before .before .before .before .before .before .before .before .before .before .before .args .m .now) (c .before .before .before .before .before .before .before .before .before .before .before .before .before .before .args .rules) (c .before .before .before .before .before .before .before .before .before .before .rules .i) k (c .before .before .before .before .before .before .before .before .before .before .rules .inv .0) (omega arith) (omega arith)
-          (c .before .before .before .before .before .before .before .before .left-of .ensures .0) (set-on (c .before .before .before .before .before .before .if1 .left)) (se .0)))
+      at-symbols .symbols .inv .1,
+      ⊎-elim (λ w.
+          pass-add _ _ (at-symbol-of .symbol-of .result) (w .1) (w .2) p (se .1) (w .0 .taken)
+          (fired (start .args .m .now) (start .args .rules) (at-rules .rules .i) k (at-rules .rules .inv .0)
+          (omega arith) (omega arith) (at-if1 .before .before .left-of .ensures .0) (set-on (at-if1 .if1 .left))
+          (se .0)))
           (λ w. pass-more _ _ (w .1) (w .2) p (λ d. (d .0, below-more _ k (d .1) (on-at (se .0) (set-on (w .0 .left))))))
           (c .if2 .came),
     )
@@ -126,12 +143,14 @@ rules-less-2 : tie.Need-rules-less-2 Inv-symbols μ-symbols Inv-rules μ-rules I
 rules-less-2 c = search needs
 
 rules-again-2 : tie.Need-rules-again-2 Inv-symbols μ-symbols Inv-rules μ-rules Inv-passes μ-passes
-rules-again-2 c = let p = c .before .before .before .before .before .before .before .rules .inv .2 in (
-  omega arith,
-  omega arith,
-  pass-join _ _ _ refl refl p (c .before .symbols .inv .2) (λ y q. least-join _ (p .only) q)
-      (λ d. from-more _ 1 (c .before .before .before .before .before .before .before .rules .i) (d .0) (λ _ k l. d .1 k (omega arith))),
-)
+rules-again-2 c =
+    let at-rules = c .before .before .before .before .before .before .before in
+    let p = at-rules .rules .inv .2 in (
+      omega arith,
+      omega arith,
+      pass-join _ _ _ refl refl p (c .before .symbols .inv .2) (λ y q. least-join _ (p .only) q)
+          (λ d. from-more _ 1 (at-rules .rules .i) (d .0) (λ _ k l. d .1 k (omega arith))),
+    )
 
 passes-less : tie.Need-passes-less Inv-symbols μ-symbols Inv-rules μ-rules Inv-passes μ-passes
 passes-less c = omega (arith, c .before .before .rules .inv .2 .count, c .if3 .left)
@@ -145,10 +164,13 @@ same-length : tie.Need-same-length Inv-symbols μ-symbols Inv-rules μ-rules Inv
 same-length c = omega (arith, c .before .before .rules .inv .2 .long, c .before .before .before .before .before .before .pre .1)
 
 returns : tie.Need-returns Inv-symbols μ-symbols Inv-rules μ-rules Inv-passes μ-passes
-returns c = let p = c .before .before .rules .inv .2 in
-    let o = c .before .before .before .passes .inv in
+returns c =
+    let at-rules = c .before .before in
+    let start = at-rules .before .before .before .before in
+    let p = at-rules .rules .inv .2 in
+    let o = at-rules .before .passes .inv in
     least-marks _ (λ y on. least-join _ (o .1) (p .only y on)) (λ y on. p .kept y (o .2 y on))
-    (met (c .before .before .before .before .before .before .args .m .now) (c .before .before .before .before .before .before .args .rules) (c .before .before .rules .flags) (λ j l h. p .closed (c .if3 .taken) j l (omega arith)))
+    (met (start .args .m .now) (start .args .rules) (at-rules .rules .flags) (λ j l h. p .closed (c .if3 .taken) j l (omega arith)))
 
 pub close-reaching-spec : {M : Type 1} → statement M
 close-reaching-spec =

@@ -27,7 +27,10 @@ lowest-unset-requires c κs = search needs
 
 returns : tie.Need-returns
 returns c g h e k =
-    found-unproductive g (c .before .before .before .before .before .before .before .before .before .pre .0) h e k (c .before .before .before .before .before .before .flag-terminals .ensures) (c .before .before .before .close-productions .ensures) (c .lowest-unset .result) (c .lowest-unset .ensures)
+    let at-flag-terminals = c .before .before .before .before .before .before in
+    found-unproductive g (at-flag-terminals .before .before .before .pre .0) h e k
+    (at-flag-terminals .flag-terminals .ensures) (c .before .before .before .close-productions .ensures)
+    (c .lowest-unset .result) (c .lowest-unset .ensures)
 
 pub lowest-unproductive-spec : {M : Type 1} → statement M
 lowest-unproductive-spec =

@@ -24,7 +24,9 @@ lowest-unset-requires c κs = search needs
 
 returns : tie.Need-returns
 returns c g h e k =
-    found-unreachable g (c .before .before .before .before .before .before .pre .0) h e k (marks-one 128 (c .before .before .before .before .before .before .args .goal) (c .before .before .before .before .before .before .pre .1 .0)) (c .before .before .before .close-reaching .ensures) (c .lowest-unset .result) (c .lowest-unset .ensures)
+    let start = c .before .before .before .before .before .before in
+    found-unreachable g (start .pre .0) h e k (marks-one 128 (start .args .goal) (start .pre .1 .0))
+    (c .before .before .before .close-reaching .ensures) (c .lowest-unset .result) (c .lowest-unset .ensures)
 
 pub lowest-unreachable-spec : {M : Type 1} → statement M
 lowest-unreachable-spec =

@@ -32,17 +32,21 @@ refuse-requires-4 c κs = search needs
 
 returns-4 : tie.Need-returns-4
 returns-4 c =
+    let at-if3 = c .before .before .before in
     c .refuse4 .ensures
-    ∙ sym (left-undeclared _ _ _ _ _ (c .before .before .before .before .before .if1 .left) (c .before .before .before .before .if2 .left) (c .before .before .before .if3 .left) (fails (c .before .before .is-nonterminal .ensures) (c .before .if4 .taken)))
+    ∙ sym (left-undeclared _ _ _ _ _ (at-if3 .before .before .if1 .left) (at-if3 .before .if2 .left) (at-if3 .if3 .left)
+    (fails (c .before .before .is-nonterminal .ensures) (c .before .if4 .taken)))
 
 refuse-requires-5 : tie.Need-refuse-requires-5
 refuse-requires-5 c κs = search needs
 
 returns-5 : tie.Need-returns-5
 returns-5 c =
+    let at-if4 = c .before .before in
+    let at-if3 = at-if4 .before .before in
     c .refuse5 .ensures
-    ∙ sym
-    (symbol-undeclared _ _ _ _ _ (c .before .before .before .before .before .before .if1 .left) (c .before .before .before .before .before .if2 .left) (c .before .before .before .before .if3 .left) (holds (c .before .before .before .is-nonterminal .ensures) (c .before .before .if4 .left)) (c .before .if5 .taken))
+    ∙ sym (symbol-undeclared _ _ _ _ _ (at-if3 .before .before .if1 .left) (at-if3 .before .if2 .left)
+    (at-if3 .if3 .left) (holds (at-if4 .before .is-nonterminal .ensures) (at-if4 .if4 .left)) (c .before .if5 .taken))
 
 is-placed-requires : tie.Need-is-placed-requires
 is-placed-requires c κs = search needs
@@ -52,15 +56,20 @@ refuse-requires-6 c κs = search needs
 
 returns-6 : tie.Need-returns-6
 returns-6 c =
+    let at-if5 = c .before .before .before in
+    let at-if4 = at-if5 .before in
+    let at-if3 = at-if4 .before .before in
     c .refuse6 .ensures
-    ∙ sym
-    (mark-misplaced _ _ _ _ _ (c .before .before .before .before .before .before .before .before .if1 .left) (c .before .before .before .before .before .before .before .if2 .left) (c .before .before .before .before .before .before .if3 .left) (holds (c .before .before .before .before .before .is-nonterminal .ensures) (c .before .before .before .before .if4 .left)) (c .before .before .before .if5 .left)
+    ∙ sym (mark-misplaced _ _ _ _ _ (at-if3 .before .before .if1 .left) (at-if3 .before .if2 .left) (at-if3 .if3 .left)
+    (holds (at-if4 .before .is-nonterminal .ensures) (at-if4 .if4 .left)) (at-if5 .if5 .left)
     (fails (c .before .before .is-placed .ensures) (c .before .if6 .taken)))
 
 returns-7 : tie.Need-returns-7
 returns-7 c =
-    sym
-    (rule-read _ _ _ _ _ (c .before .before .before .before .before .before .before .if1 .left) (c .before .before .before .before .before .before .if2 .left) (c .before .before .before .before .before .if3 .left) (holds (c .before .before .before .before .is-nonterminal .ensures) (c .before .before .before .if4 .left)) (c .before .before .if5 .left)
+    let at-if4 = c .before .before .before in
+    let at-if3 = at-if4 .before .before in
+    sym (rule-read _ _ _ _ _ (at-if3 .before .before .if1 .left) (at-if3 .before .if2 .left) (at-if3 .if3 .left)
+    (holds (at-if4 .before .is-nonterminal .ensures) (at-if4 .if4 .left)) (c .before .before .if5 .left)
     (holds (c .before .is-placed .ensures) (c .if6 .left)))
 
 pub judge-spec : {M : Type 1} → statement M

@@ -39,8 +39,11 @@ loop-less c = omega (arith, onward _ _ _ (sym (c .before .before .before .before
 
 loop-again : tie.Need-loop-again Inv-loop μ-loop
 loop-again c =
-    let r = c .before .before .before .before in
-    (search needs, reading-mark _ _ _ _ _ _ _ _ _ (r .before .before .loop .inv .1) (r .before .if1 .left) _ _ (sym (r .read-field .ensures) ∙ c .before .before .field .given .1) (c .add-mark .ensures))
+    let at-read-field = c .before .before .before .before in (
+      search needs,
+      reading-mark _ _ _ _ _ _ _ _ _ (at-read-field .before .before .loop .inv .1) (at-read-field .before .if1 .left) _
+          _ (sym (at-read-field .read-field .ensures) ∙ c .before .before .field .given .1) (c .add-mark .ensures),
+    )
 
 enum-known-field-2 : tie.Need-enum-known-field-2 Inv-loop μ-loop
 enum-known-field-2 c = search needs
@@ -49,26 +52,44 @@ same-length-2 : tie.Need-same-length-2 Inv-loop μ-loop
 same-length-2 c = search needs
 
 returns-2 : tie.Need-returns-2 Inv-loop μ-loop
-returns-2 c = let r = c .before .before in
-    reading-broken _ _ _ _ _ _ _ _ _ (r .before .before .loop .inv .1) (r .before .if1 .left) (r .read-field .ensures) (c .before .match .keys2) (c .match2 .keys2)
+returns-2 c =
+    let r = c .before .before in
+    reading-broken _ _ _ _ _ _ _ _ _ (r .before .before .loop .inv .1) (r .before .if1 .left) (r .read-field .ensures)
+    (c .before .match .keys2) (c .match2 .keys2)
 
 store-symbol-requires : tie.Need-store-symbol-requires Inv-loop μ-loop
-store-symbol-requires c κs = let l = c .before .before .before .before .before .before .before in omega (arith, l .loop .inv .0, l .before .before .before .pre .1 .1 .room)
+store-symbol-requires c κs =
+    let at-loop = c .before .before .before .before .before .before .before in
+    omega (arith, at-loop .loop .inv .0, at-loop .before .before .before .pre .1 .1 .room)
 
 add-symbol-requires : tie.Need-add-symbol-requires Inv-loop μ-loop
-add-symbol-requires c κs = let r = c .before .before .before .before .before .before .before .before in
-    let l = r .before .before in
-    omega (arith, l .before .before .before .pre .1 .0, count-low _ _ _ _ _ _ _ _ _ (l .loop .inv .1) (sym (r .read-field .ensures) ∙ c .before .before .before .before .before .field2 .given .1))
+add-symbol-requires c κs =
+    let at-field2 = c .before .before .before .before .before in
+    let at-read-field = at-field2 .before .before .before in
+    let at-loop = at-read-field .before .before in
+    omega (
+      arith,
+      at-loop .before .before .before .pre .1 .0,
+      count-low _ _ _ _ _ _ _ _ _ (at-loop .loop .inv .1) (sym (at-read-field .read-field .ensures) ∙ at-field2 .field2 .given .1),
+    )
 
 loop-less-2 : tie.Need-loop-less-2 Inv-loop μ-loop
-loop-less-2 c = omega (arith, onward _ _ _ (sym (c .before .before .before .before .before .before .before .before .before .read-field .ensures) ∙ c .before .before .before .before .before .before .field2 .given .1))
+loop-less-2 c =
+    let at-field2 = c .before .before .before .before .before .before in
+    omega (
+      arith,
+      onward _ _ _ (sym (at-field2 .before .before .before .read-field .ensures) ∙ at-field2 .field2 .given .1),
+    )
 
 loop-again-2 : tie.Need-loop-again-2 Inv-loop μ-loop
-loop-again-2 c = let r = c .before .before .before .before .before .before .before .before .before in
-    let l = r .before .before in
-    let pre = l .before .before .before .pre in (
+loop-again-2 c =
+    let at-field2 = c .before .before .before .before .before .before in
+    let at-read-field = at-field2 .before .before .before in
+    let at-if1 = at-read-field .before in
+    let pre = at-if1 .before .before .before .before .pre in (
       search needs,
-      reading-symbol _ _ _ _ _ _ _ _ _ (l .loop .inv .1) (pre .0 .0) (pre .0 .1) (r .before .if1 .left) _ _ (sym (r .read-field .ensures) ∙ c .before .before .before .before .before .before .field2 .given .1) (c .add-symbol .ensures)
+      reading-symbol _ _ _ _ _ _ _ _ _ (at-if1 .before .loop .inv .1) (pre .0 .0) (pre .0 .1) (at-if1 .if1 .left) _ _
+          (sym (at-read-field .read-field .ensures) ∙ at-field2 .field2 .given .1) (c .add-symbol .ensures)
           (c .before .before .before .store-symbol .ensures),
     )
 

@@ -27,7 +27,11 @@ refuse-requires-2 c κs = search needs
 
 returns-2 : tie.Need-returns-2
 returns-2 c =
-    told _ _ (wrong-letter _ _ _ _ _ _ (sym (c .before .before .before .before .before .before .read-field .ensures) ∙ c .before .before .before .before .letter .given .1) (fails (c .before .before .is-rule .ensures) (c .before .if1 .taken))) (c .refuse2 .ensures)
+    let at-letter = c .before .before .before .before in
+    told _ _ (wrong-letter _ _ _ _ _ _
+    (sym (at-letter .before .before .read-field .ensures) ∙ at-letter .letter .given .1)
+    (fails (c .before .before .is-rule .ensures) (c .before .if1 .taken)))
+    (c .refuse2 .ensures)
 
 read-field-requires-2 : tie.Need-read-field-requires-2
 read-field-requires-2 c κs = search needs
@@ -40,9 +44,12 @@ refuse-requires-3 c κs = search needs
 
 returns-3 : tie.Need-returns-3
 returns-3 c =
-    told _ _
-    (no-left _ _ _ _ _ _ (sym (c .before .before .before .before .before .before .before .before .read-field .ensures) ∙ c .before .before .before .before .before .before .letter .given .1) (holds (c .before .before .before .before .is-rule .ensures) (c .before .before .before .if1 .left))
-    (c .before .before .read-field2 .ensures) (c .before .match2 .keys2)) (c .refuse3 .ensures)
+    let at-if1 = c .before .before .before in
+    let at-letter = at-if1 .before .before .before in
+    told _ _ (no-left _ _ _ _ _ _ (sym (at-letter .before .before .read-field .ensures) ∙ at-letter .letter .given .1)
+    (holds (at-if1 .before .is-rule .ensures) (at-if1 .if1 .left)) (c .before .before .read-field2 .ensures)
+    (c .before .match2 .keys2))
+    (c .refuse3 .ensures)
 
 read-parts-requires : tie.Need-read-parts-requires
 read-parts-requires c κs = search needs
@@ -61,10 +68,14 @@ same-length c = search needs
 
 returns-4 : tie.Need-returns-4
 returns-4 c =
-    told _ _
-    (with-left _ _ _ _ _ _ (sym (c .before .before .before .before .before .before .before .before .before .before .before .before .before .before .before .before .read-field .ensures) ∙ c .before .before .before .before .before .before .before .before .before .before .before .before .before .before .letter .given .1) (holds (c .before .before .before .before .before .before .before .before .before .before .before .before .is-rule .ensures) (c .before .before .before .before .before .before .before .before .before .before .before .if1 .left))
-    _ _ (sym (c .before .before .before .before .before .before .before .before .before .before .read-field2 .ensures) ∙ c .before .before .before .before .before .before .before .before .left .given .1)
-    ∙ line-broken _ _ _ _ _ _ (c .before .before .before .before .before .read-parts .ensures .0) (c .before .enum-told .given .1))
+    let at-read-parts = c .before .before .before .before .before in
+    let at-left = at-read-parts .before .before .before in
+    let at-if1 = at-left .before .before .before in
+    let at-letter = at-if1 .before .before .before in
+    told _ _ (with-left _ _ _ _ _ _ (sym (at-letter .before .before .read-field .ensures) ∙ at-letter .letter .given .1)
+    (holds (at-if1 .before .is-rule .ensures) (at-if1 .if1 .left)) _ _
+    (sym (at-left .before .before .read-field2 .ensures) ∙ at-left .left .given .1)
+    ∙ line-broken _ _ _ _ _ _ (at-read-parts .read-parts .ensures .0) (c .before .enum-told .given .1))
     (c .refuse4 .ensures)
 
 judge-requires : tie.Need-judge-requires
@@ -78,7 +89,9 @@ unit-flag-requires c κs = search needs
 
 store-figures-requires : tie.Need-store-figures-requires
 store-figures-requires c κs =
-    omega (arith, c .before .before .before .before .before .before .before .before .before .before .before .before .before .before .before .before .before .before .before .before .before .before .before .before .before .pre .1 .1 .room, c .before .before .before .before .before .before .before .before .before .before .m .given)
+    let at-m = c .before .before .before .before .before .before .before .before .before .before in
+    let start = at-m .before .before .before .before .before .before .before .before .before .before .before .before .before .before .before in
+    omega (arith, start .pre .1 .1 .room, at-m .m .given)
 
 enum-known-why : tie.Need-enum-known-why
 enum-known-why c = search needs
@@ -88,20 +101,37 @@ same-length-2 c = search needs
 
 returns-5 : tie.Need-returns-5
 returns-5 c =
-    told-read _ _ _ _ _ _ _ _ _
-    (with-left _ _ _ _ _ _ (sym (c .before .before .before .before .before .before .before .before .before .before .before .before .before .before .before .before .before .before .before .before .before .before .before .before .before .read-field .ensures) ∙ c .before .before .before .before .before .before .before .before .before .before .before .before .before .before .before .before .before .before .before .before .before .before .before .letter .given .1) (holds (c .before .before .before .before .before .before .before .before .before .before .before .before .before .before .before .before .before .before .before .before .before .is-rule .ensures) (c .before .before .before .before .before .before .before .before .before .before .before .before .before .before .before .before .before .before .before .before .if1 .left))
-    _ _ (sym (c .before .before .before .before .before .before .before .before .before .before .before .before .before .before .before .before .before .before .before .read-field2 .ensures) ∙ c .before .before .before .before .before .before .before .before .before .before .before .before .before .before .before .before .before .left .given .1))
-    (c .before .before .before .before .before .before .before .before .before .before .before .before .before .before .read-parts .ensures .0) (c .before .before .before .before .before .before .before .before .before .before .right .given .1) (c .before .before .before .before .before .before .before .before .judge .ensures) (c .before .before .before .before .before .before .before .before .before .before .before .before .before .before .before .before .before .before .before .before .before .before .before .before .before .before .before .before .pre .0 .1) (c .before .before .before .before .before .before .before .before .before .before .before .before .before .before .read-parts .ensures .1) (c .before .before .before .unit-flag .ensures) (c .before .before .store-figures .ensures) (c .before .before .before .before .before .before .next .given .1)
+    let at-unit-flag = c .before .before .before in
+    let at-next = at-unit-flag .before .before .before in
+    let at-right = at-next .before .before .before .before in
+    let at-read-parts = at-right .before .before .before .before in
+    let at-left = at-read-parts .before .before .before in
+    let at-if1 = at-left .before .before .before in
+    let at-letter = at-if1 .before .before .before in
+    told-read _ _ _ _ _ _ _ _ _ (with-left _ _ _ _ _ _
+    (sym (at-letter .before .before .read-field .ensures) ∙ at-letter .letter .given .1)
+    (holds (at-if1 .before .is-rule .ensures) (at-if1 .if1 .left)) _ _
+    (sym (at-left .before .before .read-field2 .ensures) ∙ at-left .left .given .1))
+    (at-read-parts .read-parts .ensures .0) (at-right .right .given .1) (at-next .before .before .judge .ensures)
+    (at-letter .before .before .before .before .before .pre .0 .1) (at-read-parts .read-parts .ensures .1)
+    (at-unit-flag .unit-flag .ensures) (c .before .before .store-figures .ensures) (at-next .next .given .1)
 
 same-length-3 : tie.Need-same-length-3
 same-length-3 c = search needs
 
 returns-6 : tie.Need-returns-6
 returns-6 c =
-    told-refused _ _ _ _ _ _ _ _ _
-    (with-left _ _ _ _ _ _ (sym (c .before .before .before .before .before .before .before .before .before .before .before .before .before .before .before .before .before .before .before .before .read-field .ensures) ∙ c .before .before .before .before .before .before .before .before .before .before .before .before .before .before .before .before .before .before .letter .given .1) (holds (c .before .before .before .before .before .before .before .before .before .before .before .before .before .before .before .before .is-rule .ensures) (c .before .before .before .before .before .before .before .before .before .before .before .before .before .before .before .if1 .left))
-    _ _ (sym (c .before .before .before .before .before .before .before .before .before .before .before .before .before .before .read-field2 .ensures) ∙ c .before .before .before .before .before .before .before .before .before .before .before .before .left .given .1))
-    (c .before .before .before .before .before .before .before .before .before .read-parts .ensures .0) (c .before .before .before .before .before .right .given .1) (c .before .before .before .judge .ensures) (c .before .why .given .1)
+    let at-judge = c .before .before .before in
+    let at-read-parts = at-judge .before .before .before .before .before .before in
+    let at-left = at-read-parts .before .before .before in
+    let at-if1 = at-left .before .before .before in
+    let at-letter = at-if1 .before .before .before in
+    told-refused _ _ _ _ _ _ _ _ _ (with-left _ _ _ _ _ _
+    (sym (at-letter .before .before .read-field .ensures) ∙ at-letter .letter .given .1)
+    (holds (at-if1 .before .is-rule .ensures) (at-if1 .if1 .left)) _ _
+    (sym (at-left .before .before .read-field2 .ensures) ∙ at-left .left .given .1))
+    (at-read-parts .read-parts .ensures .0) (at-judge .before .before .right .given .1) (at-judge .judge .ensures)
+    (c .before .why .given .1)
 
 pub read-rule-spec : {M : Type 1} → statement M
 read-rule-spec =

@@ -41,14 +41,24 @@ same-length c = search needs
 
 returns-2 : tie.Need-returns-2
 unfolding withSymbol
-returns-2 c = simp (lt-ltb _ _ (c .before .before .before .if1 .left), sym (c .before .begins-group .ensures) ∙ c .if2 .taken, c .before .before .low-byte .ensures)
+returns-2 c =
+    simp (
+      lt-ltb _ _ (c .before .before .before .if1 .left),
+      sym (c .before .begins-group .ensures) ∙ c .if2 .taken,
+      c .before .before .low-byte .ensures,
+    )
 
 same-length-2 : tie.Need-same-length-2
 same-length-2 c = search needs
 
 returns-3 : tie.Need-returns-3
 unfolding withSymbol
-returns-3 c = simp (lt-ltb _ _ (c .before .before .before .if1 .left), sym (c .before .begins-group .ensures) ∙ c .if2 .left, c .before .before .low-byte .ensures)
+returns-3 c =
+    simp (
+      lt-ltb _ _ (c .before .before .before .if1 .left),
+      sym (c .before .begins-group .ensures) ∙ c .if2 .left,
+      c .before .before .low-byte .ensures,
+    )
 
 pub store-symbol-spec : {M : Type 1} → statement M
 store-symbol-spec =

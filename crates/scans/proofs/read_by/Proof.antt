@@ -51,41 +51,30 @@ same-length-3 c = search needs
 
 returns-3 : tie.Need-returns-3
 returns-3 c =
-    let z = c .before .before in
-    let v = z .before .before .before .before in
-    let d = v .before .before .before .before in
-    let f = d .before .before in
-    let e : length (d .read-lines .last .1 .1 .0) ≡ length (now (f .before .before .before .before .before .before .before .args .tokens)) = search needs in
-    no-room
-    _
-    _
-    _
-    (f .if1 .left)
-    (d .read-lines .ensures)
-    (v .read .given .1)
-    (omega (arith, e, z .before .before .if2 .left))
-    (z .refuse-file .ensures .0)
-    (z .refuse-file .ensures .1 ∙ ap (λ (n : ℕ). replicate n 0) e)
+    let at-refuse-file = c .before .before in
+    let at-if2 = at-refuse-file .before .before in
+    let at-read-lines = at-if2 .before .before .before .before .before .before in
+    let at-if1 = at-read-lines .before .before in
+    let e : length (at-read-lines .read-lines .last .1 .1 .0) ≡ length (now (at-if1 .before .before .before .before .before .before .before .args .tokens)) = search
+    needs in
+    no-room _ _ _ (at-if1 .if1 .left) (at-read-lines .read-lines .ensures) (at-if2 .before .before .read .given .1)
+    (omega (arith, e, at-if2 .if2 .left)) (at-refuse-file .refuse-file .ensures .0)
+    (at-refuse-file .refuse-file .ensures .1 ∙ ap (λ (n : ℕ). replicate n 0) e)
 
 same-length-4 : tie.Need-same-length-4
 same-length-4 c = search needs
 
 returns-4 : tie.Need-returns-4
 returns-4 c =
-    let z = c .before .before in
-    let v = z .before .before .before in
-    let d = v .before .before .before .before in
-    let f = d .before .before in
-    let e : length (d .read-lines .last .1 .1 .0) ≡ length (now (f .before .before .before .before .before .before .before .args .tokens)) = search needs in
-    refused-lines
-    _
-    _
-    _
-    (f .if1 .left)
-    (d .read-lines .ensures)
-    (v .read2 .given .1)
-    (z .refuse-file2 .ensures .0)
-    (z .refuse-file2 .ensures .1 ∙ ap (λ (n : ℕ). replicate n 0) e)
+    let at-refuse-file2 = c .before .before in
+    let at-read2 = at-refuse-file2 .before .before .before in
+    let at-read-lines = at-read2 .before .before .before .before in
+    let at-if1 = at-read-lines .before .before in
+    let e : length (at-read-lines .read-lines .last .1 .1 .0) ≡ length (now (at-if1 .before .before .before .before .before .before .before .args .tokens)) = search
+    needs in
+    refused-lines _ _ _ (at-if1 .if1 .left) (at-read-lines .read-lines .ensures) (at-read2 .read2 .given .1)
+    (at-refuse-file2 .refuse-file2 .ensures .0)
+    (at-refuse-file2 .refuse-file2 .ensures .1 ∙ ap (λ (n : ℕ). replicate n 0) e)
 
 pub read-by-spec : {M : Type 1} → statement M
 read-by-spec =

@@ -42,9 +42,13 @@ returns-3 c =
 returns-4 : tie.Need-returns-4
 unfolding lineAt lineAfter
 returns-4 c =
-    let t = c .before .before .before in
-    let l = t .before .before .before in
-    simp (sym (l .before .before .read-field .ensures) ∙ l .letter .given .1, t .before .if1 .left, sym (t .read-text .ensures) ∙ c .before .next .given .1)
+    let at-read-text = c .before .before .before in
+    let at-letter = at-read-text .before .before .before in
+    simp (
+      sym (at-letter .before .before .read-field .ensures) ∙ at-letter .letter .given .1,
+      at-read-text .before .if1 .left,
+      sym (at-read-text .read-text .ensures) ∙ c .before .next .given .1,
+    )
 
 pub read-line-spec : {M : Type 1} → statement M
 read-line-spec =

@@ -38,8 +38,9 @@ same-length c = search needs
 
 returns : tie.Need-returns Inv-loop μ-loop
 returns c =
-    let l = c .before .before .before in
-    line-broken (l .before .before .loop .inv) (l .before .loop-test .taken) (sym (l .read-line .ensures) ∙ c .before .enum-told .given .1) (c .refuse .ensures)
+    let at-read-line = c .before .before .before in
+    line-broken (at-read-line .before .before .loop .inv) (at-read-line .before .loop-test .taken)
+    (sym (at-read-line .read-line .ensures) ∙ c .before .enum-told .given .1) (c .refuse .ensures)
 
 code-of-requires : tie.Need-code-of-requires Inv-loop μ-loop
 code-of-requires c κs = search needs
@@ -52,20 +53,18 @@ same-length-2 c = search needs
 
 returns-2 : tie.Need-returns-2 Inv-loop μ-loop
 returns-2 c =
-    let k = c .before .before in
-    let l = k .before .before .before .before in
-    line-undeclared
-    (l .before .before .loop .inv)
-    (l .before .loop-test .taken)
-    (sym (l .read-line .ensures) ∙ k .before .before .line .given .1)
-    (sym (k .code-of .ensures) ∙ c .before .if1 .taken)
-    (c .refuse2 .ensures)
+    let at-line = c .before .before .before .before in
+    let at-read-line = at-line .before .before in
+    line-undeclared (at-read-line .before .before .loop .inv) (at-read-line .before .loop-test .taken)
+    (sym (at-read-line .read-line .ensures) ∙ at-line .line .given .1)
+    (sym (c .before .before .code-of .ensures) ∙ c .before .if1 .taken) (c .refuse2 .ensures)
 
 token-of-requires : tie.Need-token-of-requires Inv-loop μ-loop
 token-of-requires c κs =
-    let k = c .before .before in
-    let l = k .before .before .before .before in
-    (l .before .before .loop .inv .within, line-in _ _ (sym (l .read-line .ensures) ∙ k .before .before .line .given .1) .1)
+    let at-line = c .before .before .before .before in (
+      at-line .before .before .before .before .loop .inv .within,
+      line-in _ _ (sym (at-line .before .before .read-line .ensures) ∙ at-line .line .given .1) .1,
+    )
 
 store-requires : tie.Need-store-requires Inv-loop μ-loop
 store-requires c κs = search needs
@@ -75,23 +74,22 @@ add-count c = search needs
 
 loop-less : tie.Need-loop-less Inv-loop μ-loop
 loop-less c =
-    let k = c .before .before .before .before .before .before in
-    let l = k .before .before .before .before in
-    let w = line-in _ _ (sym (l .read-line .ensures) ∙ k .before .before .line .given .1) in
-    omega (arith, w .0, w .1 .some, l .before .loop-test .taken)
+    let at-line = c .before .before .before .before .before .before .before .before in
+    let w = line-in _ _ (sym (at-line .before .before .read-line .ensures) ∙ at-line .line .given .1) in
+    omega (arith, w .0, w .1 .some, at-line .before .before .before .loop-test .taken)
 
 loop-again : tie.Need-loop-again Inv-loop μ-loop
 loop-again c =
-    let t = c .before .before .before in
-    let k = t .before .before .before in
-    let l = k .before .before .before .before in
-    let a = l .before .before .loop in
-    line-read
-    (a .inv)
-    (l .before .loop-test .taken)
-    (sym (l .read-line .ensures) ∙ k .before .before .line .given .1)
-    (λ z. t .before .before .if1 .left (k .code-of .ensures ∙ z))
-    (c .before .before .store .ensures ∙ ap (set (a .tokens) (a .count)) (t .token-of .ensures ∙ ap (tokenOf _ _ _) (k .code-of .ensures)))
+    let at-store = c .before .before in
+    let at-if1 = at-store .before .before .before in
+    let at-line = at-if1 .before .before .before in
+    let at-read-line = at-line .before .before in
+    let a = at-read-line .before .before .loop in
+    line-read (a .inv) (at-read-line .before .loop-test .taken)
+    (sym (at-read-line .read-line .ensures) ∙ at-line .line .given .1)
+    (λ z. at-if1 .if1 .left (at-if1 .before .code-of .ensures ∙ z)) (at-store .store .ensures
+    ∙ ap (set (a .tokens) (a .count))
+    (at-store .before .token-of .ensures ∙ ap (tokenOf _ _ _) (at-if1 .before .code-of .ensures)))
 
 same-length-3 : tie.Need-same-length-3 Inv-loop μ-loop
 same-length-3 c = search needs

@@ -30,10 +30,11 @@ end-text-requires c κs = search needs
 
 returns : tie.Need-returns Inv-loop μ-loop
 returns c =
-    let k = c .before .before .before in
-    let l = k .before .loop in
-    let s = now (k .before .before .before .args .file) in
-    c .end-text .ensures ∙ sym (l .inv .1 ∙ text-end s (l .i) (l .n) (k .loop-test .taken) (c .before .if1 .taken))
+    let at-loop-test = c .before .before .before in
+    let l = at-loop-test .before .loop in
+    let s = now (at-loop-test .before .before .before .args .file) in
+    c .end-text .ensures
+    ∙ sym (l .inv .1 ∙ text-end s (l .i) (l .n) (at-loop-test .loop-test .taken) (c .before .if1 .taken))
 
 text-byte-requires : tie.Need-text-byte-requires Inv-loop μ-loop
 text-byte-requires c κs = search needs
@@ -60,8 +61,10 @@ loop-again c =
     let k = c .before .before .before .before in
     let l = k .before .loop in
     let s = now (k .before .before .before .args .file) in
-    let t = c .before in
-    (search needs, l .inv .1 ∙ text-more s (l .i) (l .n) (k .loop-test .taken) (t .before .if1 .left) (sym (t .text-byte .ensures) ∙ not-false _ (c .if2 .left)))
+    let t = c .before in (
+      search needs,
+      l .inv .1 ∙ text-more s (l .i) (l .n) (k .loop-test .taken) (t .before .if1 .left) (sym (t .text-byte .ensures) ∙ not-false _ (c .if2 .left)),
+    )
 
 returns-3 : tie.Need-returns-3 Inv-loop μ-loop
 returns-3 c =

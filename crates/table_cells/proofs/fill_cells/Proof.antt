@@ -13,9 +13,15 @@ use Rattle.table_cells.proofs.fill_cells.Statement.{statement}
 use Rattle.table_cells.proofs.fill_cells.Tie as tie
 
 abbrev Inv-loop : tie.InvT-loop
-Inv-loop items kernels links lookaheads nul fst starts through rules strings lines all codes kinds₀ values₀ q₀ kinds values q =
-    (1 ≤ q) × (q ≤ all + 1) × (length kinds ≡ length kinds₀) × (length values ≡ length values₀)
-    × ((g : Grammar) (entries : List ℕ) → HoldsLines g items entries kernels lookaheads nul fst rules strings lines all codes → Filling g q kinds₀ values₀ kinds values)
+Inv-loop items kernels links lookaheads nul fst starts through rules strings lines all codes kinds₀ values₀ q₀ kinds
+    values q =
+    (1 ≤ q)
+    × (q ≤ all + 1)
+    × (length kinds ≡ length kinds₀)
+    × (length values ≡ length values₀)
+    × ((g : Grammar) (entries : List ℕ)
+    → HoldsLines g items entries kernels lookaheads nul fst rules strings lines all codes
+    → Filling g q kinds₀ values₀ kinds values)
 
 abbrev μ-loop : tie.MeasureT-loop
 μ-loop items kernels links lookaheads nul fst starts through rules strings lines all codes kinds₀ values₀ q₀ kinds values q = all + 1 - q
@@ -24,7 +30,17 @@ loop-holds : tie.Need-loop-holds Inv-loop μ-loop
 loop-holds c = (omega arith, omega arith, refl, refl, λ g entries H. filling-none H _ _)
 
 settle-state-requires : tie.Need-settle-state-requires Inv-loop μ-loop
-settle-state-requires c κs = let p = c .before .before .before .before .before .before .before .before .before .before .before .before .before .before .pre in let o = c .before .before .before .loop .inv in (p .0, (omega (arith, c .before .before .loop-test .taken, p .1 .0), omega (arith, o .2, p .1 .1), omega (arith, o .3, p .1 .2)))
+settle-state-requires c κs =
+    let at-loop-test = c .before .before in
+    let p = at-loop-test .before .before .before .before .before .before .before .before .before .before .before .before .pre in
+    let o = at-loop-test .before .loop .inv in (
+      p .0,
+      (
+        omega (arith, at-loop-test .loop-test .taken, p .1 .0),
+        omega (arith, o .2, p .1 .1),
+        omega (arith, o .3, p .1 .2),
+      ),
+    )
 
 same-length : tie.Need-same-length Inv-loop μ-loop
 same-length c = search needs
@@ -33,10 +49,16 @@ same-length-2 : tie.Need-same-length-2 Inv-loop μ-loop
 same-length-2 c = search needs
 
 returns : tie.Need-returns Inv-loop μ-loop
-returns c = let o = c .before .before .before .before .before .before .before .before .before .loop .inv in let j = c .before .before .before .before .before .settle-state .ensures in (
-  (j .0 .0 ∙ o .2, j .0 .1 ∙ o .3),
-  λ g entries gotos H M. filled-conflict H _ _ _ _ (o .0) (c .before .before .before .before .before .before .before .before .loop-test .taken) (o .4 g entries H) (λ a. j .1 g entries _ H .0 .no (not-true _ (c .if1 .taken)) a),
-)
+returns c =
+    let at-settle-state = c .before .before .before .before .before in
+    let at-loop-test = at-settle-state .before .before .before in
+    let o = at-loop-test .before .loop .inv in
+    let j = at-settle-state .settle-state .ensures in (
+      (j .0 .0 ∙ o .2, j .0 .1 ∙ o .3),
+      λ g entries gotos H M.
+          filled-conflict H _ _ _ _ (o .0) (at-loop-test .loop-test .taken) (o .4 g entries H)
+          (λ a. j .1 g entries _ H .0 .no (not-true _ (c .if1 .taken)) a),
+    )
 
 add-q : tie.Need-add-q Inv-loop μ-loop
 add-q c = search needs
@@ -45,13 +67,18 @@ loop-less : tie.Need-loop-less Inv-loop μ-loop
 loop-less c = search needs
 
 loop-again : tie.Need-loop-again Inv-loop μ-loop
-loop-again c = let o = c .before .before .before .before .before .before .before .before .before .loop .inv in let j = c .before .before .before .before .before .settle-state .ensures in let t = not-false _ (c .if1 .left) in (
-  omega arith,
-  omega (arith, c .before .before .before .before .before .before .before .before .loop-test .taken),
-  j .0 .0 ∙ o .2,
-  j .0 .1 ∙ o .3,
-  λ g entries H. let d = j .1 g entries _ H in filling-more H (o .0) (o .4 g entries H) (d .0 .yes t) (d .1 t),
-)
+loop-again c =
+    let at-settle-state = c .before .before .before .before .before in
+    let at-loop-test = at-settle-state .before .before .before in
+    let o = at-loop-test .before .loop .inv in
+    let j = at-settle-state .settle-state .ensures in
+    let t = not-false _ (c .if1 .left) in (
+      omega arith,
+      omega (arith, at-loop-test .loop-test .taken),
+      j .0 .0 ∙ o .2,
+      j .0 .1 ∙ o .3,
+      λ g entries H. let d = j .1 g entries _ H in filling-more H (o .0) (o .4 g entries H) (d .0 .yes t) (d .1 t),
+    )
 
 same-length-3 : tie.Need-same-length-3 Inv-loop μ-loop
 same-length-3 c = search needs

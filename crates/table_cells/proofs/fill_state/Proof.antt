@@ -38,7 +38,11 @@ loop-less : tie.Need-loop-less Inv-loop μ-loop
 loop-less c = search needs
 
 loop-again : tie.Need-loop-again Inv-loop μ-loop
-loop-again c = let o = c .before .before .before .before .before .before .before .before .before .loop in (omega (arith, c .before .before .before .before .before .before .before .before .loop-test .taken), state-more _ _ refl (o .inv .1) (c .before .before .before .before .fill-cell .ensures))
+loop-again c =
+    let at-fill-cell = c .before .before .before .before in
+    let at-loop-test = at-fill-cell .before .before .before .before in
+    let o = at-loop-test .before .loop in
+    (omega (arith, at-loop-test .loop-test .taken), state-more _ _ refl (o .inv .1) (at-fill-cell .fill-cell .ensures))
 
 same-length : tie.Need-same-length Inv-loop μ-loop
 same-length c = search needs

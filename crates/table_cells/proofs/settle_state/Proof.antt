@@ -12,7 +12,9 @@ slice-aggregate-ask-state : tie.Need-slice-aggregate-ask-state
 slice-aggregate-ask-state c = search needs
 
 ask-state-requires : tie.Need-ask-state-requires
-ask-state-requires c κs = let s = c .before .before .before .before .before .before .before .before .before .before .before in (s .pre .0, (s .pre .1 .0, refl))
+ask-state-requires c κs =
+    let start = c .before .before .before .before .before .before .before .before .before .before .before in
+    (start .pre .0, (start .pre .1 .0, refl))
 
 returns : tie.Need-returns
 returns c = (
@@ -35,13 +37,15 @@ same-length-2 : tie.Need-same-length-2
 same-length-2 c = search needs
 
 returns-2 : tie.Need-returns-2
-returns-2 c = (
-  (c .before .before .before .before .fill-state .ensures .kinds-long, c .before .before .before .before .fill-state .ensures .values-long),
-  λ g entries all H.
-      let A = c .before .before .before .before .before .before .before .before .before .before .ask-state .ensures .1 g _ _ _ _ _ (held H) (H .code-count) in
-      let t = not-false _ (c .before .before .before .before .before .before .before .before .if1 .left) in
-      (is-yes _ (agree-decided H (A .0) .yes t), λ _. state-filled H (A .1 t) (c .before .before .before .before .fill-state .ensures)),
-)
+returns-2 c =
+    let at-fill-state = c .before .before .before .before in
+    let at-if1 = at-fill-state .before .before .before .before in (
+      (at-fill-state .fill-state .ensures .kinds-long, at-fill-state .fill-state .ensures .values-long),
+      λ g entries all H.
+          let A = at-if1 .before .before .ask-state .ensures .1 g _ _ _ _ _ (held H) (H .code-count) in
+          let t = not-false _ (at-if1 .if1 .left) in
+          (is-yes _ (agree-decided H (A .0) .yes t), λ _. state-filled H (A .1 t) (at-fill-state .fill-state .ensures)),
+    )
 
 pub settle-state-spec : {M : Type 1} → statement M
 settle-state-spec =

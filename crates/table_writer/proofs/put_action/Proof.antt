@@ -36,7 +36,12 @@ same-length : tie.Need-same-length
 same-length c = search needs
 
 returns : tie.Need-returns
-returns c = in-words (action-cell _ _ _ _ _ _ (c .before .before .before .before .before .before .before .before .wide .ensures .0) _ (c .before .before .before .before .before .before .before .if1 .taken) (c .before .before .before .before .wide2 .ensures .0)) (c .before .before .put-cell .ensures)
+returns c =
+    let at-wide2 = c .before .before .before .before in
+    let at-if1 = at-wide2 .before .before .before in
+    in-words
+    (action-cell _ _ _ _ _ _ (at-if1 .before .wide .ensures .0) _ (at-if1 .if1 .taken) (at-wide2 .wide2 .ensures .0))
+    (c .before .before .put-cell .ensures)
 
 mul-wide-2 : tie.Need-mul-wide-2
 mul-wide-2 c = search needs
@@ -57,7 +62,12 @@ same-length-2 : tie.Need-same-length-2
 same-length-2 c = search needs
 
 returns-2 : tie.Need-returns-2
-returns-2 c = in-words (action-goto _ _ _ _ _ _ (c .before .before .before .before .before .before .before .wide .ensures .0) _ (c .before .before .before .before .before .before .if1 .left) (c .before .before .before .before .wide3 .ensures .0)) (c .before .before .put-goto .ensures)
+returns-2 c =
+    let at-wide3 = c .before .before .before .before in
+    let at-if1 = at-wide3 .before .before in
+    in-words
+    (action-goto _ _ _ _ _ _ (at-if1 .before .wide .ensures .0) _ (at-if1 .if1 .left) (at-wide3 .wide3 .ensures .0))
+    (c .before .before .put-goto .ensures)
 
 pub put-action-spec : {M : Type 1} → statement M
 put-action-spec =

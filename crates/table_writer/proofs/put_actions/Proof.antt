@@ -35,7 +35,10 @@ same-length : tie.Need-same-length Inv-loop μ-loop
 same-length c = wrote-length (c .before .loop .inv .1 .wrote)
 
 returns : tie.Need-returns Inv-loop μ-loop
-returns c = through-all (c .before .loop .inv .1) (c .before .before .before .before .before .before .args .states) (omega arith) (actions-text _ _ _ (range 1 (c .before .before .before .before .before .before .args .states)))
+returns c =
+    let start = c .before .before .before .before .before .before in
+    through-all (c .before .loop .inv .1) (start .args .states) (omega arith)
+    (actions-text _ _ _ (range 1 (start .args .states)))
 
 pub put-actions-spec : {M : Type 1} → statement M
 put-actions-spec =

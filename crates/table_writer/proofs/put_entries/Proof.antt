@@ -13,7 +13,8 @@ use Rattle.table_writer.proofs.put_entries.Statement.{statement}
 use Rattle.table_writer.proofs.put_entries.Tie as tie
 
 abbrev Inv-loop : tie.InvT-loop
-Inv-loop items entries rules strings out₀ at to₀ k₀ out to k = (k ≤ strings + 1) × Through (λ e. line 69 (getD entries e 0 ∷ symbolsIn items (rules + e))) 1 k out₀ to₀ out to
+Inv-loop items entries rules strings out₀ at to₀ k₀ out to k =
+    (k ≤ strings + 1) × Through (λ e. line 69 (getD entries e 0 ∷ symbolsIn items (rules + e))) 1 k out₀ to₀ out to
 
 abbrev μ-loop : tie.MeasureT-loop
 μ-loop items entries rules strings out₀ at to₀ k₀ out to k = strings + 1 - k
@@ -43,13 +44,21 @@ loop-less : tie.Need-loop-less Inv-loop μ-loop
 loop-less c = search needs
 
 loop-again : tie.Need-loop-again Inv-loop μ-loop
-loop-again c = (omega arith, through-more (c .before .before .before .before .before .before .before .loop .inv .1) (in-words (entry-line (symbolsIn _ _) (c .before .before .before .before .wide .ensures .0)) (c .before .before .put-entry .ensures)))
+loop-again c =
+    let at-wide = c .before .before .before .before in (
+      omega arith,
+      through-more (at-wide .before .before .before .loop .inv .1)
+          (in-words (entry-line (symbolsIn _ _) (at-wide .wide .ensures .0)) (c .before .before .put-entry .ensures)),
+    )
 
 same-length : tie.Need-same-length Inv-loop μ-loop
 same-length c = wrote-length (c .before .loop .inv .1 .wrote)
 
 returns : tie.Need-returns Inv-loop μ-loop
-returns c = through-all (c .before .loop .inv .1) (c .before .before .before .before .before .args .strings) (omega arith) (entries-text _ _ (range 1 (c .before .before .before .before .before .args .strings)))
+returns c =
+    let start = c .before .before .before .before .before in
+    through-all (c .before .loop .inv .1) (start .args .strings) (omega arith)
+    (entries-text _ _ (range 1 (start .args .strings)))
 
 pub put-entries-spec : {M : Type 1} → statement M
 put-entries-spec =

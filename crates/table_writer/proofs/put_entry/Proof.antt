@@ -22,7 +22,11 @@ same-length : tie.Need-same-length
 same-length c = search needs
 
 returns : tie.Need-returns
-returns c = in-words (line-one _ _ (symbolsIn _ _)) (then (c .before .before .before .before .before .before .before .before .before .before .before .before .before .before .put .ensures) (then (c .before .before .before .before .before .before .before .before .before .before .put-field .ensures) (then (c .before .before .before .before .before .before .put-symbols .ensures) (c .before .before .put2 .ensures))))
+returns c =
+    let at-put-symbols = c .before .before .before .before .before .before in
+    let at-put-field = at-put-symbols .before .before .before .before in
+    in-words (line-one _ _ (symbolsIn _ _)) (then (at-put-field .before .before .before .before .put .ensures)
+    (then (at-put-field .put-field .ensures) (then (at-put-symbols .put-symbols .ensures) (c .before .before .put2 .ensures))))
 
 pub put-entry-spec : {M : Type 1} → statement M
 put-entry-spec =

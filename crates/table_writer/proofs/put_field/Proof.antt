@@ -28,7 +28,11 @@ same-length : tie.Need-same-length
 same-length c = search needs
 
 returns : tie.Need-returns
-returns c = in-words (field-digits _ (omega arith)) (then (c .before .before .before .before .before .before .before .before .before .before .before .before .before .before .put .ensures) (then (c .before .before .before .before .before .before .before .before .before .before .put-lead .ensures) (then (c .before .before .before .before .before .before .put-lead2 .ensures) (c .before .before .put2 .ensures))))
+returns c =
+    let at-put-lead2 = c .before .before .before .before .before .before in
+    let at-put-lead = at-put-lead2 .before .before .before .before in
+    in-words (field-digits _ (omega arith)) (then (at-put-lead .before .before .before .before .put .ensures)
+    (then (at-put-lead .put-lead .ensures) (then (at-put-lead2 .put-lead2 .ensures) (c .before .before .put2 .ensures))))
 
 pub put-field-spec : {M : Type 1} → statement M
 put-field-spec =

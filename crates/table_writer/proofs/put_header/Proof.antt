@@ -22,7 +22,11 @@ same-length : tie.Need-same-length
 same-length c = search needs
 
 returns : tie.Need-returns
-returns c = in-words (line-one _ _ (_ ∷ [])) (then (c .before .before .before .before .before .before .before .before .before .before .before .before .before .before .put .ensures) (then (c .before .before .before .before .before .before .before .before .before .before .put-field .ensures) (then (c .before .before .before .before .before .before .put-field2 .ensures) (c .before .before .put2 .ensures))))
+returns c =
+    let at-put-field2 = c .before .before .before .before .before .before in
+    let at-put-field = at-put-field2 .before .before .before .before in
+    in-words (line-one _ _ (_ ∷ [])) (then (at-put-field .before .before .before .before .put .ensures)
+    (then (at-put-field .put-field .ensures) (then (at-put-field2 .put-field2 .ensures) (c .before .before .put2 .ensures))))
 
 pub put-header-spec : {M : Type 1} → statement M
 put-header-spec =

@@ -61,7 +61,16 @@ same-length : tie.Need-same-length
 same-length c = search needs
 
 returns : tie.Need-returns
-returns c = in-words (line-three _ (setIn _ _ _) (c .before .before .before .before .before .before .before .before .before .before .before .before .before .before .before .before .before .before .before .before .before .before .before .wide .ensures .0) (c .before .before .before .before .before .before .before .before .before .before .before .before .before .before .before .before .before .wide2 .ensures .0) (c .before .before .before .before .before .before .before .before .before .before .before .wide3 .ensures .0)) (then (c .before .before .before .before .before .before .before .before .before .before .before .before .before .before .before .before .before .before .before .before .before .before .before .before .before .before .before .before .put .ensures) (then (c .before .before .before .before .before .before .before .before .before .before .before .before .before .before .before .before .before .before .before .before .before .before .put-field .ensures) (then (c .before .before .before .before .before .before .before .before .before .before .before .before .before .before .before .before .put-field2 .ensures) (then (c .before .before .before .before .before .before .before .before .before .before .put-field3 .ensures) (then (c .before .before .before .before .before .before .put-codes .ensures) (c .before .before .put2 .ensures))))))
+returns c =
+    let at-put-codes = c .before .before .before .before .before .before in
+    let at-put-field3 = at-put-codes .before .before .before .before in
+    let at-put-field2 = at-put-field3 .before .before .before .before .before .before in
+    let at-put-field = at-put-field2 .before .before .before .before .before .before in
+    in-words (line-three _ (setIn _ _ _) (at-put-field .before .wide .ensures .0)
+    (at-put-field2 .before .wide2 .ensures .0) (at-put-field3 .before .wide3 .ensures .0))
+    (then (at-put-field .before .before .before .before .before .before .put .ensures)
+    (then (at-put-field .put-field .ensures) (then (at-put-field2 .put-field2 .ensures)
+    (then (at-put-field3 .put-field3 .ensures) (then (at-put-codes .put-codes .ensures) (c .before .before .put2 .ensures))))))
 
 pub put-kernel-spec : {M : Type 1} → statement M
 put-kernel-spec =

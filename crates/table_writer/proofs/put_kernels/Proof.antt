@@ -13,7 +13,10 @@ use Rattle.table_writer.proofs.put_kernels.Statement.{statement}
 use Rattle.table_writer.proofs.put_kernels.Tie as tie
 
 abbrev Inv-loop : tie.InvT-loop
-Inv-loop kernels lookaheads lines codes out₀ at to₀ l₀ out to l = (l ≤ lines) × Through (λ k. line 75 (stateAt kernels k ∷ itemAt kernels k ∷ dotAt kernels k ∷ codesIn lookaheads k codes)) 0 l out₀ to₀ out to
+Inv-loop kernels lookaheads lines codes out₀ at to₀ l₀ out to l =
+    (l ≤ lines)
+    × Through (λ k. line 75 (stateAt kernels k ∷ itemAt kernels k ∷ dotAt kernels k ∷ codesIn lookaheads k codes)) 0 l
+    out₀ to₀ out to
 
 abbrev μ-loop : tie.MeasureT-loop
 μ-loop kernels lookaheads lines codes out₀ at to₀ l₀ out to l = lines - l
@@ -37,7 +40,10 @@ same-length : tie.Need-same-length Inv-loop μ-loop
 same-length c = wrote-length (c .before .loop .inv .1 .wrote)
 
 returns : tie.Need-returns Inv-loop μ-loop
-returns c = through-all (c .before .loop .inv .1) (c .before .before .before .before .before .args .lines) (omega arith) (kernels-text _ _ _ _ (range 0 (c .before .before .before .before .before .args .lines)))
+returns c =
+    let start = c .before .before .before .before .before in
+    through-all (c .before .loop .inv .1) (start .args .lines) (omega arith)
+    (kernels-text _ _ _ _ (range 0 (start .args .lines)))
 
 pub put-kernels-spec : {M : Type 1} → statement M
 put-kernels-spec =

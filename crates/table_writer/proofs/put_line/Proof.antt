@@ -26,7 +26,13 @@ same-length : tie.Need-same-length
 same-length c = search needs
 
 returns : tie.Need-returns
-returns c = in-words (line-three _ [] refl refl refl) (then (c .before .before .before .before .before .before .before .before .before .before .before .before .before .before .before .before .before .before .put .ensures) (then (c .before .before .before .before .before .before .before .before .before .before .before .before .before .before .put-field .ensures) (then (c .before .before .before .before .before .before .before .before .before .before .put-field2 .ensures) (then (c .before .before .before .before .before .before .put-field3 .ensures) (c .before .before .put2 .ensures)))))
+returns c =
+    let at-put-field3 = c .before .before .before .before .before .before in
+    let at-put-field2 = at-put-field3 .before .before .before .before in
+    let at-put-field = at-put-field2 .before .before .before .before in
+    in-words (line-three _ [] refl refl refl) (then (at-put-field .before .before .before .before .put .ensures)
+    (then (at-put-field .put-field .ensures)
+    (then (at-put-field2 .put-field2 .ensures) (then (at-put-field3 .put-field3 .ensures) (c .before .before .put2 .ensures)))))
 
 pub put-line-spec : {M : Type 1} → statement M
 put-line-spec =

@@ -12,7 +12,8 @@ use Rattle.table_writer.proofs.put_state.Statement.{statement}
 use Rattle.table_writer.proofs.put_state.Tie as tie
 
 abbrev Inv-loop : tie.InvT-loop
-Inv-loop kinds values gotos q out₀ at to₀ x₀ out to x = (x ≤ 128) × Through (λ X. actionText (lineIf q X (actionIn kinds values gotos q X) [])) 0 x out₀ to₀ out to
+Inv-loop kinds values gotos q out₀ at to₀ x₀ out to x =
+    (x ≤ 128) × Through (λ X. actionText (lineIf q X (actionIn kinds values gotos q X) [])) 0 x out₀ to₀ out to
 
 abbrev μ-loop : tie.MeasureT-loop
 μ-loop kinds values gotos q out₀ at to₀ x₀ out to x = 128 - x

@@ -36,13 +36,20 @@ loop-less : tie.Need-loop-less Inv-loop μ-loop
 loop-less c = search needs
 
 loop-again : tie.Need-loop-again Inv-loop μ-loop
-loop-again c = (omega arith, through-more (c .before .before .before .before .before .before .loop .inv .1) (in-words (ap (λ (x : ℕ). fields (x ∷ [])) (c .before .before .before .symbol-of .ensures .0)) (c .before .before .put-field .ensures)))
+loop-again c =
+    let at-put-field = c .before .before in (
+      omega arith,
+      through-more (at-put-field .before .before .before .before .loop .inv .1)
+          (in-words (ap (λ (x : ℕ). fields (x ∷ [])) (at-put-field .before .symbol-of .ensures .0)) (at-put-field .put-field .ensures)),
+    )
 
 same-length : tie.Need-same-length Inv-loop μ-loop
 same-length c = wrote-length (c .before .loop .inv .1 .wrote)
 
 returns : tie.Need-returns Inv-loop μ-loop
-returns c = through-all (c .before .loop .inv .1) (c .before .before .length-of .result) (omega arith) (symbols-text _ _ _ (c .before .before .length-of .ensures .0))
+returns c =
+    through-all (c .before .loop .inv .1) (c .before .before .length-of .result) (omega arith)
+    (symbols-text _ _ _ (c .before .before .length-of .ensures .0))
 
 pub put-symbols-spec : {M : Type 1} → statement M
 put-symbols-spec =

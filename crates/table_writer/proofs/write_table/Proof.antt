@@ -21,7 +21,13 @@ same-length : tie.Need-same-length
 same-length c = search needs
 
 returns : tie.Need-returns
-returns c = written (c .before .before .before .before .before .before .before .before .before .before .before .before .before .before .before .before .before .before .before .before .before .before .before .before .pre .1) (in-words (blocks-text _ _ _ _ _ _ _ _ _ _ _ _) (then (c .before .before .before .before .before .before .before .before .before .before .before .before .before .before .put-header .ensures) (then (c .before .before .before .before .before .before .before .before .before .before .put-entries .ensures) (then (c .before .before .before .before .before .before .put-kernels .ensures) (c .before .before .put-actions .ensures)))))
+returns c =
+    let at-put-kernels = c .before .before .before .before .before .before in
+    let at-put-entries = at-put-kernels .before .before .before .before in
+    let at-put-header = at-put-entries .before .before .before .before in
+    written (at-put-header .before .before .before .before .before .before .before .before .before .before .pre .1)
+    (in-words (blocks-text _ _ _ _ _ _ _ _ _ _ _ _) (then (at-put-header .put-header .ensures)
+    (then (at-put-entries .put-entries .ensures) (then (at-put-kernels .put-kernels .ensures) (c .before .before .put-actions .ensures)))))
 
 pub write-table-spec : {M : Type 1} → statement M
 write-table-spec =

@@ -43,12 +43,14 @@ number-requires c κs = search needs
 
 returns : tie.Need-returns Inv-loop μ-loop
 returns c =
-    let n = c .before .before .before in
-    let a = n .before .before .before .before .before .args in
-    let l = n .before .before .before .loop in
+    let at-match = c .before .before in
+    let at-loop-test = at-match .before .before .before in
+    let a = at-loop-test .before .before .before .args in
+    let l = at-loop-test .before .loop in
     c .number .ensures
     ∙ ap (closed (field.Number (l .v))) (c .before .end-at .ensures)
-    ∙ sym (no-more (now (a .s)) (l .i) (l .v) (n .before .before .loop-test .taken) (subst (λ (k : Class). OneOf (1 ∷ 2 ∷ 3 ∷ []) (tagOf the-type k)) (n .classify .ensures) (c .before .before .match .keys2)))
+    ∙ sym (no-more (now (a .s)) (l .i) (l .v) (at-loop-test .loop-test .taken)
+    (subst (λ (k : Class). OneOf (1 ∷ 2 ∷ 3 ∷ []) (tagOf the-type k)) (at-match .before .classify .ensures) (at-match .match .keys2)))
     ∙ sym (l .inv .1)
 
 add-digit-requires : tie.Need-add-digit-requires Inv-loop μ-loop
@@ -62,13 +64,15 @@ loop-less c = search needs
 
 loop-again : tie.Need-loop-again Inv-loop μ-loop
 loop-again c =
-    let n = c .before .before .before in
-    let a = n .before .before .before .before .before .args in
-    let l = n .before .before .before .loop in
+    let at-classify = c .before .before .before in
+    let at-loop-test = at-classify .before .before in
+    let a = at-loop-test .before .before .before .args in
+    let l = at-loop-test .before .loop in
     let e = c .add-digit .ensures in (
       omega (arith, capped (l .v) (getD (now (a .s)) (l .i) 0)),
       l .inv .1
-          ∙ one-more (now (a .s)) (l .i) (l .v) (n .before .before .loop-test .taken) (sym (n .classify .ensures) ∙ c .before .enum-told .given .1)
+          ∙ one-more (now (a .s)) (l .i) (l .v) (at-loop-test .loop-test .taken)
+          (sym (at-classify .classify .ensures) ∙ c .before .enum-told .given .1)
           ∙ ap (digitsFrom (drop (l .i + 1) (now (a .s))) (l .i + 1)) (sym e),
     )
 

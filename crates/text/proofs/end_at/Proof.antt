@@ -29,14 +29,16 @@ add-t10 c = search needs
 returns-3 : tie.Need-returns-3
 unfolding endOf
 returns-3 c =
-    let a = c .before .before .before .before .args in
-    simp (here (now (a .s)) (a .at) (c .before .before .before .if1 .left), ne-eqb _ _ (c .before .if2 .left), eq-eqb _ _ (c .if3 .taken))
+    let at-if1 = c .before .before .before in
+    let a = at-if1 .before .args in
+    simp (here (now (a .s)) (a .at) (at-if1 .if1 .left), ne-eqb _ _ (c .before .if2 .left), eq-eqb _ _ (c .if3 .taken))
 
 returns-4 : tie.Need-returns-4
 unfolding endOf
 returns-4 c =
-    let a = c .before .before .before .before .args in
-    simp (here (now (a .s)) (a .at) (c .before .before .before .if1 .left), ne-eqb _ _ (c .before .if2 .left), ne-eqb _ _ (c .if3 .left))
+    let at-if1 = c .before .before .before in
+    let a = at-if1 .before .args in
+    simp (here (now (a .s)) (a .at) (at-if1 .if1 .left), ne-eqb _ _ (c .before .if2 .left), ne-eqb _ _ (c .if3 .left))
 
 pub end-at-spec : {M : Type 1} → statement M
 end-at-spec =

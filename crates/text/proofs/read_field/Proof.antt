@@ -63,14 +63,23 @@ enum-told-4 c = search needs
 
 returns-3 : tie.Need-returns-3
 returns-3 c =
-    let k = c .before .before .before in
-    c .digits .ensures ∙ sym (by-digits _ _ (k .before .before .before .if1 .left) (k .before .before .if2 .left) (sym (k .classify .ensures) ∙ c .before .enum-told .given .1))
+    let at-classify = c .before .before .before in
+    let at-if2 = at-classify .before .before in
+    c .digits .ensures
+    ∙ sym
+    (by-digits _ _ (at-if2 .before .if1 .left) (at-if2 .if2 .left) (sym (at-classify .classify .ensures) ∙ c .before .enum-told .given .1))
 
 returns-4 : tie.Need-returns-4
-returns-4 c = c .letter .ensures ∙ ap (closed _) (c .before .end-at .ensures) ∙ sym (by-byte (c .before .before .before .before) _ (c .before .before .enum-told2 .given .1))
+returns-4 c =
+    c .letter .ensures
+    ∙ ap (closed _) (c .before .end-at .ensures)
+    ∙ sym (by-byte (c .before .before .before .before) _ (c .before .before .enum-told2 .given .1))
 
 returns-5 : tie.Need-returns-5
-returns-5 c = c .mark .ensures ∙ ap (closed _) (c .before .end-at2 .ensures) ∙ sym (by-byte (c .before .before .before .before) _ (c .before .before .enum-told3 .given .1))
+returns-5 c =
+    c .mark .ensures
+    ∙ ap (closed _) (c .before .end-at2 .ensures)
+    ∙ sym (by-byte (c .before .before .before .before) _ (c .before .before .enum-told3 .given .1))
 
 returns-6 : tie.Need-returns-6
 returns-6 c = sym (by-byte (c .before .before) _ (c .enum-told4 .given .1))
