@@ -48,7 +48,7 @@ ItemNamedIs items entries kernels kinds values gotos named present symbols rules
     MoveNamedIs items kernels present symbols kinds values gotos (rules + strings) rules lines q (ItemFault.Extra X l)
 ItemNamedIs items entries kernels kinds values gotos named present symbols rules strings lines q ItemFault.Nothing =
     On named q × EntriesAtMeet entries kernels rules strings lines q
-        × MoveNamedIs items kernels present symbols kinds values gotos (rules + strings) rules lines q ItemFault.Nothing
+    × MoveNamedIs items kernels present symbols kinds values gotos (rules + strings) rules lines q ItemFault.Nothing
 
 pub record ItemFaultIs (items entries kernels kinds values gotos named present symbols : List ℕ) (rules strings lines q : ℕ) (r : ItemFault) : Type 0 where
   pub is : ItemNamedIs items entries kernels kinds values gotos named present symbols rules strings lines q r

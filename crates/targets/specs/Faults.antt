@@ -47,7 +47,7 @@ MoveNamedIs items kernels present symbols kinds values gotos count rules lines q
     (1 ≤ X) × (X < 128) × ExtraLine items kernels present symbols kinds values gotos rules lines q X l
 MoveNamedIs items kernels present symbols kinds values gotos count rules lines q ItemFault.Nothing =
     LinesArrive items kernels kinds values gotos lines q × RulesArrive items kernels present kinds values gotos rules lines q
-        × TargetsOnly items kernels present symbols kinds values gotos rules lines q
+    × TargetsOnly items kernels present symbols kinds values gotos rules lines q
 
 pub record MoveFaultIs (items kernels present symbols kinds values gotos : List ℕ) (count rules lines q : ℕ) (r : ItemFault) : Type 0 where
   pub is : MoveNamedIs items kernels present symbols kinds values gotos count rules lines q r

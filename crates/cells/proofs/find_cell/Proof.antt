@@ -38,7 +38,9 @@ loop-less : tie.Need-loop-less Inv-loop μ-loop
 loop-less c = search needs
 
 loop-again : tie.Need-loop-again Inv-loop μ-loop
-loop-again c = (omega arith, omega arith, from-more _ 0 (c .before .before .before .before .loop .c) (c .before .before .before .before .loop .inv .2) (c .if1 .left ∙ c .before .demand-of .ensures))
+loop-again c =
+    let at-loop = c .before .before .before .before in
+    (omega arith, omega arith, from-more _ 0 (at-loop .loop .c) (at-loop .loop .inv .2) (c .if1 .left ∙ c .before .demand-of .ensures))
 
 returns-2 : tie.Need-returns-2 Inv-loop μ-loop
 returns-2 c = misses-none (λ j a l d. c .before .loop .inv .2 j a (omega (arith, l)))

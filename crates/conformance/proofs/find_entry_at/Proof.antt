@@ -19,7 +19,9 @@ loop-holds : tie.Need-loop-holds Inv-loop μ-loop
 loop-holds c = (omega arith, omega arith, λ j a b. absurd (no-gap a b))
 
 entry-meets-requires : tie.Need-entry-meets-requires Inv-loop μ-loop
-entry-meets-requires c κs = (c .before .before .before .before .before .pre .0, (c .before .before .before .before .before .pre .1 .0, (c .before .before .before .before .before .pre .1 .1 .0, c .before .before .before .before .before .pre .1 .1 .1, omega arith, omega arith)))
+entry-meets-requires c κs =
+    let start = c .before .before .before .before .before in
+    (start .pre .0, (start .pre .1 .0, (start .pre .1 .1 .0, start .pre .1 .1 .1, omega arith, omega arith)))
 
 returns : tie.Need-returns Inv-loop μ-loop
 returns c = misses-at (c .before .before .before .loop .inv .0) (omega arith) tt (c .before .entry-meets .ensures .no (not-true _ (c .if1 .taken)))

@@ -20,7 +20,11 @@ slice-aggregate-close-state-2 : tie.Need-slice-aggregate-close-state-2
 slice-aggregate-close-state-2 c = search needs
 
 close-state-requires : tie.Need-close-state-requires
-close-state-requires c κs = let s = c .before .before .before .before .before .before .before .before .before .before .before .before .before .before .before .before .before in let S = s .pre .0 in let C = s .pre .1 .0 in let low = s .pre .1 .1 .1 in
+close-state-requires c κs =
+    let s = c .before .before .before .before .before .before .before .before .before .before .before .before .before .before .before .before .before in
+    let S = s .pre .0 in
+    let C = s .pre .1 .0 in
+    let low = s .pre .1 .1 .1 in
     (S .shaped, ((within _ _, S .few-rules, C .few-codes), (S .some-lines, (S .codes-room, ((C .nul-room, C .fst-room, C .starts-room, C .through-room), (C .prepared, (refl, refl)))))))
 
 slice-aggregate-flag-moves : tie.Need-slice-aggregate-flag-moves
@@ -30,7 +34,11 @@ slice-aggregate-flag-moves-2 : tie.Need-slice-aggregate-flag-moves-2
 slice-aggregate-flag-moves-2 c = search needs
 
 flag-moves-requires : tie.Need-flag-moves-requires
-flag-moves-requires c κs = let s = c .before .before .before .before .before .before .before .before .before .before .before .before .before .before .before .before .before .before .before .before .before .before in let S = s .pre .0 in let C = s .pre .1 .0 in let low = s .pre .1 .1 .1 in
+flag-moves-requires c κs =
+    let s = c .before .before .before .before .before .before .before .before .before .before .before .before .before .before .before .before .before .before .before .before .before .before in
+    let S = s .pre .0 in
+    let C = s .pre .1 .0 in
+    let low = s .pre .1 .1 .1 in
     (readable-of S C (search needs), (low, refl))
 
 slice-aggregate-find-item-fault : tie.Need-slice-aggregate-find-item-fault
@@ -40,7 +48,11 @@ slice-aggregate-find-item-fault-2 : tie.Need-slice-aggregate-find-item-fault-2
 slice-aggregate-find-item-fault-2 c = search needs
 
 find-item-fault-requires : tie.Need-find-item-fault-requires
-find-item-fault-requires c κs = let s = c .before .before .before .before .before .before .before .before .before .before .before .before .before .before .before .before .before .before .before .before .before .before .before .before .before .before in let S = s .pre .0 in let C = s .pre .1 .0 in let low = s .pre .1 .1 .1 in
+find-item-fault-requires c κs =
+    let s = c .before .before .before .before .before .before .before .before .before .before .before .before .before .before .before .before .before .before .before .before .before .before .before .before .before .before in
+    let S = s .pre .0 in
+    let C = s .pre .1 .0 in
+    let low = s .pre .1 .1 .1 in
     (readable-of S C (search needs), (S .cells-room, ((in-room low (S .named-room), c .before .before .before .flag-moves .ensures .0), (low, S .few-rules, S .few-strings, in-room (omega (arith, S .few-strings)) (S .entries-room)))))
 
 is-nothing-requires : tie.Need-is-nothing-requires
@@ -53,8 +65,13 @@ slice-aggregate-add-inclusions-2 : tie.Need-slice-aggregate-add-inclusions-2
 slice-aggregate-add-inclusions-2 c = search needs
 
 add-inclusions-requires : tie.Need-add-inclusions-requires
-add-inclusions-requires c κs = let s = c .before .before .before .before .before .before .before .before .before .before .before .before .before .before .before .before .before .before .before .before .before .before .before .before .before .before .before .before .before .before .before in let S = s .pre .0 in let C = s .pre .1 .0 in let low = s .pre .1 .1 .1 in
-    (sourced-of S C, (S .cells-room, (low, c .before .before .before .before .before .before .before .before .before .before .before .before .before .close-state .kept .1 .1 .1 .1 .1 .1 .1 .1 .1 .1 .1 .1 .0, c .before .before .before .before .before .before .before .before .before .before .before .before .before .close-state .kept .1 .1 .1 .1 .1 .1 .1 .1 .1 .1 .1 .1 .1 .0, S .codes-room, lines-room (S .some-lines .few) (s .pre .1 .1 .2))))
+add-inclusions-requires c κs =
+    let at-close-state = c .before .before .before .before .before .before .before .before .before .before .before .before .before in
+    let s = at-close-state .before .before .before .before .before .before .before .before .before .before .before .before .before .before .before .before .before .before in
+    let S = s .pre .0 in
+    let C = s .pre .1 .0 in
+    let low = s .pre .1 .1 .1 in
+    (sourced-of S C, (S .cells-room, (low, at-close-state .close-state .kept .1 .1 .1 .1 .1 .1 .1 .1 .1 .1 .1 .1 .0, at-close-state .close-state .kept .1 .1 .1 .1 .1 .1 .1 .1 .1 .1 .1 .1 .1 .0, S .codes-room, lines-room (S .some-lines .few) (s .pre .1 .1 .2))))
 
 slice-aggregate-ask-cells : tie.Need-slice-aggregate-ask-cells
 slice-aggregate-ask-cells c = search needs
@@ -69,8 +86,14 @@ slice-aggregate-ask-cells-4 : tie.Need-slice-aggregate-ask-cells-4
 slice-aggregate-ask-cells-4 c = search needs
 
 ask-cells-requires : tie.Need-ask-cells-requires
-ask-cells-requires c κs = let s = c .before .before .before .before .before .before .before .before .before .before .before .before .before .before .before .before .before .before .before .before .before .before .before .before .before .before .before .before .before .before .before .before .before .before .before .before .before .before in let S = s .pre .0 in let C = s .pre .1 .0 in let low = s .pre .1 .1 .1 in
-    (readable-of S C (c .before .before .before .before .before .before .before .before .before .before .before .before .before .before .before .before .before .before .before .before .close-state .kept .1 .1 .1 .1 .1 .1 .1 .1 .1 .1 .1 .1 .0), (ready-of S C, ((few-items (S .few-rules) (S .few-strings), low, S .codes-room), ((c .before .before .before .before .before .before .before .before .before .before .before .before .before .before .before .before .before .before .before .before .close-state .kept .1 .1 .1 .1 .1 .1 .1 .1 .1 .1 .1 .1 .1 .0), c .before .before .before .before .before .before .before .before .before .before .before .before .before .before .before .flag-moves .ensures .0, refl))))
+ask-cells-requires c κs =
+    let at-flag-moves = c .before .before .before .before .before .before .before .before .before .before .before .before .before .before .before in
+    let at-close-state = at-flag-moves .before .before .before .before .before in
+    let s = at-close-state .before .before .before .before .before .before .before .before .before .before .before .before .before .before .before .before .before .before in
+    let S = s .pre .0 in
+    let C = s .pre .1 .0 in
+    let low = s .pre .1 .1 .1 in
+    (readable-of S C (at-close-state .close-state .kept .1 .1 .1 .1 .1 .1 .1 .1 .1 .1 .1 .1 .0), (ready-of S C, ((few-items (S .few-rules) (S .few-strings), low, S .codes-room), ((at-close-state .close-state .kept .1 .1 .1 .1 .1 .1 .1 .1 .1 .1 .1 .1 .1 .0), at-flag-moves .flag-moves .ensures .0, refl))))
 
 slice-aggregate-cells-meet : tie.Need-slice-aggregate-cells-meet
 slice-aggregate-cells-meet c = search needs
@@ -79,8 +102,13 @@ slice-aggregate-cells-meet-2 : tie.Need-slice-aggregate-cells-meet-2
 slice-aggregate-cells-meet-2 c = search needs
 
 cells-meet-requires : tie.Need-cells-meet-requires
-cells-meet-requires c κs = let s = c .before .before .before .before .before .before .before .before .before .before .before .before .before .before .before .before .before .before .before .before .before .before .before .before .before .before .before .before .before .before .before .before .before .before .before .before .before .before .before .before .before .before in let S = s .pre .0 in let C = s .pre .1 .0 in let low = s .pre .1 .1 .1 in
-    (S .cells-room, (c .before .before .before .ask-cells .ensures .0, c .before .before .before .before .before .before .before .before .before .before .before .before .before .before .before .before .before .before .before .flag-moves .ensures .0, C .few-codes, low))
+cells-meet-requires c κs =
+    let at-flag-moves = c .before .before .before .before .before .before .before .before .before .before .before .before .before .before .before .before .before .before .before in
+    let s = at-flag-moves .before .before .before .before .before .before .before .before .before .before .before .before .before .before .before .before .before .before .before .before .before .before .before in
+    let S = s .pre .0 in
+    let C = s .pre .1 .0 in
+    let low = s .pre .1 .1 .1 in
+    (S .cells-room, (c .before .before .before .ask-cells .ensures .0, at-flag-moves .flag-moves .ensures .0, C .few-codes, low))
 
 same-length : tie.Need-same-length
 same-length c = search needs
@@ -93,8 +121,7 @@ returns c =
     let finding = testing .before in
     let moving = finding .before .before .before .before in
     let closing = moving .before .before .before .before .before in
-    let start = closing .before .before .before .before .before .before .before .before .before .before .before .before .before .before .before .before .before .before in
-    (
+    let start = closing .before .before .before .before .before .before .before .before .before .before .before .before .before .before .before .before .before .before in (
       including .add-inclusions .ensures .0 .long ∙ start .pre .1 .1 .2,
       λ g t states G U l.
           let H = G .held in

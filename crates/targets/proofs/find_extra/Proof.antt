@@ -17,7 +17,9 @@ loop-holds : tie.Need-loop-holds Inv-loop μ-loop
 loop-holds c = (omega arith, omega arith, λ j a b. absurd (no-gap a b))
 
 find-extra-at-requires : tie.Need-find-extra-at-requires Inv-loop μ-loop
-find-extra-at-requires c κs = (c .before .before .before .before .before .before .before .before .before .before .pre .0, (c .before .before .before .before .before .before .before .before .before .before .pre .1 .0, (c .before .before .before .before .before .before .before .before .before .before .pre .1 .1 .0, c .before .before .before .before .before .before .before .before .before .before .pre .1 .1 .1, c .loop-test .taken)))
+find-extra-at-requires c κs =
+    let start = c .before .before .before .before .before .before .before .before .before .before in
+    (start .pre .0, (start .pre .1 .0, (start .pre .1 .1 .0, start .pre .1 .1 .1, c .loop-test .taken)))
 
 enum-known-found : tie.Need-enum-known-found Inv-loop μ-loop
 enum-known-found c = search needs
@@ -35,7 +37,9 @@ loop-less : tie.Need-loop-less Inv-loop μ-loop
 loop-less c = search needs
 
 loop-again : tie.Need-loop-again Inv-loop μ-loop
-loop-again c = (omega arith, omega (arith, c .before .before .before .loop-test .taken), from-more _ 1 (c .before .before .before .before .loop .x) (c .before .before .before .before .loop .inv .2) (c .before .before .find-extra-at .ensures .none (c .enum-told .given .1)))
+loop-again c =
+    let at-loop = c .before .before .before .before in
+    (omega arith, omega (arith, c .before .before .before .loop-test .taken), from-more _ 1 (at-loop .loop .x) (at-loop .loop .inv .2) (c .before .before .find-extra-at .ensures .none (c .enum-told .given .1)))
 
 returns-2 : tie.Need-returns-2 Inv-loop μ-loop
 returns-2 c = λ lines rules. record { is = (lines, rules, λ j a l. c .before .loop .inv .2 j a (omega (arith, l))) }

@@ -11,13 +11,17 @@ returns : tie.Need-returns
 returns c = no-extra (target-still (λ o. o .nonzero (c .if1 .taken)))
 
 next-of-requires : tie.Need-next-of-requires
-next-of-requires c κs = (c .before .before .before .before .before .before .before .before .before .before .pre .1 .0, (c .before .before .before .before .before .before .before .before .before .before .pre .1 .1 .1, c .before .before .before .before .before .before .before .before .before .before .pre .1 .1 .2))
+next-of-requires c κs =
+    let start = c .before .before .before .before .before .before .before .before .before .before in
+    (start .pre .1 .0, (start .pre .1 .1 .1, start .pre .1 .1 .2))
 
 returns-2 : tie.Need-returns-2
 returns-2 c = no-extra (target-nowhere _ (c .before .next-of .ensures .0) (c .if2 .taken))
 
 find-stray-requires : tie.Need-find-stray-requires
-find-stray-requires c κs = (c .before .before .before .before .before .before .before .before .before .before .before .before .pre .0, (c .before .before .before .before .before .before .before .before .before .before .before .before .pre .1 .1 .1, c .before .next-of .ensures .1))
+find-stray-requires c κs =
+    let start = c .before .before .before .before .before .before .before .before .before .before .before .before in
+    (start .pre .0, (start .pre .1 .1 .1, c .before .next-of .ensures .1))
 
 returns-3 : tie.Need-returns-3
 returns-3 c = finds-extra _ (c .before .before .next-of .ensures .0) (record { nonzero = c .before .before .before .if1 .left }) (c .before .if2 .left) (c .find-stray .ensures)

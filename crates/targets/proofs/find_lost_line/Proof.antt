@@ -26,13 +26,17 @@ sub-l : tie.Need-sub-l Inv-loop μ-loop
 sub-l c = search needs
 
 line-arrives-requires : tie.Need-line-arrives-requires Inv-loop μ-loop
-line-arrives-requires c κs = (c .before .before .before .before .before .before .before .before .before .pre .0, (c .before .before .before .before .before .before .before .before .before .pre .1 .0, (c .before .before .before .before .before .before .before .before .before .pre .1 .1, omega (arith, c .before .loop .inv .low))))
+line-arrives-requires c κs =
+    let start = c .before .before .before .before .before .before .before .before .before in
+    (start .pre .0, (start .pre .1 .0, (start .pre .1 .1, omega (arith, c .before .loop .inv .low))))
 
 returns : tie.Need-returns Inv-loop μ-loop
 returns c = let o = c .before .before .before .loop .inv in misses-at (omega arith) (omega (arith, o .low)) (o .here (λ e. omega (arith, e))) (c .before .line-arrives .ensures .no (not-true _ (c .if1 .taken)))
 
 line-before-requires : tie.Need-line-before-requires Inv-loop μ-loop
-line-before-requires c κs = (c .before .before .before .before .before .before .before .before .before .before .before .pre .0 .linked, (omega (arith, c .before .before .before .loop .inv .low), c .before .before .before .before .before .before .before .before .before .before .before .pre .0 .some-lines .few))
+line-before-requires c κs =
+    let start = c .before .before .before .before .before .before .before .before .before .before .before in
+    (start .pre .0 .linked, (omega (arith, c .before .before .before .loop .inv .low), start .pre .0 .some-lines .few))
 
 loop-less : tie.Need-loop-less Inv-loop μ-loop
 loop-less c = search needs

@@ -20,7 +20,9 @@ loop-holds : tie.Need-loop-holds Inv-loop μ-loop
 loop-holds c = (omega arith, λ j a b. absurd (no-gap a b))
 
 is-present-requires : tie.Need-is-present-requires Inv-loop μ-loop
-is-present-requires c κs = (c .before .before .before .before .before .before .before .before .before .pre .0 .lined .shaped, (omega (arith, c .before .before .before .before .before .before .before .before .before .pre .0 .few), c .before .before .before .before .before .before .before .before .before .pre .0 .room))
+is-present-requires c κs =
+    let start = c .before .before .before .before .before .before .before .before .before in
+    (start .pre .0 .lined .shaped, (omega (arith, start .pre .0 .few), start .pre .0 .room))
 
 add-i : tie.Need-add-i Inv-loop μ-loop
 add-i c = search needs
@@ -32,7 +34,9 @@ loop-again : tie.Need-loop-again Inv-loop μ-loop
 loop-again c = (omega arith, from-more _ 1 (c .before .before .before .loop .i) (c .before .before .before .loop .inv .1) (λ p. absurd (c .before .is-present .ensures .no (not-true _ (c .if1 .taken)) p)))
 
 arrives-requires : tie.Need-arrives-requires Inv-loop μ-loop
-arrives-requires c κs = (c .before .before .before .before .before .before .before .before .before .before .before .pre .0 .lined, (c .before .before .before .before .before .before .before .before .before .before .before .pre .1 .0, (c .before .before .before .before .before .before .before .before .before .before .before .pre .1 .1, omega (arith, c .before .before .before .before .before .before .before .before .before .before .before .pre .0 .few), omega arith)))
+arrives-requires c κs =
+    let start = c .before .before .before .before .before .before .before .before .before .before .before in
+    (start .pre .0 .lined, (start .pre .1 .0, (start .pre .1 .1, omega (arith, start .pre .0 .few), omega arith)))
 
 returns : tie.Need-returns Inv-loop μ-loop
 returns c = misses-at (c .before .before .before .before .before .loop .inv .0) (omega arith) (c .before .before .before .is-present .ensures .yes (not-false _ (c .before .before .if1 .left))) (c .before .arrives .ensures .no (not-true _ (c .if2 .taken)))
@@ -44,7 +48,9 @@ loop-less-2 : tie.Need-loop-less-2 Inv-loop μ-loop
 loop-less-2 c = search needs
 
 loop-again-2 : tie.Need-loop-again-2 Inv-loop μ-loop
-loop-again-2 c = (omega arith, from-more _ 1 (c .before .before .before .before .before .loop .i) (c .before .before .before .before .before .loop .inv .1) (λ p. c .before .arrives .ensures .yes (not-false _ (c .if2 .left))))
+loop-again-2 c =
+    let at-loop = c .before .before .before .before .before in
+    (omega arith, from-more _ 1 (at-loop .loop .i) (at-loop .loop .inv .1) (λ p. c .before .arrives .ensures .yes (not-false _ (c .if2 .left))))
 
 returns-2 : tie.Need-returns-2 Inv-loop μ-loop
 returns-2 c = misses-none (λ j a l p. c .before .loop .inv .1 j a (omega (arith, l)) p)

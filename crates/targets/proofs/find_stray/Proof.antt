@@ -17,7 +17,9 @@ abbrev μ-loop : tie.MeasureT-loop
 μ-loop items kernels links present count rules lines q x s p₀ p = p
 
 last-line-requires : tie.Need-last-line-requires Inv-loop μ-loop
-last-line-requires c κs = (c .before .before .before .before .pre .0 .lined .linked, c .before .before .before .before .pre .1 .1)
+last-line-requires c κs =
+    let start = c .before .before .before .before in
+    (start .pre .0 .lined .linked, start .pre .1 .1)
 
 loop-holds : tie.Need-loop-holds Inv-loop μ-loop
 loop-holds c = passed-start (c .last-line .ensures .0)
@@ -26,13 +28,17 @@ sub-l : tie.Need-sub-l Inv-loop μ-loop
 sub-l c = search needs
 
 line-came-requires : tie.Need-line-came-requires Inv-loop μ-loop
-line-came-requires c κs = (c .before .before .before .before .before .before .before .pre .0, (c .before .before .before .before .before .before .before .pre .1 .0, omega (arith, c .before .loop .inv .low)))
+line-came-requires c κs =
+    let start = c .before .before .before .before .before .before .before in
+    (start .pre .0, (start .pre .1 .0, omega (arith, c .before .loop .inv .low)))
 
 returns : tie.Need-returns Inv-loop μ-loop
 returns c = let o = c .before .before .before .loop .inv in misses-at (omega arith) (omega (arith, o .low)) (o .here (λ e. omega (arith, e))) (c .before .line-came .ensures .no (not-true _ (c .if1 .taken)))
 
 line-before-requires : tie.Need-line-before-requires Inv-loop μ-loop
-line-before-requires c κs = (c .before .before .before .before .before .before .before .before .before .pre .0 .lined .linked, (omega (arith, c .before .before .before .loop .inv .low), c .before .before .before .before .before .before .before .before .before .pre .0 .lined .some-lines .few))
+line-before-requires c κs =
+    let start = c .before .before .before .before .before .before .before .before .before in
+    (start .pre .0 .lined .linked, (omega (arith, c .before .before .before .loop .inv .low), start .pre .0 .lined .some-lines .few))
 
 loop-less : tie.Need-loop-less Inv-loop μ-loop
 loop-less c = search needs
