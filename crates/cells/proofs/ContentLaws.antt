@@ -16,6 +16,8 @@ use Rattle.leftcorner.specs.Table.{Table, Action, S, N, A, P, nextState, action
 use Rattle.leftcorner.specs.Construction.{forget, ActionAt, MovedBy, Asked, to-move, CellsMeet}
 use Rattle.leftcorner.specs.ReadOff.{clash, action-is, action-back}
 use Rattle.fixpoint.specs.Flags.{On}
+use Rattle.fixpoint.specs.declared.Found.{Found}
+use Rattle.fixpoint.specs.Misses.{Any, Misses}
 use Rattle.fixpoint.proofs.PassLaws.{set-on}
 use Rattle.memory.specs.Memory.{kindOf, valueOf, popValue}
 use Rattle.memory.specs.Held.{Held}
@@ -115,7 +117,7 @@ module _ (g : Grammar) (t : Table) {items entries kernels lookaheads kinds value
     few-codes : codes ≤ 64
     few-codes = omega (arith, H .formed .few-terminals)
 
-    pub meets-codes : CellsMeet g t (FirstBy codes nul fst) q → (c : ℕ) → c < codes → getD asked c 0 ≡ demandAt kinds values q c
+    meets-codes : CellsMeet g t (FirstBy codes nul fst) q → (c : ℕ) → c < codes → getD asked c 0 ≡ demandAt kinds values q c
     meets-codes m c l = go (actionFor (t .actions) q c) refl ∙ sym (demand-held c low)
       where
         low : c < 64
@@ -138,7 +140,7 @@ module _ (g : Grammar) (t : Table) {items entries kernels lookaheads kinds value
         go none e = unasked e (ℕ-discrete (getD asked c 0) 0)
         go (some y) e = filled-by y (action-back (t .actions) q c y e)
 
-    pub meets-gotos : CellsMeet g t (FirstBy codes nul fst) q → (b : ℕ) → b < 64 → GotoMeets moves gotos q b
+    meets-gotos : CellsMeet g t (FirstBy codes nul fst) q → (b : ℕ) → b < 64 → GotoMeets moves gotos q b
     meets-gotos m b l = record { filled = to-goto; asked = to-moves }
       where
         to-goto : On moves (64 + b) → On gotos (q * 64 + b)
@@ -161,6 +163,14 @@ module _ (g : Grammar) (t : Table) {items entries kernels lookaheads kinds value
             let y = line-next g t H q (64 + b) lq (omega arith) (λ z. on .nonzero (goto-at b ∙ z)) in
             let x = asked-moves (subst (Asked g t (FirstBy codes nul fst) q (64 + b)) (next-forget (y .0) (y .2)) (m .asked (64 + b) (y .0) (y .1))) in
             M .every (64 + b) (x .0) (x .1) (x .2)
+
+    -- a code or nonterminal that is named shows that the cells are not those of the construction
+    pub refutes-cell : {r : Found} {c : ℕ} → Misses Any (λ x. getD asked x 0 ≡ demandAt kinds values q x) 0 codes r → r ≡ Found.At c
+        → CellsMeet g t (FirstBy codes nul fst) q → ⊥
+    refutes-cell {c = c} f e m = let h = f .found c e in h .3 (meets-codes m c (h .1))
+
+    pub refutes-goto : {r : Found} {b : ℕ} → Misses Any (GotoMeets moves gotos q) 0 64 r → r ≡ Found.At b → CellsMeet g t (FirstBy codes nul fst) q → ⊥
+    refutes-goto {b = b} f e m = let h = f .found b e in h .3 (meets-gotos m b (h .1))
 
     pub cells-meets : ((c : ℕ) → c < codes → getD asked c 0 ≡ demandAt kinds values q c) → ((b : ℕ) → b < 64 → GotoMeets moves gotos q b)
         → CellsMeet g t (FirstBy codes nul fst) q

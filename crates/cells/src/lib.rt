@@ -1,5 +1,6 @@
-// What the items of a state ask of its cells, and whether the cells are so.
-// Inner: for the checker and the builder.
+// What the items of a state ask of its cells, and which cells are not so.
+// Inner: for the checker, the builder and `explanation`.
+use fixpoint::Found;
 use symbol::CODES;
 use symbol::Symbol;
 ghost use mathlib.Core.Path.{_≡_};
@@ -12,6 +13,7 @@ ghost use Rattle.leftcorner.specs.Table.{Table};
 ghost use Rattle.leftcorner.specs.Construction.{CellsAgree, CellsMeet};
 ghost use Rattle.items.specs.Layout.{leftAt};
 ghost use Rattle.fixpoint.specs.Flags.{On, Decides};
+ghost use Rattle.fixpoint.specs.Misses.{Any, Misses};
 ghost use Rattle.memory.specs.Held.{Held};
 ghost use Rattle.analysis.specs.FirstBy.{FirstBy};
 ghost use Rattle.closure.specs.Expansion.{HoldsClosure};
@@ -286,24 +288,24 @@ pub fn demand_of(kinds: &[u8], values: &[u8], q: usize, c: usize) -> usize
     kind * 256 + wide(values[q * CODES + c])
 }
 
-// Whether the cells of q are what is asked.
-fn codes_meet(asked: &[usize], kinds: &[u8], values: &[u8], codes: usize, q: usize) -> bool
+// The first code whose cell of q is not what is asked.
+pub fn find_cell(asked: &[usize], kinds: &[u8], values: &[u8], codes: usize, q: usize) -> Found
     requires { ⌜ (length (now asked) ≡ 64) × (codes ≤ 64) ⌝ }
     requires { ⌜ (16384 ≤ length (now kinds)) × (16384 ≤ length (now values)) × (q < 256) ⌝ }
-    ensures { λ b. ⌜ Decides ((c : ℕ) → c < codes → getD (now (asked .entry)) c 0 ≡ demandAt (now (kinds .entry)) (now (values .entry)) q c) b ⌝ }
+    ensures { λ r. ⌜ Misses Any (λ c. getD (now (asked .entry)) c 0 ≡ demandAt (now (kinds .entry)) (now (values .entry)) q c) 0 codes r ⌝ }
 {
     let mut c = 0;
     while c < codes {
         if asked[c] != demand_of(kinds, values, q, c) {
-            return false;
+            return Found::At(c);
         }
         c += 1;
     }
-    true
+    Found::Nothing
 }
 
 // Whether q has a next state for nonterminal 64 + b exactly where something moves.
-pub fn goto_meets(moves: &[u8], gotos: &[u8], q: usize, b: usize) -> bool
+fn goto_meets(moves: &[u8], gotos: &[u8], q: usize, b: usize) -> bool
     requires { ⌜ (length (now moves) ≡ 128) × (16384 ≤ length (now gotos)) × (q < 256) × (b < 64) ⌝ }
     ensures { λ r. ⌜ Decides (GotoMeets (now (moves .entry)) (now (gotos .entry)) q b) r ⌝ }
 {
@@ -319,19 +321,19 @@ pub fn goto_meets(moves: &[u8], gotos: &[u8], q: usize, b: usize) -> bool
     true
 }
 
-// Whether that is so for all nonterminals.
-fn gotos_meet(moves: &[u8], gotos: &[u8], q: usize) -> bool
+// The first b where q has a next state for nonterminal 64 + b and nothing moves, or the other way round.
+pub fn find_goto(moves: &[u8], gotos: &[u8], q: usize) -> Found
     requires { ⌜ (length (now moves) ≡ 128) × (16384 ≤ length (now gotos)) × (q < 256) ⌝ }
-    ensures { λ r. ⌜ Decides ((b : ℕ) → b < 64 → GotoMeets (now (moves .entry)) (now (gotos .entry)) q b) r ⌝ }
+    ensures { λ r. ⌜ Misses Any (GotoMeets (now (moves .entry)) (now (gotos .entry)) q) 0 64 r ⌝ }
 {
     let mut b = 0;
     while b < CODES {
         if !goto_meets(moves, gotos, q, b) {
-            return false;
+            return Found::At(b);
         }
         b += 1;
     }
-    true
+    Found::Nothing
 }
 
 // Whether the cells and next states of q are those that its items ask for.
@@ -348,10 +350,12 @@ pub fn cells_meet(
     requires { ⌜ (length (now asked) ≡ 64) × (length (now moves) ≡ 128) × (codes ≤ 64) × (q < 256) ⌝ }
     ensures { λ b. ⌜ ((g : Grammar) (t : Table) (items entries kernels lookaheads nul fst : List ℕ) (rules strings lines : ℕ) → Held g t items entries kernels lookaheads (now (kinds .entry)) (now (values .entry)) (now (gotos .entry)) rules strings lines → codes ≡ suc (g .terminals) → HoldsMoves g t q (now (moves .entry)) → HoldsAsked g t (FirstBy codes nul fst) q (now (asked .entry)) → Decides (CellsMeet g t (FirstBy codes nul fst) q) b) ⌝ }
 {
-    if !codes_meet(asked, kinds, values, codes, q) {
+    let cell = find_cell(asked, kinds, values, codes, q);
+    if let Found::At(_) = cell {
         return false;
     }
-    if !gotos_meet(moves, gotos, q) {
+    let goto = find_goto(moves, gotos, q);
+    if let Found::At(_) = goto {
         return false;
     }
     true

@@ -8,13 +8,17 @@ use lib.ListN.{getD}
 use Rattle.language.specs.Grammar.{Grammar}
 use Rattle.leftcorner.specs.Table.{EntryLine, E, Table, entryAt}
 use Rattle.leftcorner.specs.Construction.{entryItem, EntryAt, KernelAt, ItemsMeet}
-use Rattle.fixpoint.specs.Flags.{On}
+use Rattle.fixpoint.specs.Flags.{On, Decides}
+use Rattle.fixpoint.proofs.PassLaws.{is-yes, is-no}
 use Rattle.memory.proofs.RangeLaws.{entry-at, entry-range}
 use Rattle.memory.specs.Memory.{itemAt, dotAt}
 use Rattle.kernel_lines.specs.Lines.{LineAt}
 use Rattle.kernel_lines.proofs.HeldLaws.{line-of, kernel-of}
+use Rattle.targets.specs.declared.ItemFault.{ItemFault}
 use Rattle.targets.specs.Targets.{MovesMeet}
-use Rattle.conformance.specs.Items.{OnlyItem, EntryMeets, HeldAt}
+use Rattle.targets.specs.Faults.{MoveNamedIs, MoveFaultIs, noFault}
+use Rattle.targets.proofs.FaultLaws.{is-named, moves-decided}
+use Rattle.conformance.specs.Items.{OnlyItem, EntryMeets, EntriesAtMeet, ItemNamedIs, ItemFaultIs, HeldAt}
 
 -- ---- one entry
 module _ {entries kernels : List ℕ} {rules lines q k s : ℕ} (is-s : s ≡ getD entries k 0) where
@@ -28,15 +32,27 @@ module _ {entries kernels : List ℕ} {rules lines q k s : ℕ} (is-s : s ≡ ge
   entry-extra e f m = f (m .only (sym is-s ∙ e))
 
 -- ---- the whole
+module _ {items entries kernels kinds values gotos named present symbols : List ℕ} {rules strings lines q : ℕ} where
+  -- named, with its entries' items: what is wrong is what is wrong with its moves
+  pub by-moves : On named q → EntriesAtMeet entries kernels rules strings lines q → {r : ItemFault}
+      → MoveFaultIs items kernels present symbols kinds values gotos (rules + strings) rules lines q r
+      → ItemFaultIs items entries kernels kinds values gotos named present symbols rules strings lines q r
+  by-moves o a {r = r} f = record { is = go r (f .is) }
+    where
+      go : (r : ItemFault) → MoveNamedIs items kernels present symbols kinds values gotos (rules + strings) rules lines q r
+          → ItemNamedIs items entries kernels kinds values gotos named present symbols rules strings lines q r
+      go ItemFault.Unnamed h = absurd h
+      go (ItemFault.Entry k) h = absurd h
+      go (ItemFault.Lost i k) h = h
+      go (ItemFault.Extra X l) h = h
+      go ItemFault.Nothing h = (o, a, h)
+
 module _ (g : Grammar) (t : Table) {items entries kernels kinds values gotos named present symbols : List ℕ} {rules strings lines q : ℕ}
     (H : HeldAt g t items entries kernels kinds values gotos named present symbols rules strings lines q) where
   same-item : (k : ℕ) → rules + k ≡ entryItem g t k
   same-item k = omega (arith, H .held .rule-count)
 
-  abbrev pub EntriesAtMeet : Type 0
-  EntriesAtMeet = (k : ℕ) → 1 ≤ k → k < strings + 1 → EntryMeets entries kernels rules lines q k
-
-  pub meets-all : On named q → EntriesAtMeet → MovesMeet g t q → ItemsMeet g t q
+  meets-all : On named q → EntriesAtMeet entries kernels rules strings lines q → MovesMeet g t q → ItemsMeet g t q
   meets-all o a m = record {
     entry-has = λ k γ e. let r = entry-range t (H .held .entry-count) k e in
         subst (λ (i : ℕ). (σ : List ℕ) × KernelAt g t q i zero σ) (same-item k)
@@ -50,13 +66,13 @@ module _ (g : Grammar) (t : Table) {items entries kernels kinds values gotos nam
     named = λ lo hi. H .holds-named .only q lo hi o;
   }
 
-  pub meets-named : ItemsMeet g t q → On named q
+  meets-named : ItemsMeet g t q → On named q
   meets-named w = let d = H .state-declared in H .holds-named .every q (d .0) (d .1) (w .named (d .0) (d .1))
 
-  pub meets-moves : ItemsMeet g t q → MovesMeet g t q
+  meets-moves : ItemsMeet g t q → MovesMeet g t q
   meets-moves w = record { move-has = w .move-has; move-only = w .move-only }
 
-  pub meets-entries : ItemsMeet g t q → EntriesAtMeet
+  meets-entries : ItemsMeet g t q → EntriesAtMeet entries kernels rules strings lines q
   meets-entries w k lo hi = go (entry-at t (H .held .entry-count) k lo hi)
     where
       go : (x : EntryLine) × (entryAt t k ≡ some x) → EntryMeets entries kernels rules lines q k
@@ -72,3 +88,23 @@ module _ (g : Grammar) (t : Table) {items entries kernels kinds values gotos nam
         where
           here : getD entries k 0 ≡ q → EntryAt g t k q γ
           here z = e ∙ ap (λ (u : ℕ). some (E u γ)) (sym (H .held .holds-entries .state-is k s e) ∙ z)
+
+  -- no fault exactly where the state's items are those of the construction
+  pub items-decided : q < 256 → {r : ItemFault} → ItemFaultIs items entries kernels kinds values gotos named present symbols rules strings lines q r
+      → Decides (ItemsMeet g t q) (noFault r)
+  items-decided low {r = r} f = go r (f .is)
+    where
+      moves : (r : ItemFault) → MoveNamedIs items kernels present symbols kinds values gotos (rules + strings) rules lines q r → Decides (MovesMeet g t q) (noFault r)
+      moves r h = moves-decided g t (H .held) (H .holds-present) (H .holds-moves) low {r = r} (record { is = h })
+
+      go : (r : ItemFault) → ItemNamedIs items entries kernels kinds values gotos named present symbols rules strings lines q r → Decides (ItemsMeet g t q) (noFault r)
+      go ItemFault.Unnamed h = is-no _ (λ w. meets-named w .nonzero h)
+      go (ItemFault.Entry k) h = is-no _ (λ w. h .2 (meets-entries w k (h .0) (h .1)))
+      go (ItemFault.Lost i k) h = is-no _ (λ w. moves (ItemFault.Lost i k) h .no refl (meets-moves w))
+      go (ItemFault.Extra X l) h = is-no _ (λ w. moves (ItemFault.Extra X l) h .no refl (meets-moves w))
+      go ItemFault.Nothing h = is-yes _ (meets-all (h .0) (h .1) (moves ItemFault.Nothing (h .2) .yes refl))
+
+  -- a fault that is named shows that the state's items are not those of the construction
+  pub refutes : q < 256 → (r : ItemFault) → (r ≡ ItemFault.Nothing → ⊥)
+      → ItemFaultIs items entries kernels kinds values gotos named present symbols rules strings lines q r → ItemsMeet g t q → ⊥
+  refutes low r n f = items-decided low f .no (is-named r n)

@@ -1,4 +1,4 @@
--- Reply 7 at a state, in memory.
+-- Reply 7 at a state, in memory, by its causes: "entries or kernels unlike the construction, or a state neither entry nor named as next by an S or N line".
 use Prim.Native.Nat.{ℕ, _+_, _≤_, _<_}
 use mathlib.Core.Path.{_≡_}
 use mathlib.Core.Logic.{_⊎_}
@@ -8,11 +8,13 @@ use lib.ListN.{getD}
 use Rattle.language.specs.Grammar.{Grammar}
 use Rattle.leftcorner.specs.Table.{Table, Action, nextState}
 use Rattle.leftcorner.specs.Construction.{EntryAt, ActionAt}
-use Rattle.fixpoint.specs.Flags.{On}
+use Rattle.fixpoint.specs.Flags.{On, Off}
 use Rattle.memory.specs.Memory.{stateAt, itemAt, dotAt}
 use Rattle.memory.specs.Held.{Held}
 use Rattle.kernel_lines.specs.Lines.{LineAt}
 use Rattle.moves.specs.Flags.{HoldsPresent, HoldsMoves}
+use Rattle.targets.specs.declared.ItemFault.{ItemFault}
+use Rattle.targets.specs.Faults.{MoveNamedIs}
 
 -- q is the state of an entry, or "named as next by an S or N line"
 abbrev pub Named : Grammar → Table → ℕ → Type 0
@@ -31,6 +33,25 @@ OnlyItem kernels lines q i = (l : ℕ) → l < lines → stateAt kernels l ≡ q
 pub record EntryMeets (entries kernels : List ℕ) (rules lines q k : ℕ) : Type 0 where
   pub has : getD entries k 0 ≡ q → LineAt kernels lines q (rules + k) 0
   pub only : getD entries k 0 ≡ q → OnlyItem kernels lines q (rules + k)
+
+abbrev pub EntriesAtMeet : (entries kernels : List ℕ) → ℕ → ℕ → ℕ → ℕ → Type 0
+EntriesAtMeet entries kernels rules strings lines q = (k : ℕ) → 1 ≤ k → k < strings + 1 → EntryMeets entries kernels rules lines q k
+
+-- what is named is so, and where nothing is, q is named, has the items of its entries, and its moves are right
+abbrev pub ItemNamedIs : (items entries kernels kinds values gotos named present symbols : List ℕ) → ℕ → ℕ → ℕ → ℕ → ItemFault → Type 0
+ItemNamedIs items entries kernels kinds values gotos named present symbols rules strings lines q ItemFault.Unnamed = Off named q
+ItemNamedIs items entries kernels kinds values gotos named present symbols rules strings lines q (ItemFault.Entry k) =
+    (1 ≤ k) × (k < strings + 1) × (EntryMeets entries kernels rules lines q k → ⊥)
+ItemNamedIs items entries kernels kinds values gotos named present symbols rules strings lines q (ItemFault.Lost i k) =
+    MoveNamedIs items kernels present symbols kinds values gotos (rules + strings) rules lines q (ItemFault.Lost i k)
+ItemNamedIs items entries kernels kinds values gotos named present symbols rules strings lines q (ItemFault.Extra X l) =
+    MoveNamedIs items kernels present symbols kinds values gotos (rules + strings) rules lines q (ItemFault.Extra X l)
+ItemNamedIs items entries kernels kinds values gotos named present symbols rules strings lines q ItemFault.Nothing =
+    On named q × EntriesAtMeet entries kernels rules strings lines q
+    × MoveNamedIs items kernels present symbols kinds values gotos (rules + strings) rules lines q ItemFault.Nothing
+
+pub record ItemFaultIs (items entries kernels kinds values gotos named present symbols : List ℕ) (rules strings lines q : ℕ) (r : ItemFault) : Type 0 where
+  pub is : ItemNamedIs items entries kernels kinds values gotos named present symbols rules strings lines q r
 
 -- a grammar and its table in memory, and what was computed of state q: its closure and its moves
 pub record HeldAt (g : Grammar) (t : Table) (items entries kernels kinds values gotos named present symbols : List ℕ) (rules strings lines q : ℕ) : Type 0 where

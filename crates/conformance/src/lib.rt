@@ -1,16 +1,15 @@
-// Whether the kernels at a state are those of the construction.
-// Inner: for the checker.
+// Why the kernels at a state are not those of the construction.
+// Inner: for the checker and `explanation`.
+use fixpoint::Found;
+use targets::ItemFault;
 ghost use mathlib.Core.Path.{_≡_};
-ghost use mathlib.Core.List.{List};
 ghost use Prim.Native.Nat.{ℕ, _+_, _<_, _≤_};
 ghost use lib.ListN.{length};
-ghost use Rattle.language.specs.Grammar.{Grammar};
-ghost use Rattle.leftcorner.specs.Table.{Table};
-ghost use Rattle.leftcorner.specs.Construction.{ItemsMeet};
 ghost use Rattle.fixpoint.specs.Flags.{Decides};
+ghost use Rattle.fixpoint.specs.Misses.{Any, Misses};
 ghost use Rattle.kernel_lines.specs.Lines.{Lines, Linked};
 ghost use Rattle.moves.specs.Moves.{Readable, Cells};
-ghost use Rattle.conformance.specs.Items.{OnlyItem, EntryMeets, HeldAt};
+ghost use Rattle.conformance.specs.Items.{OnlyItem, EntryMeets, ItemFaultIs};
 
 // Whether every line of q is that of item i, dot 0.
 fn only_item(
@@ -44,7 +43,7 @@ fn wide(x: u8) -> usize
 }
 
 // Whether q, where it is the state of entry k, has that entry's item and only that.
-pub fn entry_meets(
+fn entry_meets(
     entries: &[u8],
     kernels: &[u8],
     links: &[usize],
@@ -71,8 +70,8 @@ pub fn entry_meets(
     true
 }
 
-// Whether q has the item, and only that, of each entry whose state it is.
-fn entries_at_meet(
+// The first entry whose state q is, and whose item q does not have alone.
+fn find_entry_at(
     entries: &[u8],
     kernels: &[u8],
     links: &[usize],
@@ -81,24 +80,24 @@ fn entries_at_meet(
     lines: usize,
     count: usize,
     q: usize,
-) -> bool
+) -> Found
     requires { ⌜ Lines (now kernels) lines count ⌝ }
     requires { ⌜ Linked (now kernels) (now links) lines ⌝ }
     requires { ⌜ (q < 256) × (rules ≤ 127) × (strings ≤ 127) × (strings < length (now entries)) ⌝ }
-    ensures { λ b. ⌜ Decides ((k : ℕ) → 1 ≤ k → k < strings + 1 → EntryMeets (now (entries .entry)) (now (kernels .entry)) rules lines q k) b ⌝ }
+    ensures { λ r. ⌜ Misses Any (EntryMeets (now (entries .entry)) (now (kernels .entry)) rules lines q) 1 (strings + 1) r ⌝ }
 {
     let mut k = 1;
     while k <= strings {
         if !entry_meets(entries, kernels, links, rules, lines, count, q, k) {
-            return false;
+            return Found::At(k);
         }
         k += 1;
     }
-    true
+    Found::Nothing
 }
 
-// Whether the kernels are those of the construction, as far as state q tells.
-pub fn items_meet(
+// What is wrong with the kernels, as far as q tells.
+pub fn find_item_fault(
     items: &[u8],
     entries: &[u8],
     kernels: &[u8],
@@ -113,21 +112,22 @@ pub fn items_meet(
     strings: usize,
     lines: usize,
     q: usize,
-) -> bool
+) -> ItemFault
     requires { ⌜ Readable (now items) (now kernels) (now links) (now present) (rules + strings) rules lines ⌝ }
     requires { ⌜ Cells (now kinds) (now values) (now gotos) ⌝ }
     requires { ⌜ (q < length (now named)) × (length (now symbols) ≡ 128) ⌝ }
     requires { ⌜ (q < 256) × (rules ≤ 127) × (strings ≤ 127) × (strings < length (now entries)) ⌝ }
-    ensures { λ b. ⌜ ((g : Grammar) (t : Table) → HeldAt g t (now (items .entry)) (now (entries .entry)) (now (kernels .entry)) (now (kinds .entry)) (now (values .entry)) (now (gotos .entry)) (now (named .entry)) (now (present .entry)) (now (symbols .entry)) rules strings lines q → Decides (ItemsMeet g t q) b) ⌝ }
+    ensures { λ r. ⌜ ItemFaultIs (now (items .entry)) (now (entries .entry)) (now (kernels .entry)) (now (kinds .entry)) (now (values .entry)) (now (gotos .entry)) (now (named .entry)) (now (present .entry)) (now (symbols .entry)) rules strings lines q r ⌝ }
 {
     let count = rules + strings;
     if named[q] == 0 {
-        return false;
+        return ItemFault::Unnamed;
     }
-    if !entries_at_meet(entries, kernels, links, rules, strings, lines, count, q) {
-        return false;
+    let entry = find_entry_at(entries, kernels, links, rules, strings, lines, count, q);
+    if let Found::At(k) = entry {
+        return ItemFault::Entry(k);
     }
-    if !targets::moves_meet(
+    targets::find_move_fault(
         items,
         kernels,
         links,
@@ -140,8 +140,5 @@ pub fn items_meet(
         rules,
         lines,
         q,
-    ) {
-        return false;
-    }
-    true
+    )
 }

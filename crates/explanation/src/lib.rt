@@ -1,6 +1,5 @@
 // Refusals in words: the line, the item, the code, the actions.
 // Inner: for the programs that explain.
-use details::ItemFault;
 use entry_list::EntryFault;
 use fixpoint::Found;
 use missing_lookaheads::Lack;
@@ -10,6 +9,7 @@ use program::print_text;
 use symbol::CODES;
 use symbol::SYMBOLS;
 use symbol::Symbol;
+use targets::ItemFault;
 ghost use mathlib.Core.Path.{_≡_};
 ghost use Prim.Native.Nat.{_+_, _*_, _<_, _≤_};
 ghost use lib.ListN.{length};
@@ -381,7 +381,7 @@ fn explain_items(
     requires { ⌜ (q < 256) × (rules ≤ 127) × (strings ≤ 127) × (strings < length (now entries)) ⌝ }
 {
     let count = rules + strings;
-    let fault = details::find_item_fault(
+    let fault = conformance::find_item_fault(
         items,
         entries,
         kernels,
@@ -774,7 +774,7 @@ fn print_cell(out: &mut [u8; OUTPUT], symbol: usize, asked: usize, there: usize)
 fn explain_goto(out: &mut [u8; OUTPUT], symbols: &[u8], gotos: &[u8], q: usize)
     requires { ⌜ (length (now symbols) ≡ 128) × (16384 ≤ length (now gotos)) × (q < 256) ⌝ }
 {
-    let goto = details::find_goto(symbols, gotos, q);
+    let goto = cells::find_goto(symbols, gotos, q);
     let Found::At(b) = goto else {
         return;
     };
@@ -837,7 +837,7 @@ fn explain_cells(
         q,
         &mut asked,
     );
-    let cell = details::find_cell(&asked, kinds, values, codes, q);
+    let cell = cells::find_cell(&asked, kinds, values, codes, q);
     let Found::At(c) = cell else {
         explain_goto(out, symbols, gotos, q);
         return;

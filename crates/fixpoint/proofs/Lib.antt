@@ -1,3 +1,4 @@
 pub mod CountLaws
 pub mod PassLaws
 pub mod FlagLaws
+pub mod MissLaws

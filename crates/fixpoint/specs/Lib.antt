@@ -5,3 +5,4 @@ pub mod Lowest
 pub mod Decision
 pub mod Pass
 pub mod Rows
+pub mod Misses

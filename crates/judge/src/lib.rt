@@ -87,7 +87,7 @@ fn judge_state(
         q,
         &mut symbols,
     );
-    let met = conformance::items_meet(
+    let fault = conformance::find_item_fault(
         items,
         entries,
         kernels,
@@ -103,6 +103,7 @@ fn judge_state(
         lines,
         q,
     );
+    let met = targets::is_nothing(fault);
     inclusions::add_inclusions(
         items,
         kernels,

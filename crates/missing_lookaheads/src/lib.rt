@@ -15,7 +15,7 @@ ghost use Rattle.kernel_lines.specs.Lines.{Lines, Linked};
 ghost use Rattle.analysis.specs.FirstBy.{FirstBy};
 ghost use Rattle.entry_list.specs.Uses.{HoldsUses};
 ghost use Rattle.lookaheads.specs.Sources.{GoalMeets, LookaheadsFrom};
-ghost use Rattle.details.specs.Misses.{Misses};
+ghost use Rattle.fixpoint.specs.Misses.{Misses};
 ghost use Rattle.judge.specs.Given.{Sized, Computed, Given};
 ghost use Rattle.missing_lookaheads.specs.Lacks.{LackIn, LackAt, LackIs};
 

@@ -12,7 +12,7 @@ ghost use Rattle.items.specs.Layout.{Shaped, leftAt};
 ghost use Rattle.fixpoint.specs.Flags.{On, Decides};
 ghost use Rattle.memory.specs.Memory.{stateAt, itemAt, dotAt};
 ghost use Rattle.memory.specs.Held.{Held};
-ghost use Rattle.moves.specs.Moves.{symbolAfter, nextAt, Present, HasAt, MovedAt, OnlyMoved, Flagged, Readable, Cells};
+ghost use Rattle.moves.specs.Moves.{symbolAfter, nextAt, Present, HasAt, MovedAt, Flagged, Readable, Cells};
 ghost use Rattle.moves.specs.Flags.{HoldsPresent, HoldsMoves};
 
 fn wide(x: u8) -> usize
@@ -177,34 +177,6 @@ pub fn line_came(
         n,
     ) {
         return false;
-    }
-    true
-}
-
-// Whether every line of s came by a move from q on x.
-pub fn only_moved(
-    items: &[u8],
-    kernels: &[u8],
-    links: &[usize],
-    present: &[u8],
-    count: usize,
-    rules: usize,
-    lines: usize,
-    q: usize,
-    x: usize,
-    s: usize,
-) -> bool
-    requires { ⌜ Readable (now items) (now kernels) (now links) (now present) count rules lines ⌝ }
-    requires { ⌜ (q < 256) × (s < 256) ⌝ }
-    ensures { λ b. ⌜ Decides (OnlyMoved (now (items .entry)) (now (kernels .entry)) (now (present .entry)) rules lines q x s) b ⌝ }
-{
-    let mut p = kernel_lines::last_line(kernels, links, lines, s);
-    while 0 < p {
-        let l = p - 1;
-        if !line_came(items, kernels, links, present, count, rules, lines, q, x, l) {
-            return false;
-        }
-        p = kernel_lines::line_before(kernels, links, lines, l);
     }
     true
 }

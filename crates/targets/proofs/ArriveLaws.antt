@@ -41,7 +41,3 @@ module _ {items kernels present symbols kinds values gotos : List ℕ} {rules li
 
     pub target-moved : OnlyMoved items kernels present rules lines q X s → TargetOnly items kernels present symbols kinds values gotos rules lines q X
     target-moved h = record { only = λ o n. subst (OnlyMoved items kernels present rules lines q X) is-s h }
-
-    pub target-not : On symbols X → (s ≡ 0 → ⊥) → (OnlyMoved items kernels present rules lines q X s → ⊥)
-        → TargetOnly items kernels present symbols kinds values gotos rules lines q X → ⊥
-    target-not o n f h = f (subst (OnlyMoved items kernels present rules lines q X) (sym is-s) (h .only o (λ e. n (is-s ∙ e))))

@@ -1,2 +1,3 @@
 pub mod ArriveLaws
 pub mod MeetLaws
+pub mod FaultLaws

@@ -15,7 +15,7 @@ use Rattle.moves.specs.Flags.{HoldsPresent, HoldsMoves}
 use Rattle.moves.proofs.MoveLaws.{moved-to}
 use Rattle.moves.proofs.HeldLaws.{moved-at, moved-of, moved-low}
 use Rattle.moves.proofs.NextLaws.{Next, next-line, line-next}
-use Rattle.targets.specs.Targets.{Arrives, TargetOnly, MovesMeet}
+use Rattle.targets.specs.Targets.{Arrives, TargetOnly, LinesArrive, RulesArrive, TargetsOnly, MovesMeet}
 use Rattle.targets.proofs.ArriveLaws.{arrives-to}
 
 one-more : (k : ℕ) → k + 1 ≡ suc k
@@ -24,21 +24,13 @@ one-more k = omega arith
 module _ (g : Grammar) (t : Table) {items entries kernels lookaheads kinds values gotos : List ℕ} {rules strings lines : ℕ}
     (H : Held g t items entries kernels lookaheads kinds values gotos rules strings lines)
     {q : ℕ} {present symbols : List ℕ} (P : HoldsPresent g t q present) (M : HoldsMoves g t q symbols) (low : q < 256) where
-  -- of every item that q has
-  abbrev pub LinesArrive : Type 0
-  LinesArrive = (l : ℕ) → l < lines → stateAt kernels l ≡ q → Arrives items kernels kinds values gotos lines q (itemAt kernels l) (dotAt kernels l)
-
-  abbrev pub RulesArrive : Type 0
-  RulesArrive = (i : ℕ) → 1 ≤ i → i < rules + 1 → Present items present i → Arrives items kernels kinds values gotos lines q i 0
-
-  abbrev pub TargetsOnly : Type 0
-  TargetsOnly = (X : ℕ) → 1 ≤ X → X < 128 → TargetOnly items kernels present symbols kinds values gotos rules lines q X
-
-  all-arrive : LinesArrive → RulesArrive → {i k : ℕ} → HasAt items kernels present rules lines q i k → Arrives items kernels kinds values gotos lines q i k
+  all-arrive : LinesArrive items kernels kinds values gotos lines q → RulesArrive items kernels present kinds values gotos rules lines q
+      → {i k : ℕ} → HasAt items kernels present rules lines q i k → Arrives items kernels kinds values gotos lines q i k
   all-arrive a b (by-line l) = arrives-to (l .is-it .item) (l .is-it .dot) (a (l .line) (l .is-it .low) (l .is-it .state))
   all-arrive a b {i = i} (by-rule lo hi p) = b i lo (omega arith) p
 
-  pub meets : LinesArrive → RulesArrive → TargetsOnly → MovesMeet g t q
+  pub meets : LinesArrive items kernels kinds values gotos lines q → RulesArrive items kernels present kinds values gotos rules lines q
+      → TargetsOnly items kernels present symbols kinds values gotos rules lines q → MovesMeet g t q
   meets a b c = record { move-has = λ X s i n x m e mv. has-it (next-line g t H x m e) (moved-at g t H P mv); move-only = λ X s i n x m e mv j w σ k. only-it (next-line g t H x m e) mv k }
     where
       has-it : {X s i n : ℕ} → Next g t H q X s → MovedAt items kernels present rules lines q X i n → (σ : List ℕ) × KernelAt g t s i n σ
@@ -55,7 +47,7 @@ module _ (g : Grammar) (t : Table) {items entries kernels lookaheads kinds value
           (l .is-it .state ∙ sym (N .is-next)) in
           moved-of g t H P (λ z. omega (arith, N .some-symbol, z)) (moved-to items kernels present rules lines (l .is-it .item) (l .is-it .dot) r)
 
-  meets-item : MovesMeet g t q → {i k : ℕ} → HasAt items kernels present rules lines q i k → Arrives items kernels kinds values gotos lines q i k
+  pub meets-item : MovesMeet g t q → {i k : ℕ} → HasAt items kernels present rules lines q i k → Arrives items kernels kinds values gotos lines q i k
   meets-item w {i} {k} h = record { line = λ f n. go f n }
     where
       go : (symbolAfter items i k ≡ 0 → ⊥) → (nextAt kinds values gotos q (symbolAfter items i k) ≡ 0 → ⊥)
@@ -67,13 +59,7 @@ module _ (g : Grammar) (t : Table) {items entries kernels lookaheads kinds value
           let s = w .move-has X (nextAt kinds values gotos q X) i (suc k) (r .0) (r .1) (r .2) mv in
           subst (λ (m : ℕ). LineAt kernels lines (nextAt kinds values gotos q X) i m) (sym (one-more k)) (line-of g t (H .holds-kernels) (H .line-count) (s .1))
 
-  pub meets-lines : MovesMeet g t q → LinesArrive
-  meets-lines w l lo e = meets-item w (by-line (record { line = l; is-it = record { low = lo; state = e; item = refl; dot = refl } }))
-
-  pub meets-rules : MovesMeet g t q → RulesArrive
-  meets-rules w i lo hi p = meets-item w (by-rule lo (omega arith) p)
-
-  pub meets-only : MovesMeet g t q → TargetsOnly
+  pub meets-only : MovesMeet g t q → TargetsOnly items kernels present symbols kinds values gotos rules lines q
   meets-only w X lo hi = record {
     only = λ o n l b e.
         let r = line-next g t H q X low hi n in

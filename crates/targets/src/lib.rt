@@ -1,21 +1,46 @@
 // The moves from a state, against the kernels of the states that they lead to.
-// Inner: for the checker.
+// Inner: for the checker and `explanation`.
+use fixpoint::Found;
 use symbol::SYMBOLS;
 ghost use mathlib.Core.Path.{_≡_};
-ghost use mathlib.Core.List.{List};
+ghost use mathlib.Core.Bool.{Bool};
 ghost use Prim.Native.Nat.{ℕ, _+_, _<_, _≤_};
 ghost use lib.ListN.{length};
-ghost use Rattle.language.specs.Grammar.{Grammar};
-ghost use Rattle.leftcorner.specs.Table.{Table};
 ghost use Rattle.fixpoint.specs.Flags.{Decides};
+ghost use Rattle.fixpoint.specs.Misses.{Misses};
 ghost use Rattle.memory.specs.Memory.{stateAt, itemAt, dotAt};
-ghost use Rattle.memory.specs.Held.{Held};
-ghost use Rattle.moves.specs.Moves.{Present, Lined, Readable, Cells};
-ghost use Rattle.moves.specs.Flags.{HoldsPresent, HoldsMoves};
-ghost use Rattle.targets.specs.Targets.{Arrives, TargetOnly, MovesMeet};
+ghost use Rattle.moves.specs.Moves.{Present, MovedAt, Lined, Readable, Cells};
+ghost use Rattle.targets.specs.Targets.{Arrives, LinesArrive, RulesArrive};
+ghost use Rattle.targets.specs.Faults.{FindsExtra, MoveFaultIs, noFault};
+
+// Why the kernels are not those of the construction, as far as a state tells.
+pub enum ItemFault {
+    // It is neither the state of an entry nor named as next.
+    Unnamed,
+    // It is the state of this entry, and does not have its item alone.
+    Entry(usize),
+    // Its item and dot, which have no line in the next state.
+    Lost(usize, usize),
+    // A symbol, and a line of the next state for it, to which nothing moves.
+    Extra(usize, usize),
+    Nothing,
+}
+
+// Whether no fault was found.
+pub fn is_nothing(fault: ItemFault) -> bool
+    ensures { λ b. ⌜ b ≡ noFault fault ⌝ }
+{
+    match fault {
+        ItemFault::Unnamed => false,
+        ItemFault::Entry(_) => false,
+        ItemFault::Lost(_, _) => false,
+        ItemFault::Extra(_, _) => false,
+        ItemFault::Nothing => true,
+    }
+}
 
 // Whether item i, dot k of q has its line in the next state, where q has one for the symbol after the dot.
-pub fn arrives(
+fn arrives(
     items: &[u8],
     kernels: &[u8],
     links: &[usize],
@@ -48,7 +73,7 @@ pub fn arrives(
 }
 
 // Whether the item of line l arrives from q.
-pub fn line_arrives(
+fn line_arrives(
     items: &[u8],
     kernels: &[u8],
     links: &[usize],
@@ -85,8 +110,8 @@ pub fn line_arrives(
     true
 }
 
-// Whether the kernel items of q arrive.
-fn lines_arrive(
+// The last kernel line of q whose item does not arrive.
+fn find_lost_line(
     items: &[u8],
     kernels: &[u8],
     links: &[usize],
@@ -96,11 +121,11 @@ fn lines_arrive(
     count: usize,
     lines: usize,
     q: usize,
-) -> bool
+) -> Found
     requires { ⌜ Lined (now items) (now kernels) (now links) count lines ⌝ }
     requires { ⌜ Cells (now kinds) (now values) (now gotos) ⌝ }
     requires { ⌜ q < 256 ⌝ }
-    ensures { λ b. ⌜ Decides ((l : ℕ) → l < lines → stateAt (now (kernels .entry)) l ≡ q → Arrives (now (items .entry)) (now (kernels .entry)) (now (kinds .entry)) (now (values .entry)) (now (gotos .entry)) lines q (itemAt (now (kernels .entry)) l) (dotAt (now (kernels .entry)) l)) b ⌝ }
+    ensures { λ r. ⌜ Misses (λ l. stateAt (now (kernels .entry)) l ≡ q) (λ l. Arrives (now (items .entry)) (now (kernels .entry)) (now (kinds .entry)) (now (values .entry)) (now (gotos .entry)) lines q (itemAt (now (kernels .entry)) l) (dotAt (now (kernels .entry)) l)) 0 lines r ⌝ }
 {
     let mut p = kernel_lines::last_line(kernels, links, lines, q);
     while 0 < p {
@@ -117,56 +142,15 @@ fn lines_arrive(
             q,
             l,
         ) {
-            return false;
+            return Found::At(l);
         }
         p = kernel_lines::line_before(kernels, links, lines, l);
     }
-    true
+    Found::Nothing
 }
 
-// Whether rule i arrives from q, if q's closure adds it.
-fn rule_arrives(
-    items: &[u8],
-    kernels: &[u8],
-    links: &[usize],
-    present: &[u8],
-    kinds: &[u8],
-    values: &[u8],
-    gotos: &[u8],
-    count: usize,
-    lines: usize,
-    q: usize,
-    i: usize,
-) -> bool
-    requires { ⌜ Lined (now items) (now kernels) (now links) count lines ⌝ }
-    requires { ⌜ length (now present) ≡ 64 ⌝ }
-    requires { ⌜ Cells (now kinds) (now values) (now gotos) ⌝ }
-    requires { ⌜ (q < 256) × (i ≤ count) ⌝ }
-    ensures { λ b. ⌜ Decides (Present (now (items .entry)) (now (present .entry)) i → Arrives (now (items .entry)) (now (kernels .entry)) (now (kinds .entry)) (now (values .entry)) (now (gotos .entry)) lines q i 0) b ⌝ }
-{
-    if !moves::is_present(items, present, count, i) {
-        return true;
-    }
-    if !arrives(
-        items,
-        kernels,
-        links,
-        kinds,
-        values,
-        gotos,
-        count,
-        lines,
-        q,
-        i,
-        0,
-    ) {
-        return false;
-    }
-    true
-}
-
-// Whether the rules that q's closure adds arrive.
-fn rules_arrive(
+// The first rule that q's closure adds and that does not arrive.
+fn find_lost_rule(
     items: &[u8],
     kernels: &[u8],
     links: &[usize],
@@ -178,19 +162,22 @@ fn rules_arrive(
     rules: usize,
     lines: usize,
     q: usize,
-) -> bool
+) -> Found
     requires { ⌜ Readable (now items) (now kernels) (now links) (now present) count rules lines ⌝ }
     requires { ⌜ Cells (now kinds) (now values) (now gotos) ⌝ }
     requires { ⌜ q < 256 ⌝ }
-    ensures { λ b. ⌜ Decides ((i : ℕ) → 1 ≤ i → i < rules + 1 → Present (now (items .entry)) (now (present .entry)) i → Arrives (now (items .entry)) (now (kernels .entry)) (now (kinds .entry)) (now (values .entry)) (now (gotos .entry)) lines q i 0) b ⌝ }
+    ensures { λ r. ⌜ Misses (Present (now (items .entry)) (now (present .entry))) (λ i. Arrives (now (items .entry)) (now (kernels .entry)) (now (kinds .entry)) (now (values .entry)) (now (gotos .entry)) lines q i 0) 1 (rules + 1) r ⌝ }
 {
     let mut i = 1;
     while i <= rules {
-        if !rule_arrives(
+        if !moves::is_present(items, present, count, i) {
+            i += 1;
+            continue;
+        }
+        if !arrives(
             items,
             kernels,
             links,
-            present,
             kinds,
             values,
             gotos,
@@ -198,16 +185,45 @@ fn rules_arrive(
             lines,
             q,
             i,
+            0,
         ) {
-            return false;
+            return Found::At(i);
         }
         i += 1;
     }
-    true
+    Found::Nothing
 }
 
-// Whether q's next state for x has only what moved, if something moves.
-fn target_only(
+// The last line of s that did not come by a move from q on x.
+fn find_stray(
+    items: &[u8],
+    kernels: &[u8],
+    links: &[usize],
+    present: &[u8],
+    count: usize,
+    rules: usize,
+    lines: usize,
+    q: usize,
+    x: usize,
+    s: usize,
+) -> Found
+    requires { ⌜ Readable (now items) (now kernels) (now links) (now present) count rules lines ⌝ }
+    requires { ⌜ (q < 256) × (s < 256) ⌝ }
+    ensures { λ r. ⌜ Misses (λ l. stateAt (now (kernels .entry)) l ≡ s) (λ l. MovedAt (now (items .entry)) (now (kernels .entry)) (now (present .entry)) rules lines q x (itemAt (now (kernels .entry)) l) (dotAt (now (kernels .entry)) l)) 0 lines r ⌝ }
+{
+    let mut p = kernel_lines::last_line(kernels, links, lines, s);
+    while 0 < p {
+        let l = p - 1;
+        if !moves::line_came(items, kernels, links, present, count, rules, lines, q, x, l) {
+            return Found::At(l);
+        }
+        p = kernel_lines::line_before(kernels, links, lines, l);
+    }
+    Found::Nothing
+}
+
+// A line of q's next state for x to which nothing moves, where something moves on x.
+fn find_extra_at(
     items: &[u8],
     kernels: &[u8],
     links: &[usize],
@@ -221,28 +237,24 @@ fn target_only(
     lines: usize,
     q: usize,
     x: usize,
-) -> bool
+) -> Found
     requires { ⌜ Readable (now items) (now kernels) (now links) (now present) count rules lines ⌝ }
-    requires { ⌜ length (now symbols) ≡ 128 ⌝ }
     requires { ⌜ Cells (now kinds) (now values) (now gotos) ⌝ }
-    requires { ⌜ (q < 256) × (x < 128) ⌝ }
-    ensures { λ b. ⌜ Decides (TargetOnly (now (items .entry)) (now (kernels .entry)) (now (present .entry)) (now (symbols .entry)) (now (kinds .entry)) (now (values .entry)) (now (gotos .entry)) rules lines q x) b ⌝ }
+    requires { ⌜ (length (now symbols) ≡ 128) × (q < 256) × (x < 128) ⌝ }
+    ensures { λ r. ⌜ FindsExtra (now (items .entry)) (now (kernels .entry)) (now (present .entry)) (now (symbols .entry)) (now (kinds .entry)) (now (values .entry)) (now (gotos .entry)) rules lines q x r ⌝ }
 {
     if symbols[x] == 0 {
-        return true;
+        return Found::Nothing;
     }
     let s = moves::next_of(kinds, values, gotos, q, x);
     if s == 0 {
-        return true;
+        return Found::Nothing;
     }
-    if !moves::only_moved(items, kernels, links, present, count, rules, lines, q, x, s) {
-        return false;
-    }
-    true
+    find_stray(items, kernels, links, present, count, rules, lines, q, x, s)
 }
 
-// Whether q's next states have only what moved.
-fn targets_only(
+// The first symbol with such a line, where all of q's items arrive.
+fn find_extra(
     items: &[u8],
     kernels: &[u8],
     links: &[usize],
@@ -255,16 +267,15 @@ fn targets_only(
     rules: usize,
     lines: usize,
     q: usize,
-) -> bool
+) -> ItemFault
     requires { ⌜ Readable (now items) (now kernels) (now links) (now present) count rules lines ⌝ }
-    requires { ⌜ length (now symbols) ≡ 128 ⌝ }
     requires { ⌜ Cells (now kinds) (now values) (now gotos) ⌝ }
-    requires { ⌜ q < 256 ⌝ }
-    ensures { λ b. ⌜ Decides ((x : ℕ) → 1 ≤ x → x < 128 → TargetOnly (now (items .entry)) (now (kernels .entry)) (now (present .entry)) (now (symbols .entry)) (now (kinds .entry)) (now (values .entry)) (now (gotos .entry)) rules lines q x) b ⌝ }
+    requires { ⌜ (length (now symbols) ≡ 128) × (q < 256) ⌝ }
+    ensures { λ r. ⌜ (LinesArrive (now (items .entry)) (now (kernels .entry)) (now (kinds .entry)) (now (values .entry)) (now (gotos .entry)) lines q → RulesArrive (now (items .entry)) (now (kernels .entry)) (now (present .entry)) (now (kinds .entry)) (now (values .entry)) (now (gotos .entry)) rules lines q → MoveFaultIs (now (items .entry)) (now (kernels .entry)) (now (present .entry)) (now (symbols .entry)) (now (kinds .entry)) (now (values .entry)) (now (gotos .entry)) count rules lines q r) ⌝ }
 {
     let mut x = 1;
     while x < SYMBOLS {
-        if !target_only(
+        let found = find_extra_at(
             items,
             kernels,
             links,
@@ -278,16 +289,17 @@ fn targets_only(
             lines,
             q,
             x,
-        ) {
-            return false;
+        );
+        if let Found::At(l) = found {
+            return ItemFault::Extra(x, l);
         }
         x += 1;
     }
-    true
+    ItemFault::Nothing
 }
 
-// Whether the next states of q have exactly what moves there.
-pub fn moves_meet(
+// What is wrong with the next states of q.
+pub fn find_move_fault(
     items: &[u8],
     kernels: &[u8],
     links: &[usize],
@@ -300,17 +312,18 @@ pub fn moves_meet(
     rules: usize,
     lines: usize,
     q: usize,
-) -> bool
+) -> ItemFault
     requires { ⌜ Readable (now items) (now kernels) (now links) (now present) count rules lines ⌝ }
-    requires { ⌜ length (now symbols) ≡ 128 ⌝ }
     requires { ⌜ Cells (now kinds) (now values) (now gotos) ⌝ }
-    requires { ⌜ q < 256 ⌝ }
-    ensures { λ b. ⌜ ((g : Grammar) (t : Table) (entries lookaheads : List ℕ) (strings : ℕ) → Held g t (now (items .entry)) entries (now (kernels .entry)) lookaheads (now (kinds .entry)) (now (values .entry)) (now (gotos .entry)) rules strings lines → HoldsPresent g t q (now (present .entry)) → HoldsMoves g t q (now (symbols .entry)) → Decides (MovesMeet g t q) b) ⌝ }
+    requires { ⌜ (length (now symbols) ≡ 128) × (q < 256) ⌝ }
+    ensures { λ r. ⌜ MoveFaultIs (now (items .entry)) (now (kernels .entry)) (now (present .entry)) (now (symbols .entry)) (now (kinds .entry)) (now (values .entry)) (now (gotos .entry)) count rules lines q r ⌝ }
 {
-    if !lines_arrive(items, kernels, links, kinds, values, gotos, count, lines, q) {
-        return false;
+    let line = find_lost_line(items, kernels, links, kinds, values, gotos, count, lines, q);
+    if let Found::At(l) = line {
+        let i = kernel_lines::item_of(kernels, lines, count, l);
+        return ItemFault::Lost(i, kernel_lines::dot_of(kernels, lines, count, l));
     }
-    if !rules_arrive(
+    let rule = find_lost_rule(
         items,
         kernels,
         links,
@@ -322,10 +335,11 @@ pub fn moves_meet(
         rules,
         lines,
         q,
-    ) {
-        return false;
+    );
+    if let Found::At(i) = rule {
+        return ItemFault::Lost(i, 0);
     }
-    if !targets_only(
+    find_extra(
         items,
         kernels,
         links,
@@ -338,8 +352,5 @@ pub fn moves_meet(
         rules,
         lines,
         q,
-    ) {
-        return false;
-    }
-    true
+    )
 }

@@ -40,7 +40,9 @@ same-length : tie.Need-same-length Inv-loop μ-loop
 same-length c = c .before .before .before .ask .ensures .asking .long ∙ c .before .before .before .before .before .before .before .before .loop .inv .1 .long
 
 returns : tie.Need-returns Inv-loop μ-loop
-returns c = asks-fail (c .before .before .before .before .before .before .before .before .loop .inv .1) (wants-code (c .before .before .before .before .before .before .before .before .loop .inv .0) (omega arith) (set-on (c .before .before .before .before .before .if1 .left))) (c .before .before .before .ask .ensures) (not-true _ (c .if2 .taken))
+returns c =
+    let at-loop = c .before .before .before .before .before .before .before .before in
+    asks-fail (at-loop .loop .inv .1) (wants-code (at-loop .loop .inv .0) (omega arith) (set-on (c .before .before .before .before .before .if1 .left))) (c .before .before .before .ask .ensures) (not-true _ (c .if2 .taken))
 
 add-c-2 : tie.Need-add-c-2 Inv-loop μ-loop
 add-c-2 c = search needs
@@ -49,7 +51,9 @@ loop-less-2 : tie.Need-loop-less-2 Inv-loop μ-loop
 loop-less-2 c = search needs
 
 loop-again-2 : tie.Need-loop-again-2 Inv-loop μ-loop
-loop-again-2 c = (omega arith, asking-then (c .before .before .before .before .before .before .before .before .loop .inv .1) (wants-code (c .before .before .before .before .before .before .before .before .loop .inv .0) (omega arith) (set-on (c .before .before .before .before .before .if1 .left))) (c .before .before .before .ask .ensures .asking), codes-more _ (c .before .before .before .ask .ensures) (not-false _ (c .if2 .left)) (c .before .before .before .before .before .before .before .before .loop .inv .2))
+loop-again-2 c =
+    let at-loop = c .before .before .before .before .before .before .before .before in
+    (omega arith, asking-then (at-loop .loop .inv .1) (wants-code (at-loop .loop .inv .0) (omega arith) (set-on (c .before .before .before .before .before .if1 .left))) (c .before .before .before .ask .ensures .asking), codes-more _ (c .before .before .before .ask .ensures) (not-false _ (c .if2 .left)) (at-loop .loop .inv .2))
 
 same-length-2 : tie.Need-same-length-2 Inv-loop μ-loop
 same-length-2 c = c .before .loop .inv .1 .long

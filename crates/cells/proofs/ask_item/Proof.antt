@@ -28,13 +28,23 @@ same-length : tie.Need-same-length
 same-length c = c .before .before .before .ask-codes .ensures .asking .long
 
 returns : tie.Need-returns
-returns c = asks-is (not-true _ (c .if2 .taken)) (announce-asks (sym (c .before .before .before .before .before .before .before .before .before .before .mark-of .ensures .0) ∙ c .before .before .before .before .before .before .before .before .before .if1 .taken) refl (c .before .before .before .before .before .before .before .item-first .ensures) (c .before .before .before .ask-codes .ensures))
+returns c =
+    let asking = c .before .before .before in
+    let firsts = asking .before .before .before .before in
+    let tested = firsts .before .before in
+    asks-is (not-true _ (c .if2 .taken))
+    (announce-asks (sym (tested .before .mark-of .ensures .0) ∙ tested .if1 .taken) refl (firsts .item-first .ensures) (asking .ask-codes .ensures))
 
 same-length-2 : tie.Need-same-length-2
 same-length-2 c = c .before .before .before .ask-codes .ensures .asking .long
 
 returns-2 : tie.Need-returns-2
-returns-2 c = asks-is (not-false _ (c .if2 .left)) (announce-asks (sym (c .before .before .before .before .before .before .before .before .before .before .mark-of .ensures .0) ∙ c .before .before .before .before .before .before .before .before .before .if1 .taken) refl (c .before .before .before .before .before .before .before .item-first .ensures) (c .before .before .before .ask-codes .ensures))
+returns-2 c =
+    let asking = c .before .before .before in
+    let firsts = asking .before .before .before .before in
+    let tested = firsts .before .before in
+    asks-is (not-false _ (c .if2 .left))
+    (announce-asks (sym (tested .before .mark-of .ensures .0) ∙ tested .if1 .taken) refl (firsts .item-first .ensures) (asking .ask-codes .ensures))
 
 returns-3 : tie.Need-returns-3
 returns-3 c = rule-asks (λ e. c .before .if1 .left (c .before .before .mark-of .ensures .0 ∙ e)) _ (omega arith)
@@ -55,13 +65,21 @@ same-length-3 : tie.Need-same-length-3
 same-length-3 c = c .before .before .before .ask-codes2 .ensures .asking .long
 
 returns-5 : tie.Need-returns-5
-returns-5 c = asks-is (not-true _ (c .if5 .taken)) (pop-asks (λ e. c .before .before .before .before .before .before .before .before .if1 .left (c .before .before .before .before .before .before .before .before .before .mark-of .ensures .0 ∙ e)) (omega arith) (sym (c .before .before .before .before .before .before .length-of .ensures .0) ∙ c .before .before .before .before .before .if4 .left) (c .before .before .before .ask-codes2 .ensures))
+returns-5 c =
+    let at-length-of = c .before .before .before .before .before .before in
+    let at-if1 = at-length-of .before .before in
+    let at-mark-of = at-if1 .before in
+    asks-is (not-true _ (c .if5 .taken)) (pop-asks (λ e. at-if1 .if1 .left (at-mark-of .mark-of .ensures .0 ∙ e)) (omega arith) (sym (at-length-of .length-of .ensures .0) ∙ c .before .before .before .before .before .if4 .left) (c .before .before .before .ask-codes2 .ensures))
 
 same-length-4 : tie.Need-same-length-4
 same-length-4 c = c .before .before .before .ask-codes2 .ensures .asking .long
 
 returns-6 : tie.Need-returns-6
-returns-6 c = asks-is (not-false _ (c .if5 .left)) (pop-asks (λ e. c .before .before .before .before .before .before .before .before .if1 .left (c .before .before .before .before .before .before .before .before .before .mark-of .ensures .0 ∙ e)) (omega arith) (sym (c .before .before .before .before .before .before .length-of .ensures .0) ∙ c .before .before .before .before .before .if4 .left) (c .before .before .before .ask-codes2 .ensures))
+returns-6 c =
+    let at-length-of = c .before .before .before .before .before .before in
+    let at-if1 = at-length-of .before .before in
+    let at-mark-of = at-if1 .before in
+    asks-is (not-false _ (c .if5 .left)) (pop-asks (λ e. at-if1 .if1 .left (at-mark-of .mark-of .ensures .0 ∙ e)) (omega arith) (sym (at-length-of .length-of .ensures .0) ∙ c .before .before .before .before .before .if4 .left) (c .before .before .before .ask-codes2 .ensures))
 
 pub ask-item-spec : {M : Type 1} → statement M
 ask-item-spec =

@@ -34,25 +34,40 @@ mul-ask-item : tie.Need-mul-ask-item Inv-loop μ-loop
 mul-ask-item c = search needs
 
 ask-item-requires : tie.Need-ask-item-requires Inv-loop μ-loop
-ask-item-requires c κs = let o = c .before .before .before .before .loop .inv in (c .before .before .before .before .before .before .before .before .before .before .before .before .before .pre .1 .0, ((c .before .before .item-of .ensures .1, omega (arith, c .before .before .item-of .ensures .1, c .before .before .before .before .before .before .before .before .before .before .before .before .before .pre .1 .1 .0), c .before .dot-of .ensures .1, omega (arith, o .0 .low, c .before .before .before .before .before .before .before .before .before .before .before .before .before .pre .1 .1 .2)), o .1 .long ∙ c .before .before .before .before .before .before .before .before .before .before .before .before .before .pre .1 .1 .3))
+ask-item-requires c κs =
+    let start = c .before .before .before .before .before .before .before .before .before .before .before .before .before in
+    let o = c .before .before .before .before .loop .inv in (start .pre .1 .0, ((c .before .before .item-of .ensures .1, omega (arith, c .before .before .item-of .ensures .1, start .pre .1 .1 .0), c .before .dot-of .ensures .1, omega (arith, o .0 .low, start .pre .1 .1 .2)), o .1 .long ∙ start .pre .1 .1 .3))
 
 same-length : tie.Need-same-length Inv-loop μ-loop
 same-length c = c .before .before .before .ask-item .ensures .asking .long ∙ c .before .before .before .before .before .before .before .before .loop .inv .1 .long
 
 returns : tie.Need-returns Inv-loop μ-loop
-returns c = let o = c .before .before .before .before .before .before .before .before .loop .inv in asks-fail (o .1) (of-line _ _ (omega (arith, o .0 .low)) (o .0 .here (λ e. omega (arith, e)))) (line-asks (c .before .before .before .before .before .before .before .before .before .before .before .before .before .before .before .before .before .args .kernels .now) (c .before .before .before .before .before .before .before .before .loop .p - 1) (c .before .before .before .before .before .before .item-of .ensures .0) (c .before .before .before .before .before .dot-of .ensures .0) (c .before .before .before .ask-item .ensures)) (not-true _ (c .if1 .taken))
+returns c =
+    let at-item-of = c .before .before .before .before .before .before in
+    let at-loop = at-item-of .before .before in
+    let at-args = at-loop .before .before .before .before .before .before .before .before .before in
+    let o = at-loop .loop .inv in asks-fail (o .1) (of-line _ _ (omega (arith, o .0 .low)) (o .0 .here (λ e. omega (arith, e)))) (line-asks (at-args .args .kernels .now) (at-loop .loop .p - 1) (at-item-of .item-of .ensures .0) (c .before .before .before .before .before .dot-of .ensures .0) (c .before .before .before .ask-item .ensures)) (not-true _ (c .if1 .taken))
 
 line-before-requires : tie.Need-line-before-requires Inv-loop μ-loop
-line-before-requires c κs = (c .before .before .before .before .before .before .before .before .before .before .before .before .before .before .before .before .before .pre .0 .linked, (omega (arith, c .before .before .before .before .before .before .before .before .loop .inv .0 .low), c .before .before .before .before .before .before .before .before .before .before .before .before .before .before .before .before .before .pre .0 .some-lines .few))
+line-before-requires c κs =
+    let at-loop = c .before .before .before .before .before .before .before .before in
+    let start = at-loop .before .before .before .before .before .before .before .before .before in
+    (start .pre .0 .linked, (omega (arith, at-loop .loop .inv .0 .low), start .pre .0 .some-lines .few))
 
 loop-less : tie.Need-loop-less Inv-loop μ-loop
 loop-less c = search needs
 
 loop-again : tie.Need-loop-again Inv-loop μ-loop
-loop-again c = let o = c .before .before .before .before .before .before .before .before .before .loop .inv in let a = line-asks (c .before .before .before .before .before .before .before .before .before .before .before .before .before .before .before .before .before .before .args .kernels .now) (c .before .before .before .before .before .before .before .before .before .loop .p - 1) (c .before .before .before .before .before .before .before .item-of .ensures .0) (c .before .before .before .before .before .before .dot-of .ensures .0) (c .before .before .before .before .ask-item .ensures) in (
-  passed-more (passed-map (λ m h d v w. a .asking .kept d v (h d v w)) (o .0)) (λ e. omega (arith, e)) (a .met (not-false _ (c .before .if1 .left))) (c .line-before .ensures .0),
-  asking-then (o .1) (of-line _ _ (omega (arith, o .0 .low)) (o .0 .here (λ e. omega (arith, e)))) (a .asking),
-)
+loop-again c =
+    let at-dot-of = c .before .before .before .before .before .before in
+    let at-item-of = at-dot-of .before in
+    let at-loop = at-item-of .before .before in
+    let at-args = at-loop .before .before .before .before .before .before .before .before .before in
+    let o = at-loop .loop .inv in
+    let a = line-asks (at-args .args .kernels .now) (at-loop .loop .p - 1) (at-item-of .item-of .ensures .0) (at-dot-of .dot-of .ensures .0) (c .before .before .before .before .ask-item .ensures) in (
+      passed-more (passed-map (λ m h d v w. a .asking .kept d v (h d v w)) (o .0)) (λ e. omega (arith, e)) (a .met (not-false _ (c .before .if1 .left))) (c .line-before .ensures .0),
+      asking-then (o .1) (of-line _ _ (omega (arith, o .0 .low)) (o .0 .here (λ e. omega (arith, e)))) (a .asking),
+    )
 
 same-length-2 : tie.Need-same-length-2 Inv-loop μ-loop
 same-length-2 c = c .before .loop .inv .1 .long

@@ -15,7 +15,9 @@ mul-ask-item : tie.Need-mul-ask-item
 mul-ask-item c = omega (arith, c .left-of .ensures .1)
 
 ask-item-requires : tie.Need-ask-item-requires
-ask-item-requires c κs = (c .before .before .before .before .before .before .before .pre .0, ((c .before .before .before .before .before .before .before .pre .1 .0 .0, c .before .before .before .before .before .before .before .pre .1 .0 .1, omega arith, omega (arith, c .before .left-of .ensures .1, c .before .before .before .before .before .before .before .pre .1 .1 .0)), c .before .before .before .before .before .before .before .pre .1 .1 .1))
+ask-item-requires c κs =
+    let start = c .before .before .before .before .before .before .before in
+    (start .pre .0, ((start .pre .1 .0 .0, start .pre .1 .0 .1, omega arith, omega (arith, c .before .left-of .ensures .1, start .pre .1 .1 .0)), start .pre .1 .1 .1))
 
 same-length : tie.Need-same-length
 same-length c = c .before .before .before .ask-item .ensures .asking .long

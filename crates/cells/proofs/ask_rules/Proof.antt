@@ -29,16 +29,23 @@ loop-less : tie.Need-loop-less Inv-loop μ-loop
 loop-less c = search needs
 
 loop-again : tie.Need-loop-again Inv-loop μ-loop
-loop-again c = (omega arith, c .before .before .before .loop .inv .1, from-more _ 1 (c .before .before .before .loop .i) (c .before .before .before .loop .inv .2) (λ p. absurd (c .before .is-present .ensures .no (not-true _ (c .if1 .taken)) p)))
+loop-again c =
+    let at-loop = c .before .before .before in
+    (omega arith, at-loop .loop .inv .1, from-more _ 1 (at-loop .loop .i) (at-loop .loop .inv .2) (λ p. absurd (c .before .is-present .ensures .no (not-true _ (c .if1 .taken)) p)))
 
 ask-rule-requires : tie.Need-ask-rule-requires Inv-loop μ-loop
-ask-rule-requires c κs = (c .before .before .before .before .before .before .before .before .before .before .before .pre .0, ((omega (arith, c .before .before .before .before .before .before .before .before .before .before .before .pre .1 .0 .0), omega (arith, c .before .before .before .before .before .before .before .before .before .before .before .pre .1 .0 .0, c .before .before .before .before .before .before .before .before .before .before .before .pre .1 .0 .1), c .before .before .is-present .ensures .yes (not-false _ (c .before .if1 .left)) .nonterminal), (c .before .before .before .before .before .before .before .before .before .before .before .pre .1 .1 .1, c .before .before .before .before .loop .inv .1 .long ∙ c .before .before .before .before .before .before .before .before .before .before .before .pre .1 .1 .2)))
+ask-rule-requires c κs =
+    let start = c .before .before .before .before .before .before .before .before .before .before .before in
+    (start .pre .0, ((omega (arith, start .pre .1 .0 .0), omega (arith, start .pre .1 .0 .0, start .pre .1 .0 .1), c .before .before .is-present .ensures .yes (not-false _ (c .before .if1 .left)) .nonterminal), (start .pre .1 .1 .1, c .before .before .before .before .loop .inv .1 .long ∙ start .pre .1 .1 .2)))
 
 same-length : tie.Need-same-length Inv-loop μ-loop
 same-length c = c .before .before .before .ask-rule .ensures .asking .long ∙ c .before .before .before .before .before .before .before .before .loop .inv .1 .long
 
 returns : tie.Need-returns Inv-loop μ-loop
-returns c = asks-fail (c .before .before .before .before .before .before .before .before .loop .inv .1) (λ d v w. record { rule = c .before .before .before .before .before .before .before .before .loop .i; above = c .before .before .before .before .before .before .before .before .loop .inv .0; below = omega arith; present-rule = c .before .before .before .before .before .before .is-present .ensures .yes (not-false _ (c .before .before .before .before .before .if1 .left)); asks = w }) (c .before .before .before .ask-rule .ensures) (not-true _ (c .if2 .taken))
+returns c =
+    let at-is-present = c .before .before .before .before .before .before in
+    let at-loop = at-is-present .before .before in
+    asks-fail (at-loop .loop .inv .1) (λ d v w. record { rule = at-loop .loop .i; above = at-loop .loop .inv .0; below = omega arith; present-rule = at-is-present .is-present .ensures .yes (not-false _ (c .before .before .before .before .before .if1 .left)); asks = w }) (c .before .before .before .ask-rule .ensures) (not-true _ (c .if2 .taken))
 
 add-i-2 : tie.Need-add-i-2 Inv-loop μ-loop
 add-i-2 c = search needs
@@ -47,11 +54,14 @@ loop-less-2 : tie.Need-loop-less-2 Inv-loop μ-loop
 loop-less-2 c = search needs
 
 loop-again-2 : tie.Need-loop-again-2 Inv-loop μ-loop
-loop-again-2 c = let a = c .before .before .before .ask-rule .ensures in (
-  omega arith,
-  asking-then (c .before .before .before .before .before .before .before .before .loop .inv .1) (λ d v w. record { rule = c .before .before .before .before .before .before .before .before .loop .i; above = c .before .before .before .before .before .before .before .before .loop .inv .0; below = omega arith; present-rule = c .before .before .before .before .before .before .is-present .ensures .yes (not-false _ (c .before .before .before .before .before .if1 .left)); asks = w }) (a .asking),
-  from-more _ 1 (c .before .before .before .before .before .before .before .before .loop .i) (λ j u l p d v w. a .asking .kept d v (c .before .before .before .before .before .before .before .before .loop .inv .2 j u l p d v w)) (λ p. a .met (not-false _ (c .if2 .left))),
-)
+loop-again-2 c =
+    let at-is-present = c .before .before .before .before .before .before in
+    let at-loop = at-is-present .before .before in
+    let a = c .before .before .before .ask-rule .ensures in (
+      omega arith,
+      asking-then (at-loop .loop .inv .1) (λ d v w. record { rule = at-loop .loop .i; above = at-loop .loop .inv .0; below = omega arith; present-rule = at-is-present .is-present .ensures .yes (not-false _ (c .before .before .before .before .before .if1 .left)); asks = w }) (a .asking),
+      from-more _ 1 (at-loop .loop .i) (λ j u l p d v w. a .asking .kept d v (at-loop .loop .inv .2 j u l p d v w)) (λ p. a .met (not-false _ (c .if2 .left))),
+    )
 
 same-length-2 : tie.Need-same-length-2 Inv-loop μ-loop
 same-length-2 c = c .before .loop .inv .1 .long

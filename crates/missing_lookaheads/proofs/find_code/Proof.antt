@@ -4,7 +4,7 @@ use native.Mathlib.Omega.{arith}
 use borrow.Author.Needs.{needs}
 use Rattle.fixpoint.specs.Flags.{On}
 use Rattle.fixpoint.proofs.PassLaws.{no-gap, from-more}
-use Rattle.details.proofs.MissLaws.{misses-at, misses-none}
+use Rattle.fixpoint.proofs.MissLaws.{misses-at, misses-none}
 use Rattle.missing_lookaheads.proofs.find_code.Statement.{statement}
 use Rattle.missing_lookaheads.proofs.find_code.Tie as tie
 

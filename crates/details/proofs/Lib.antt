@@ -1,2 +1,0 @@
-pub mod MissLaws
-pub mod ItemLaws
