@@ -2,3 +2,5 @@ pub mod AgreeLaws
 pub mod StrayLaws
 pub mod TableLaws
 pub mod BookLaws
+pub mod Demand3
+pub mod SessionLaws

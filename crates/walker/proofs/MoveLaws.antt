@@ -7,7 +7,7 @@ use native.Mathlib.Omega.{arith}
 use lib.ListN.{length, getD, set, drop, take, length-set, length-drop}
 use lib.Seq.{length-take-le, take-suc-set, drop-drop, getD-set-same}
 use Rattle.language.specs.Grammar.{Grammar, ruleAt}
-use Rattle.leftcorner.specs.Bounded.{fits-yes}
+use Rattle.leftcorner.proofs.Bounded.{fits-yes}
 use Rattle.leftcorner.specs.Machine.{Automaton, Event, Outcome, on, rulesOf, toCome, taken, shiftTo, popTo, tell, Verdict}
 use Rattle.walker.specs.declared.Position.{Position}
 use Rattle.walker.specs.declared.Turn.{Turn}

@@ -10,7 +10,7 @@ use lib.ListN.{length, take}
 use lib.Seq.{length-take-le}
 use Rattle.language.specs.Grammar.{Grammar, Rule, ruleAt}
 use Rattle.language.specs.Listing.{unitsIn, isUnit, unitOf}
-use Rattle.leftcorner.specs.Bounded.{fits-no}
+use Rattle.leftcorner.proofs.Bounded.{fits-no}
 use Rattle.leftcorner.specs.Machine.{Automaton, Event, Outcome, on, whole, wrong, rulesOf, taken, shiftTo, popTo, wrong-at, short-at, whole-at}
 use Rattle.reply.specs.declared.Kind.the-variants.{BufferTooSmall, SyntaxError}
 use Rattle.leftcorner.specs.Machine as machine
