@@ -8,7 +8,8 @@ use Rattle.language.specs.Grammar.{Grammar}
 use Rattle.language.specs.Nullable.{Nullable, AllIn, Starts}
 use Rattle.leftcorner.specs.Claim.{_↔_}
 use Rattle.fixpoint.specs.Rows.{to-row, from-row}
-use Rattle.analysis.specs.ByRules.{BeginsByRules, FirstByRules, begins-terminal}
+use Rattle.analysis.specs.ByRules.{BeginsByRules, FirstByRules}
+use Rattle.analysis.proofs.RuleSets.{begins-terminal}
 use Rattle.analysis.specs.InMemory.{SetsOf}
 use Rattle.analysis.specs.FirstBy.{FirstBy, follows, begins, skips}
 

@@ -1,4 +1,6 @@
 pub mod RowLaws
 pub mod TransferLaws
+pub mod RuleSets
 pub mod AddLaws
 pub mod FirstLaws
+pub mod Decided

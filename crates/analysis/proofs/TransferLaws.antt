@@ -7,7 +7,7 @@ use native.Mathlib.Nat.{not-suc-le-zero}
 use native.Mathlib.Omega.{arith}
 use lib.ListN.{length, getD, replicate}
 use Rattle.language.specs.Grammar.{Grammar, Rule, ruleAt}
-use Rattle.language.specs.GrammarLaws.{rule-range, range-rule}
+use Rattle.language.proofs.GrammarLaws.{rule-range, range-rule}
 use Rattle.language.specs.Nullable.{Nullable}
 use Rattle.items.specs.Layout.{leftAt, lengthAt, symbolAt, Holds, Shaped}
 use Rattle.fixpoint.specs.Flags.{On, Marks}
@@ -18,7 +18,8 @@ use Rattle.reduction.specs.Derives.{leftOf}
 use Rattle.reduction.specs.Reaches.{Occurrence, ruleOf, symbolOf}
 use Rattle.reduction.specs.InMemory.{IsRule, productionsIn}
 use Rattle.reduction.proofs.TransferLaws.{productions-to, productions-from, marks-map}
-use Rattle.analysis.specs.ByRules.{rightOf, starting, Itself, BeginsByRules, rules-nullable, nullable-rules}
+use Rattle.analysis.specs.ByRules.{rightOf, starting, Itself, BeginsByRules}
+use Rattle.analysis.proofs.RuleSets.{rules-nullable, nullable-rules}
 use Rattle.analysis.specs.InMemory.{startingIn, Has, FirstFrom, Diagonal, SetsOf}
 
 -- row i of memory is that of rule q

@@ -1,5 +1,4 @@
 pub mod ByRules
-pub mod Decided
 pub mod InMemory
 pub mod FirstBy
 pub mod Rests

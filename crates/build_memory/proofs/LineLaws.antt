@@ -6,22 +6,24 @@ use mathlib.Core.List.{List}
 use mathlib.Core.Option.{some}
 use Rattle.language.specs.Grammar.{Grammar, at}
 use Rattle.language.specs.Sentence.{In}
-use Rattle.language.specs.GrammarLaws.{at-range}
+use Rattle.language.proofs.GrammarLaws.{at-range}
 use Rattle.leftcorner.specs.Claim.{_↔_}
 use Rattle.leftcorner.specs.Table.{K}
 use Rattle.analysis.specs.ByRules.{FirstByRules}
-use Rattle.analysis.specs.Decided.{first?}
+use Rattle.analysis.proofs.Decided.{first?}
 use Rattle.analysis.specs.InMemory.{SetsOf}
 use Rattle.memory.specs.Memory.{HoldsKernels, stateAt, itemAt, dotAt}
 use Rattle.analysis.specs.FirstBy.{FirstBy}
-use Rattle.lalr.specs.Strings.{entryStrings, entryLines}
-use Rattle.lalr.specs.Lookaheads.{Lookahead, look-over}
-use Rattle.lalr.specs.Distinct.{at-in}
-use Rattle.lalr.specs.LineLaws.{same-entries, code-only, code-every, line-of}
-use Rattle.lalr.specs.Carried.{look-low}
-use Rattle.lalr.specs.ItemForm.{items-lines}
-use Rattle.lalr.specs.Builder.{terminalCodes, first-in, codes-low}
-use Rattle.state_kernels.specs.ItemLines.{item-line}
+use Rattle.lalr_states.specs.Strings.{entryStrings, entryLines}
+use Rattle.lalr_states.specs.Lookaheads.{Lookahead}
+use Rattle.lalr_states.proofs.CodeLaws.{look-over}
+use Rattle.lalr_states.proofs.Distinct.{at-in}
+use Rattle.lalr.proofs.LineLaws.{same-entries, code-only, code-every, line-of}
+use Rattle.lalr.proofs.Carried.{look-low}
+use Rattle.lalr.proofs.ItemForm.{items-lines}
+use Rattle.lalr_states.specs.Lookaheads.{terminalCodes}
+use Rattle.lalr_states.proofs.CodeLaws.{first-in, codes-low}
+use Rattle.state_kernels.proofs.ItemLines.{item-line}
 use Rattle.analysis.proofs.FirstLaws.{first-flags}
 use Rattle.least_lookaheads.specs.StatesHeld.{HoldsLookaheads}
 use Rattle.table_cells.specs.Cells.{itemsOf, HoldsMoves, HoldsLines, Filled}

@@ -10,13 +10,14 @@ use Rattle.language.specs.Sentence.{In, here}
 use Rattle.leftcorner.specs.Table.{S}
 use Rattle.leftcorner.specs.Construction.{to-move}
 use Rattle.analysis.specs.ByRules.{FirstByRules}
-use Rattle.analysis.specs.Decided.{first?}
-use Rattle.lalr.specs.States.{Kernel, move, states, kernelOf, goto}
-use Rattle.lalr.specs.MoveLaws.{move-only, move-nothing, in-move}
-use Rattle.lalr.specs.StateLaws.{goes-to}
-use Rattle.lalr.specs.LineLaws.{moved-alone, alone-moved}
-use Rattle.lalr.specs.BuiltForm.{asked-place, asked-moved}
-use Rattle.lalr.specs.Builder.{terminalCodes, first-in, codes-low}
+use Rattle.analysis.proofs.Decided.{first?}
+use Rattle.lalr_states.specs.States.{Kernel, move, states, kernelOf, goto}
+use Rattle.lalr_states.proofs.MoveLaws.{move-only, move-nothing, in-move}
+use Rattle.lalr_states.proofs.StateLaws.{goes-to}
+use Rattle.lalr.proofs.LineLaws.{moved-alone, alone-moved}
+use Rattle.lalr.proofs.BuiltForm.{asked-place, asked-moved}
+use Rattle.lalr_states.specs.Lookaheads.{terminalCodes}
+use Rattle.lalr_states.proofs.CodeLaws.{first-in, codes-low}
 use Rattle.kernel_sets.specs.Cells.{shiftKind}
 use Rattle.state_kernels.specs.Discovered.{nextState, next-none, next-some, HoldsNext}
 use Rattle.table_cells.specs.Cells.{AskedOf, HoldsMoves}

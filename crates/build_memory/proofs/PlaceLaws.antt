@@ -5,7 +5,7 @@ use native.Mathlib.Omega.{arith}
 use mathlib.Core.Path.{_≡_}
 use mathlib.Core.List.{List, [], _∷_}
 use lib.ListN.{length, getD}
-use Rattle.lalr.specs.States.{Kernel, total}
+use Rattle.lalr_states.specs.States.{Kernel, total}
 use Rattle.state_kernels.specs.Discovered.{firstLine}
 
 pub record Place (ks : List Kernel) (l : ℕ) : Type 0 where

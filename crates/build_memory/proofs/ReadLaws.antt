@@ -7,7 +7,7 @@ use mathlib.Core.List.{List}
 use borrow.Author.Tests.{le-ltb}
 use lib.ListN.{length}
 use Rattle.language.specs.Grammar.{Grammar}
-use Rattle.leftcorner.specs.ReadOff.{clash}
+use Rattle.leftcorner.proofs.ReadOff.{clash}
 use Rattle.items.specs.Layout.{layout, Shaped}
 use Rattle.reply.specs.declared.Refusal.{Refusal}
 use Rattle.reply.specs.declared.Kind.the-variants as kind
@@ -17,10 +17,10 @@ use Rattle.grammar.specs.declared.GrammarReply.the-variants as reply
 use Rattle.grammar.specs.Book.{Book, accepted, rejected, rejectedAt, grammarOf}
 use Rattle.grammar.specs.Memory.{headingOf, replyOf, within, readOf, memoryOf}
 use Rattle.grammar.proofs.GrammarLaws.{accepted-reduced}
-use Rattle.lalr.specs.Strings.{entryStrings}
-use Rattle.lalr.specs.States.{states}
-use Rattle.lalr.specs.Discovery.{Fits}
-use Rattle.lalr.specs.BookLaws.{Within}
+use Rattle.lalr_states.specs.Strings.{entryStrings}
+use Rattle.lalr_states.specs.States.{states}
+use Rattle.lalr_states.proofs.Discovery.{Fits}
+use Rattle.lalr.proofs.BookLaws.{Within}
 use Rattle.entry_strings.specs.Memory.{Blank, Listed}
 use Rattle.entry_strings.proofs.HoldsLaws.{entries-shaped, entries-held}
 use Rattle.build_memory.specs.Stages.{Entered}

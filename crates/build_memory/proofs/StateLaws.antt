@@ -10,7 +10,7 @@ use lib.ListN.{length, getD, set}
 use lib.Seq.{getD-set-same, getD-set-other}
 use Rattle.language.specs.Grammar.{Grammar}
 use Rattle.language.specs.Sentence.{In}
-use Rattle.language.specs.GrammarLaws.{in-string, in-index}
+use Rattle.language.proofs.GrammarLaws.{in-string, in-index}
 use Rattle.leftcorner.specs.Table.{Table}
 use Rattle.leftcorner.specs.Construction.{EntriesMeet}
 use Rattle.items.specs.Layout.{Holds}
@@ -20,14 +20,14 @@ use Rattle.closure.specs.InMemory.{LineIs}
 use Rattle.moves.specs.Moves.{nextAt}
 use Rattle.moves.proofs.MoveLaws.{next-goto, next-shift}
 use Rattle.entry_list.specs.Uses.{HoldsStrings, HoldsUses}
-use Rattle.lalr.specs.Strings.{entryStrings, entryLines}
-use Rattle.lalr.specs.EntryLaws.{some-entry, entry-line, entries-meet, lines-length}
-use Rattle.lalr.specs.States.{itemOf, dotOf, move, states, kernelOf, goto}
-use Rattle.lalr.specs.Lists.{range-in}
-use Rattle.lalr.specs.Limits.{Limits}
-use Rattle.lalr.specs.MoveLaws.{move-only, moved-symbol}
-use Rattle.lalr.specs.StateLaws.{goes-to}
-use Rattle.lalr.specs.BookLaws.{Within}
+use Rattle.lalr_states.specs.Strings.{entryStrings, entryLines}
+use Rattle.lalr_states.proofs.EntryLaws.{some-entry, entry-line, entries-meet, lines-length}
+use Rattle.lalr_states.specs.States.{itemOf, dotOf, move, states, kernelOf, goto}
+use Rattle.lalr_states.proofs.Lists.{range-in}
+use Rattle.lalr_states.proofs.Limits.{Limits}
+use Rattle.lalr_states.proofs.MoveLaws.{move-only, moved-symbol}
+use Rattle.lalr_states.proofs.StateLaws.{goes-to}
+use Rattle.lalr.proofs.BookLaws.{Within}
 use Rattle.kernel_sets.specs.Cells.{shiftKind}
 use Rattle.state_kernels.specs.Discovered.{firstLine, nextState, next-some, HoldsStates, SafeStates}
 use Rattle.least_lookaheads.specs.StatesHeld.{entryTable, LineOf, StatesHeld}

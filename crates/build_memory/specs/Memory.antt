@@ -9,7 +9,7 @@ use Rattle.reply.specs.declared.Kind.the-variants.{LimitExceeded}
 use Rattle.reply.specs.declared.Refusal.{Refusal}
 use Rattle.grammar.specs.Book.{accepted, rejected, grammarOf}
 use Rattle.table.specs.declared.Counts.{Counts}
-use Rattle.lalr.specs.BookLaws.{Within}
+use Rattle.lalr.proofs.BookLaws.{Within}
 use Rattle.build_memory.specs.declared.Built.{Built}
 use Rattle.build_memory.specs.declared.Built.the-variants as built
 use Rattle.build_memory.specs.Stages.{Stated, Numbered, Settled, Rooms}

@@ -9,7 +9,7 @@ use Rattle.language.specs.WellFormed.{WellFormed}
 use Rattle.leftcorner.specs.Table.{Table}
 use Rattle.items.specs.Layout.{Shaped}
 use Rattle.memory.specs.Memory.{HoldsItems, HoldsKernels}
-use Rattle.lalr.specs.Strings.{entryStrings, entryLines}
+use Rattle.lalr_states.specs.Strings.{entryStrings, entryLines}
 use Rattle.state_kernels.specs.Discovered.{HoldsStates, SafeStates}
 use Rattle.table_cells.specs.Cells.{itemsOf, Filled}
 

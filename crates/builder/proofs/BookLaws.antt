@@ -10,24 +10,27 @@ use Rattle.language.specs.Grammar.{Grammar, at}
 use Rattle.leftcorner.specs.Table.{KernelLine}
 use Rattle.leftcorner.specs.Construction.{WellFormed}
 use Rattle.analysis.specs.ByRules.{FirstByRules}
-use Rattle.analysis.specs.Decided.{first?}
+use Rattle.analysis.proofs.Decided.{first?}
 use Rattle.memory.specs.Memory.{HoldsKernels}
 use Rattle.reply.specs.declared.Kind.the-variants.{LimitExceeded, Conflict, BufferTooSmall}
 use Rattle.reply.specs.declared.Refusal.{Refusal}
 use Rattle.reply.specs.declared.Reply.the-variants.{Accepted, Refused}
 use Rattle.verdict.specs.Verdict.{refused}
-use Rattle.lalr.specs.Strings.{entryStrings, entryLines}
-use Rattle.lalr.specs.EntryLaws.{lines-length}
-use Rattle.lalr.specs.BuiltForm.{built-entries, states-both}
-use Rattle.lalr.specs.ItemForm.{items-lines, kernels-both}
+use Rattle.lalr_states.specs.Strings.{entryStrings, entryLines}
+use Rattle.lalr_states.proofs.EntryLaws.{lines-length}
+use Rattle.lalr.proofs.BuiltForm.{built-entries, states-both}
+use Rattle.lalr.proofs.ItemForm.{items-lines, kernels-both}
 use Rattle.lalr.specs.Text.{tableText}
 use Rattle.lalr.specs.Book.{textReply, textSlice}
-use Rattle.lalr.specs.BookLaws.{Within}
-use Rattle.lalr.specs.Builder.{terminalCodes, first-in, codes-low, builder-form, builderTable, builderReply, builderSlice, replies-many, replies-conflict, replies-text, slice-text, table-text}
+use Rattle.lalr.proofs.BookLaws.{Within}
+use Rattle.lalr_states.specs.Lookaheads.{terminalCodes}
+use Rattle.lalr_states.proofs.CodeLaws.{first-in, codes-low}
+use Rattle.lalr.proofs.BuilderLaws.{builder-form, replies-many, replies-conflict, replies-text, slice-text, table-text}
+use Rattle.lalr.specs.Builder.{builderTable, builderReply, builderSlice}
 use Rattle.table_writer.specs.Sink.{inRoom, fits-room}
 use Rattle.table_writer.specs.MemoryTable.{memoryTable, memoryText, Sized}
-use Rattle.table_writer.specs.InMemory.{memory-table}
-use Rattle.table_writer.specs.BuiltOrder.{built-ordered}
+use Rattle.table_writer.proofs.InMemory.{memory-table}
+use Rattle.table_writer.proofs.BuiltOrder.{built-ordered}
 use Rattle.table_cells.specs.Cells.{itemsOf, tableOf, Filled}
 use Rattle.build_memory.specs.Stages.{Stated, Numbered, Settled, Rooms}
 use Rattle.build_memory.proofs.StateLaws.{few-strings, few-terminals, few-flags, limits-of, within-of, entries-hold}

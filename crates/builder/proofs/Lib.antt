@@ -1,2 +1,3 @@
 pub mod BookLaws
 pub mod AnswerLaws
+pub mod Accepted

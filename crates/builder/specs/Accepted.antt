@@ -1,20 +1,15 @@
 -- A book that the builder writes is accepted: the checker replies 0 to it.
 use Prim.Native.Nat.{ℕ, _-_}
-use mathlib.Core.Path.{_≡_, refl, sym, ap, _∙_}
+use mathlib.Core.Path.{_≡_}
 use mathlib.Core.List.{List, _++_}
 use lib.ListN.{length, replicate}
 use Rattle.language.specs.Grammar.{Grammar}
-use Rattle.leftcorner.specs.ReadOff.{clash}
 use Rattle.reply.specs.declared.Reply.the-variants.{Accepted}
-use Rattle.grammar.specs.Book.{Book, accepted, rejected, grammarOf}
-use Rattle.grammar.proofs.GrammarLaws.{accepted-reduced}
+use Rattle.grammar.specs.Book.{accepted, grammarOf}
 use Rattle.lalr.specs.Text.{tableText}
-use Rattle.lalr.specs.Book.{textSlice}
-use Rattle.lalr.specs.Builder.{builderTable, builderReply, writes-fit, writes-meets, writes-readable, slice-text, table-text}
-use Rattle.read_back.specs.Book.{books-read}
+use Rattle.lalr.specs.Builder.{builderTable}
 use Rattle.checker.specs.Checked.{verdictOf}
-use Rattle.checker.specs.Exactly.{exactly}
-use Rattle.builder.specs.Build.{textLength, buildFrom, buildOf}
+use Rattle.builder.specs.Build.{buildOf}
 
 -- the book is that of the grammar's table, and the checker accepts it
 pub record Written (gs : List ℕ) (room : ℕ) : Type 0 where
@@ -24,25 +19,5 @@ pub record Written (gs : List ℕ) (room : ℕ) : Type 0 where
   pub length-is : buildOf gs room .length ≡ length (tableText (builderTable grammar))
   pub accepted-book : verdictOf gs (tableText (builderTable grammar)) ≡ Accepted 0
 
-pub writes-accepted : (gs : List ℕ) (room : ℕ) → buildOf gs room .reply ≡ Accepted 0 → Written gs room
-unfolding buildOf
-writes-accepted gs room e = go (grammarOf gs) refl e
-  where
-    go : (b : Book) → grammarOf gs ≡ b → buildFrom room b .reply ≡ Accepted 0 → Written gs room
-    go (rejected x) f h = clash cc
-    go (accepted g) f h =
-        let D = accepted-reduced gs g f in
-        let R = writes-readable g (D .formed) (D .productive) (D .reachable) room h in
-        let t = books-read gs g (builderTable g) f (D .formed) R (writes-fit g room h) in
-        record {
-          grammar = g;
-          book-is = f;
-          slice-is = ap (λ (b : Book). buildFrom room b .slice) f ∙ slice-text g room
-              ∙ ap (λ (l : List ℕ). textSlice l room (builderReply g room)) (sym (table-text g)) ∙ ap (textSlice (tableText (builderTable g)) room) h;
-          length-is = ap (λ (b : Book). buildFrom room b .length) f ∙ ap (textLength (tableText (builderTable g))) h;
-          accepted-book = exactly gs (tableText (builderTable g)) .from (
-            g,
-            builderTable g,
-            record { reads = t; productive = D .productive; reachable = D .reachable; meets = writes-meets g (D .formed) (D .productive) (D .reachable) room h },
-          );
-        }
+abbrev pub WritesAccepted : Type 0
+WritesAccepted = (gs : List ℕ) (room : ℕ) → buildOf gs room .reply ≡ Accepted 0 → Written gs room

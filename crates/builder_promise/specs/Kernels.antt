@@ -12,7 +12,7 @@ use Rattle.language.specs.Sentence.{In}
 use Rattle.leftcorner.specs.Table.{Table, entryAt, stringOf, rightOf, markOf}
 use Rattle.leftcorner.specs.Construction.{KernelAt, Wanted}
 use Rattle.leftcorner.specs.Claim.{_↔_}
-use Rattle.lalr.specs.Once.{Once}
+use Rattle.lalr.proofs.Once.{Once}
 
 -- what an item is of: rule i, or the string of an entry
 pub data Item : Type 0 where

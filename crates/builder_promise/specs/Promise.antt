@@ -2,8 +2,7 @@
 -- bytes; here is what it says of any book that is read as a grammar, for every length of the slice that is lent. Other books it
 -- refuses as `grammarOf` does.
 use Prim.Native.Nat.{ℕ, zero, _-_, _≤_, _<_}
-use native.Mathlib.Omega.{arith}
-use mathlib.Core.Path.{_≡_, sym, ap, subst, _∙_}
+use mathlib.Core.Path.{_≡_}
 use mathlib.Core.Logic.{_⊎_}
 use mathlib.Core.List.{List, [], _∷_, _++_}
 use mathlib.Core.Option.{some}
@@ -15,27 +14,15 @@ use Rattle.leftcorner.specs.Table.{Action, Table, nextState}
 use Rattle.leftcorner.specs.Construction.{EntryAt, KernelAt, ActionAt, Asked, EntriesMeet, LookaheadsMeet}
 use Rattle.leftcorner.specs.Claim.{_↔_}
 use Rattle.reply.specs.declared.Kind.the-variants.{LimitExceeded, Conflict, BufferTooSmall}
-use Rattle.reply.specs.declared.Reply.{Reply}
 use Rattle.reply.specs.declared.Reply.the-variants.{Accepted}
 use Rattle.verdict.specs.Verdict.{refused}
-use Rattle.analysis.specs.ByRules.{FirstByRules}
-use Rattle.analysis.specs.Decided.{first?}
-use Rattle.grammar.specs.Book.{Book, accepted, grammarOf}
-use Rattle.grammar.proofs.GrammarLaws.{Reduced, accepted-reduced}
-use Rattle.lalr.specs.States.{states}
-use Rattle.lalr.specs.Lookaheads.{Lookahead}
+use Rattle.grammar.specs.Book.{accepted, grammarOf}
+use Rattle.lalr_states.specs.Lookaheads.{Lookahead}
 use Rattle.lalr.specs.Text.{tableText}
-use Rattle.lalr.specs.BuiltForm.{states-both}
-use Rattle.lalr.specs.Conflicts as conflicts
-use Rattle.lalr.specs.BookLaws.{limits}
-use Rattle.lalr.specs.Builder.{terminalCodes, first-in, builderTable, builderReply}
+use Rattle.lalr.specs.Builder.{builderTable}
 use Rattle.checker.specs.Checked.{verdictOf}
-use Rattle.builder.specs.Build.{buildFrom, buildOf}
-use Rattle.builder.specs.Accepted.{writes-accepted}
+use Rattle.builder.specs.Build.{buildOf}
 use Rattle.builder_promise.specs.Kernels.{entry, Dotted, dot, Reached, TooMany, WithinLimits, KernelIs}
-use Rattle.builder_promise.specs.ManyLaws.{kept}
-use Rattle.builder_promise.specs.PromiseLaws as laws
-use Rattle.builder_promise.specs.ReplyLaws as reply
 
 module _ (g : Grammar) where
   -- the builder's table: what its cells are asked shows in entries and kernel lines already, where there is a conflict too
@@ -112,72 +99,5 @@ pub record Promise (gs : List ℕ) (g : Grammar) : Type 0 where
   pub refuses-short : (room : ℕ)
       → (buildOf gs room .reply ≡ refused BufferTooSmall 0) ↔ (WithinLimits g × NoConflict g × (length (text g) ≤ 65536) × (room < length (text g)))
 
--- ---- the proof
-
-module _ (g : Grammar) (R : Reduced g) where
-  -- two actions asked with first by rules are two actions asked with `First`
-  two-actions : (q : ℕ) → conflicts.TwoActions g (FirstByRules g) (first? g) (terminalCodes g) (first-in g) q ↔ TwoActions g q
-  unfolding builderTable
-  two-actions q = record {
-    to = λ w. record {
-      symbol = w .symbol;
-      one = w .one;
-      other = w .other;
-      asked-one = laws.asked-same g R .to (w .asked-one);
-      asked-other = laws.asked-same g R .to (w .asked-other);
-      differ = w .differ;
-    };
-    from = λ w. record {
-      symbol = w .symbol;
-      one = w .one;
-      other = w .other;
-      asked-one = laws.asked-same g R .from (w .asked-one);
-      asked-other = laws.asked-same g R .from (w .asked-other);
-      differ = w .differ;
-    };
-  }
-
-  as-many : builderTable g .states ≡ length (states g)
-  unfolding builderTable
-  as-many = states-both g (FirstByRules g) (first? g) (terminalCodes g) (first-in g)
-
-  constructed : WithinLimits g → Construction g
-  unfolding builderTable
-  constructed few =
-      let w = kept g (R .formed) few in
-      let L = limits g (R .formed) w in
-      record {
-        contexts = laws.contexts g R L;
-        inclusions = laws.inclusions g R L;
-        least = λ v h. laws.least g R L v (h .entries) (λ q i k σ m. h .kernels q i k (σ, m)) (h .moves);
-        entries = laws.meets g R;
-        entry-states = laws.entry-states g R;
-        reached = λ q s. laws.reached g R w q (s .0) (omega (arith, s .1, as-many));
-        every-reached = λ K r. let s = laws.every-reached g R w K r in (s .0, (s .1, omega (arith, s .2, as-many)), s .3);
-        distinct = λ p q l m. laws.one-state g R p q (l .0) (omega (arith, l .1, as-many)) (m .0) (omega (arith, m .1, as-many));
-      }
-
-pub builder-promise : (gs : List ℕ) (g : Grammar) → grammarOf gs ≡ accepted g → Promise gs g
-unfolding buildOf
-builder-promise gs g e = record {
-  construction = constructed g R;
-  refuses-conflict = λ room q. told room (reply.refuses-conflict g (R .formed) (TwoActions g) (two-actions g R) room q);
-  book-written = λ room h. let w = writes-accepted gs room h in
-      subst (λ (k : Grammar). buildOf gs room .slice ≡ text k ++ replicate (room - length (text k)) 0) (one (w .grammar) (w .book-is)) (w .slice-is);
-  book-length = λ room h. let w = writes-accepted gs room h in subst (λ (k : Grammar). buildOf gs room .length ≡ length (text k)) (one (w .grammar) (w .book-is)) (w .length-is);
-  book-accepted = λ room h. let w = writes-accepted gs room h in subst (λ (k : Grammar). verdictOf gs (text k) ≡ Accepted 0) (one (w .grammar) (w .book-is)) (w .accepted-book);
-  writes = λ room. told room (reply.writes g (R .formed) (TwoActions g) (two-actions g R) room);
-  refuses-many = λ room. told room (reply.refuses-many g (R .formed) (TwoActions g) (two-actions g R) room);
-  refuses-short = λ room. told room (reply.refuses-short g (R .formed) (TwoActions g) (two-actions g R) room);
-}
-  where
-    R : Reduced g
-    R = accepted-reduced gs g e
-
-    one : (k : Grammar) → grammarOf gs ≡ accepted k → k ≡ g
-    one k f = cc
-
-    told : (room : ℕ) {r : Reply} {A : Type 0} → (builderReply g room ≡ r) ↔ A → (buildOf gs room .reply ≡ r) ↔ A
-    told room h =
-        let z = ap (λ (b : Book). buildFrom room b .reply) e in
-        record { to = λ x. h .to (sym z ∙ x); from = λ a. z ∙ h .from a }
+abbrev pub BuilderPromise : Type 0
+BuilderPromise = (gs : List ℕ) (g : Grammar) → grammarOf gs ≡ accepted g → Promise gs g

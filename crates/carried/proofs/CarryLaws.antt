@@ -6,11 +6,11 @@ use mathlib.Core.List.{List}
 use mathlib.Core.Option.{some}
 use native.Mathlib.Omega.{arith}
 use Rattle.language.specs.Grammar.{Grammar, Rule, ruleAt}
-use Rattle.language.specs.GrammarLaws.{rule-range, range-rule}
+use Rattle.language.proofs.GrammarLaws.{rule-range, range-rule}
 use Rattle.language.specs.WellFormed.{WellFormed}
 use Rattle.leftcorner.specs.Table.{Table}
 use Rattle.leftcorner.specs.Construction.{Carries}
-use Rattle.leftcorner.specs.Closure.{has-of}
+use Rattle.leftcorner.proofs.Closure.{has-of}
 use Rattle.items.specs.Layout.{leftAt}
 use Rattle.fixpoint.specs.Flags.{On}
 use Rattle.memory.specs.Memory.{itemAt, dotAt}

@@ -12,12 +12,12 @@ use lib.Dec.{leb}
 use lib.ListN.{length, getD, drop, replicate}
 use lib.Seq.{drop-append-seam}
 use Rattle.language.specs.Grammar.{Grammar, Rule, ruleAt, right, concat, IsTerminal, IsNonterminal}
-use Rattle.language.specs.GrammarLaws.{rule-range}
+use Rattle.language.proofs.GrammarLaws.{rule-range}
 use Rattle.language.specs.Sentence.{In, here}
-use Rattle.language.specs.Member.{in-drop}
+use Rattle.language.proofs.Member.{in-drop}
 use Rattle.leftcorner.specs.Table.{Table, Action, S, N, A, P, symbolsOf, stringOf, Goes}
 use Rattle.leftcorner.specs.Construction.{entryItem, EntryAt, Has, MovedBy, moved, Carries, Asked, to-move, to-announce, to-pop, CellsAgree}
-use Rattle.leftcorner.specs.Sources.{symbols-rule, symbols-entry, entry-high}
+use Rattle.leftcorner.proofs.Sources.{symbols-rule, symbols-entry, entry-high}
 use Rattle.items.specs.Layout.{leftAt, lengthAt, markAt}
 use Rattle.fixpoint.specs.Flags.{On, Decides}
 use Rattle.fixpoint.proofs.PassLaws.{set-on, none-on, is-yes, is-no}

@@ -11,10 +11,10 @@ use borrow.Author.Tests.{le-leb, lt-leb, eq-eqb, ne-eqb}
 use lib.Dec.{leb, eqb}
 use lib.ListN.{getD}
 use Rattle.language.specs.Grammar.{Grammar, IsNonterminal}
-use Rattle.language.specs.GrammarLaws.{rule-range}
+use Rattle.language.proofs.GrammarLaws.{rule-range}
 use Rattle.leftcorner.specs.Table.{Table, Action, S, N, A, P, nextState, actionFor}
 use Rattle.leftcorner.specs.Construction.{forget, ActionAt, MovedBy, Asked, to-move, CellsMeet}
-use Rattle.leftcorner.specs.ReadOff.{clash, action-is, action-back}
+use Rattle.leftcorner.proofs.ReadOff.{clash, action-is, action-back}
 use Rattle.fixpoint.specs.Flags.{On}
 use Rattle.fixpoint.specs.declared.Found.{Found}
 use Rattle.fixpoint.specs.Misses.{Any, Misses}

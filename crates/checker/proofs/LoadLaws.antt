@@ -7,7 +7,7 @@ use mathlib.Core.List.{List}
 use Rattle.language.specs.Grammar.{Grammar}
 use Rattle.leftcorner.specs.Table.{Table}
 use Rattle.entry_list.specs.Uses.{strings-of}
-use Rattle.leftcorner.specs.ReadOff.{clash}
+use Rattle.leftcorner.proofs.ReadOff.{clash}
 use Rattle.reply.specs.declared.Refusal.{Refusal}
 use Rattle.reply.specs.declared.Reply.{Reply}
 use Rattle.reply.specs.declared.Reply.the-variants.{Accepted, Refused}
@@ -16,12 +16,13 @@ use Rattle.table.specs.declared.TableReply.{TableReply}
 use Rattle.table.specs.declared.TableReply.the-variants as reply
 use Rattle.table.specs.Book.{Reading, whole, rejected, tablesOf, readOf}
 use Rattle.table.specs.Memory.{countsOf, replyOf, Slices, hasRoom, Holds}
-use Rattle.table_facts.specs.Sound.{Sound, tables-sound}
-use Rattle.table_views.specs.Views.{held, sized, given}
+use Rattle.table_facts.specs.Sound.{Sound}
+use Rattle.table_facts.proofs.Sound.{tables-sound}
+use Rattle.table_views.proofs.Views.{held, sized, given}
 use Rattle.judge.specs.Accepts.{tableVerdict}
 use Rattle.judge.specs.Given.{Sized, Given}
 use Rattle.checker.specs.Checked.{byReply, judged, checkedOf}
-use Rattle.checker.specs.Exactly.{accepted, accepted-sound}
+use Rattle.checker.proofs.Exactly.{accepted, accepted-sound}
 use Rattle.checker.specs.Loaded.{Loaded}
 
 -- a grammar and its table are in the slices, by these figures

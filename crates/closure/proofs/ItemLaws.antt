@@ -10,11 +10,11 @@ use mathlib.Core.Option.{some}
 use lib.ListN.{length, getD, drop, drop-of-length-le}
 use lib.Seq.{drop-cons}
 use Rattle.language.specs.Grammar.{Grammar, Rule, right, at, ruleAt}
-use Rattle.language.specs.GrammarLaws.{not-there, at-below}
+use Rattle.language.proofs.GrammarLaws.{not-there, at-below}
 use Rattle.language.specs.Sentence.{In, here, there}
 use Rattle.leftcorner.specs.Table.{KernelLine, K, Table, stringOf, symbolsOf, recognitionPoint, Goes}
 use Rattle.leftcorner.specs.Construction.{entryItem, EntryAt, KernelAt}
-use Rattle.leftcorner.specs.Sources.{symbols-rule, point-rule, symbols-entry, point-entry}
+use Rattle.leftcorner.proofs.Sources.{symbols-rule, point-rule, symbols-entry, point-entry}
 use Rattle.items.specs.Layout.{lengthAt, markAt, symbolAt, RuleIn, EntryIn}
 use Rattle.memory.specs.Memory.{HoldsItems, HoldsKernels}
 use Rattle.analysis.specs.Rests.{Before, restAt, rest-none, rest-more}

@@ -6,7 +6,7 @@ use mathlib.Core.Logic.{_⊎_, inl, inr}
 use mathlib.Core.List.{List}
 use lib.ListN.{replicate}
 use Rattle.language.specs.Grammar.{Grammar}
-use Rattle.language.specs.GrammarLaws.{rule-range}
+use Rattle.language.proofs.GrammarLaws.{rule-range}
 use Rattle.language.specs.Sentence.{In}
 use Rattle.leftcorner.specs.Table.{Table, Goes}
 use Rattle.leftcorner.specs.Construction.{KernelAt, Carries}

@@ -8,7 +8,7 @@ use types.Run.{OneOf}
 use denote.Enum.Declared.{tagOf}
 use Rattle.language.specs.Grammar.{Grammar}
 use Rattle.language.specs.Sentence.{In, here}
-use Rattle.language.specs.Member.{in-right}
+use Rattle.language.proofs.Member.{in-right}
 use Rattle.leftcorner.specs.Table.{Table}
 use Rattle.leftcorner.specs.Construction.{of-group, EntriesMeet}
 use Rattle.entry_list.specs.declared.EntryFault.{EntryFault}

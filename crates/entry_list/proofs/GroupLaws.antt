@@ -9,8 +9,8 @@ use lib.Seq.{getD-append-add}
 use Rattle.language.specs.Grammar.{Grammar, Rule, right, concat}
 use Rattle.language.specs.Sentence.{In, here, there}
 use Rattle.language.specs.WellFormed.{RuleFormed}
-use Rattle.language.specs.Member.{in-right}
-use Rattle.language.specs.Lists.{concat-++}
+use Rattle.language.proofs.Member.{in-right}
+use Rattle.language.proofs.Lists.{concat-++}
 use Rattle.items.specs.Layout.{groupStart, groupStarts, startsOf, lengthAt, RuleIn}
 use Rattle.items.proofs.GrowLaws.{start-length, starts-length}
 use Rattle.items.proofs.StoreLaws.{read-zeros}

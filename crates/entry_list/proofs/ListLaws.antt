@@ -9,10 +9,10 @@ use native.Mathlib.Omega.{arith}
 use lib.ListN.{length, getD, replicate}
 use Rattle.language.specs.Grammar.{Grammar, Rule, ruleAt}
 use Rattle.language.specs.Sentence.{In}
-use Rattle.language.specs.GrammarLaws.{rule-range, range-rule}
+use Rattle.language.proofs.GrammarLaws.{rule-range, range-rule}
 use Rattle.leftcorner.specs.Table.{EntryLine, E, Table, entryAt, entryFrom}
 use Rattle.leftcorner.specs.Construction.{EntryAt, Wanted, of-goal, of-group, EntriesMeet}
-use Rattle.leftcorner.specs.ReadOff.{entry-is}
+use Rattle.leftcorner.proofs.ReadOff.{entry-is}
 use Rattle.items.specs.Layout.{lengthAt, symbolAt}
 use Rattle.fixpoint.specs.Flags.{On, Off}
 use Rattle.fixpoint.specs.Lowest.{Lowest}

@@ -9,7 +9,7 @@ use lib.Seq.{ext-getD}
 use Rattle.language.specs.Grammar.{Grammar, Rule, ruleAt, concat}
 use Rattle.leftcorner.specs.Table.{EntryLine, E, Table, entryAt, entryFrom}
 use Rattle.leftcorner.specs.Construction.{entryItem, EntryAt}
-use Rattle.leftcorner.specs.ReadOff.{entry-is}
+use Rattle.leftcorner.proofs.ReadOff.{entry-is}
 use Rattle.items.specs.Layout.{symbolAt, EntryIn}
 use Rattle.memory.proofs.RangeLaws.{entry-at, entry-range}
 use Rattle.entry_list.specs.Parts.{SamePart, FindsEntry}

@@ -10,9 +10,9 @@ use Rattle.language.specs.WellFormed.{RuleFormed}
 use Rattle.items.specs.Layout.{lengthAt, markAt, RuleIn}
 use Rattle.entry_list.specs.Parts.{GroupEnd}
 use Rattle.entry_list.proofs.GroupLaws.{baseOf, base-more, symbol-at, Current, current, none-left}
-use Rattle.lalr.specs.Strings.{addString, addGroups}
-use Rattle.lalr.specs.Distinct.{Extends}
-use Rattle.lalr.specs.EntryLaws.{groups-extend}
+use Rattle.lalr_states.specs.Strings.{addString, addGroups}
+use Rattle.lalr_states.proofs.Distinct.{Extends}
+use Rattle.lalr_states.proofs.EntryLaws.{groups-extend}
 use Rattle.entry_strings.specs.Memory.{Stored, PartIs, Reached}
 use Rattle.entry_strings.proofs.StoreLaws.{rule-in}
 

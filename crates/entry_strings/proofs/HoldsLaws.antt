@@ -10,19 +10,19 @@ use lib.ListN.{length, getD, length-append, List·getD-eq-default}
 use lib.Seq.{sets}
 use Rattle.language.specs.Grammar.{Grammar, Rule, at}
 use Rattle.language.specs.Sentence.{In, here, there}
-use Rattle.language.specs.GrammarLaws.{in-string, not-there}
+use Rattle.language.proofs.GrammarLaws.{in-string, not-there}
 use Rattle.language.specs.WellFormed.{WellFormed}
 use Rattle.leftcorner.specs.Table.{EntryLine, E, Table, entryAt}
 use Rattle.leftcorner.specs.Construction.{Wanted, entryItem}
-use Rattle.leftcorner.specs.ItemStrings.{wanted-declared}
+use Rattle.leftcorner.proofs.ItemStrings.{wanted-declared}
 use Rattle.items.specs.Layout.{itemTable, entryRow, EntryIn, Shaped}
 use Rattle.items.proofs.TableLaws.{table-entry, table-length}
 use Rattle.items.proofs.LayoutLaws.{declared-below, layout-shaped}
 use Rattle.memory.specs.Memory.{HoldsItems}
 use Rattle.table_entries.proofs.MemoryLaws.{shaped-more}
-use Rattle.lalr.specs.Strings.{entryStrings, entryLines}
-use Rattle.lalr.specs.EntryLaws.{strings-wanted}
-use Rattle.lalr.specs.Limits.{declared, wanted-short}
+use Rattle.lalr_states.specs.Strings.{entryStrings, entryLines}
+use Rattle.lalr_states.proofs.EntryLaws.{strings-wanted}
+use Rattle.lalr_states.proofs.Limits.{declared, wanted-short}
 use Rattle.entry_strings.specs.Memory.{Fitting, Stored}
 use Rattle.entry_strings.proofs.StoreLaws.{rule-in, rows-in}
 

@@ -8,12 +8,12 @@ use native.Mathlib.Numerals.{add-one}
 use native.Mathlib.Omega.{arith}
 use lib.ListN.{length, drop, drop-of-length-le}
 use Rattle.language.specs.Grammar.{Grammar, Rule, ruleAt}
-use Rattle.language.specs.GrammarLaws.{at-below}
+use Rattle.language.proofs.GrammarLaws.{at-below}
 use Rattle.items.specs.Layout.{itemTable}
 use Rattle.table_entries.proofs.StringLaws.{drop-at}
-use Rattle.lalr.specs.Strings.{addString, addGroups, addRules, entryStrings}
-use Rattle.lalr.specs.Distinct.{Extends, extends-trans, longer}
-use Rattle.lalr.specs.EntryLaws.{rules-extend, strings-extend}
+use Rattle.lalr_states.specs.Strings.{addString, addGroups, addRules, entryStrings}
+use Rattle.lalr_states.proofs.Distinct.{Extends, extends-trans, longer}
+use Rattle.lalr_states.proofs.EntryLaws.{rules-extend, strings-extend}
 use Rattle.entry_strings.specs.Memory.{Stored, Reached, Listed}
 
 -- the groups of the first `done` rules have joined the goal

@@ -11,9 +11,9 @@ use lib.ListN.{length, getD, length-append}
 use lib.Seq.{sets, length-sets}
 use Rattle.language.specs.Grammar.{Grammar, Rule, ruleAt, at}
 use Rattle.language.specs.Sentence.{In, here, there}
-use Rattle.language.specs.GrammarLaws.{not-there}
+use Rattle.language.proofs.GrammarLaws.{not-there}
 use Rattle.leftcorner.specs.Table.{sameString, entryFrom}
-use Rattle.leftcorner.specs.ReadOff.{same-string, entry-found}
+use Rattle.leftcorner.proofs.ReadOff.{same-string, entry-found}
 use Rattle.items.specs.Layout.{entryRow, EntryIn, RuleIn}
 use Rattle.items.proofs.StoreLaws.{read-below, read-above}
 use Rattle.items.proofs.BuildLaws.{row-length}
@@ -21,9 +21,9 @@ use Rattle.items.proofs.TableLaws.{table-entry, table-behind}
 use Rattle.items.proofs.LayoutLaws.{table-rule-in, table-entry-in, declared-below, layout-shaped}
 use Rattle.table_entries.specs.Memory.{Rows}
 use Rattle.table_entries.proofs.MemoryLaws.{shaped-more}
-use Rattle.lalr.specs.Strings.{addString, entryLines}
-use Rattle.lalr.specs.Distinct.{at-in, in-at, in-end, joined}
-use Rattle.lalr.specs.EntryLaws.{line-at, at-line, lines-length}
+use Rattle.lalr_states.specs.Strings.{addString, entryLines}
+use Rattle.lalr_states.proofs.Distinct.{at-in, in-at, in-end, joined}
+use Rattle.lalr_states.proofs.EntryLaws.{line-at, at-line, lines-length}
 use Rattle.entry_strings.specs.Memory.{Blank, Fitting, Stored, Ready, Grown}
 
 -- ---- memory before

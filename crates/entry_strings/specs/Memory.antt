@@ -9,8 +9,8 @@ use Rattle.language.specs.Sentence.{In}
 use Rattle.language.specs.WellFormed.{WellFormed}
 use Rattle.items.specs.Layout.{itemTable, layout, symbolAt, Shaped}
 use Rattle.table_entries.specs.Memory.{Empty}
-use Rattle.lalr.specs.Strings.{entryStrings}
-use Rattle.lalr.specs.Distinct.{Extends}
+use Rattle.lalr_states.specs.Strings.{entryStrings}
+use Rattle.lalr_states.proofs.Distinct.{Extends}
 
 -- memory holds the rules of g, whose goal this is, and nothing else
 pub record Blank (g : Grammar) (items : List ℕ) (rules goal : ℕ) : Type 0 where

@@ -7,7 +7,7 @@ ghost use Prim.Native.Nat.{ℕ, _+_, _≤_, _<_};
 ghost use lib.ListN.{length, getD, take, drop};
 ghost use Rattle.language.specs.Grammar.{Grammar, Rule, ruleAt};
 ghost use Rattle.items.specs.Layout.{Shaped, symbolAt};
-ghost use Rattle.lalr.specs.Strings.{addString, addGroups};
+ghost use Rattle.lalr_states.specs.Strings.{addString, addGroups};
 ghost use Rattle.entry_strings.specs.Memory.{Begun, Blank, Listed, Stored, Ready, Grown, PartIs, Reached};
 
 // n symbols of item i, from `from` on, as the numbers from the second on.

@@ -8,7 +8,7 @@ use native.Mathlib.Omega.{arith}
 use lib.Dec.{ltb, eqb}
 use lib.ListN.{length}
 use Rattle.language.specs.Grammar.{Grammar, Rule, at, ruleAt}
-use Rattle.language.specs.GrammarLaws.{not-there}
+use Rattle.language.proofs.GrammarLaws.{not-there}
 use Rattle.language.specs.WellFormed.{RuleFormed, WellFormed}
 use Rattle.range.proofs.TestLaws.{all-cond}
 use Rattle.header.specs.declared.Heading.{Heading}

@@ -8,11 +8,11 @@ use native.Mathlib.Numerals.{add-one}
 use native.Mathlib.Omega.{arith}
 use lib.ListN.{length, getD}
 use Rattle.language.specs.Grammar.{Grammar, Rule, ruleAt}
-use Rattle.language.specs.GrammarLaws.{rule-range}
+use Rattle.language.proofs.GrammarLaws.{rule-range}
 use Rattle.leftcorner.specs.Table.{Table}
 use Rattle.leftcorner.specs.Construction.{entryItem}
-use Rattle.leftcorner.specs.ReadOff.{entry-is}
-use Rattle.leftcorner.specs.Sources.{entry-high}
+use Rattle.leftcorner.proofs.ReadOff.{entry-is}
+use Rattle.leftcorner.proofs.Sources.{entry-high}
 use Rattle.items.specs.Layout.{lengthAt, markAt}
 use Rattle.memory.specs.Held.{Held}
 use Rattle.analysis.specs.Adds.{Adds}

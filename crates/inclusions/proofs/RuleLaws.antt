@@ -11,12 +11,12 @@ use lib.ListN.{length, getD, drop, length-append}
 use lib.Seq.{append-snoc, drop-append-seam}
 use Rattle.language.specs.Grammar.{Grammar, Rule, ruleAt, right, concat, at}
 use Rattle.language.specs.Sentence.{In, here, there}
-use Rattle.language.specs.Member.{in-left, in-right}
-use Rattle.language.specs.Lists.{concat-++}
+use Rattle.language.proofs.Member.{in-left, in-right}
+use Rattle.language.proofs.Lists.{concat-++}
 use Rattle.leftcorner.specs.Table.{EntryLine, E, Table, entryAt, entryFrom, sameString}
 use Rattle.leftcorner.specs.Construction.{EntryAt}
-use Rattle.leftcorner.specs.ReadOff.{same-string}
-use Rattle.leftcorner.specs.Sources.{symbols-rule}
+use Rattle.leftcorner.proofs.ReadOff.{same-string}
+use Rattle.leftcorner.proofs.Sources.{symbols-rule}
 use Rattle.items.specs.Layout.{lengthAt, markAt, RuleIn}
 use Rattle.memory.specs.Held.{Held}
 use Rattle.analysis.specs.Rests.{restAt}

@@ -4,7 +4,7 @@ use mathlib.Core.Path.{_≡_, sym, subst, _∙_}
 use mathlib.Core.List.{List}
 use native.Mathlib.Omega.{arith}
 use Rattle.language.specs.Sentence.{In}
-use Rattle.language.specs.GrammarLaws.{in-string, in-index}
+use Rattle.language.proofs.GrammarLaws.{in-string, in-index}
 use Rattle.items.specs.Layout.{lengthAt, symbolAt, RowIs}
 
 -- a rule's symbols and those in memory

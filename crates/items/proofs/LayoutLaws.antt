@@ -12,7 +12,7 @@ use lib.Seq.{sets, length-sets}
 use Rattle.language.specs.Grammar.{Grammar, Rule, right, at, ruleAt, IsTerminal, IsNonterminal}
 use Rattle.language.specs.Listing.{unitOf}
 use Rattle.language.specs.Sentence.{In}
-use Rattle.language.specs.GrammarLaws.{not-there, at-below, in-string}
+use Rattle.language.proofs.GrammarLaws.{not-there, at-below, in-string}
 use Rattle.language.specs.WellFormed.{WellFormed}
 use Rattle.items.specs.Layout.{body, row, startsOf, itemTable, layout, leftAt, lengthAt, symbolAt, RowIs, RuleIn, EntryIn, Holds, Shaped}
 use Rattle.items.proofs.StoreLaws.{read-inside, read-below, read-above, read-zeros}

@@ -8,7 +8,7 @@ use lib.ListN.{length, getD, replicate, length-append, length-replicate, List·g
 use lib.Seq.{sets, length-sets, getD-append-add}
 use Rattle.language.specs.Grammar.{Rule, right, concat, at}
 use Rattle.language.specs.Listing.{unitOf}
-use Rattle.language.specs.GrammarLaws.{not-there}
+use Rattle.language.proofs.GrammarLaws.{not-there}
 use Rattle.items.specs.Layout.{rowOf, entryRow, startsOf, entryRows, itemRows, itemTable}
 use Rattle.items.proofs.StoreLaws.{sets-join, read-inside, read-below, read-above, read-zeros}
 use Rattle.items.proofs.BuildLaws.{row-length}

@@ -1,3 +1,4 @@
+pub mod AcceptLaws
 pub mod FaultLaws
 pub mod VerdictLaws
 pub mod StateLaws

@@ -5,23 +5,24 @@ use mathlib.Core.Path.{_≡_, refl, sym}
 use mathlib.Core.List.{List}
 use Rattle.language.specs.Grammar.{Grammar}
 use Rattle.language.specs.Sentence.{Declared}
-use Rattle.language.specs.Strings.{AllDeclared}
+use Rattle.language.proofs.Strings.{AllDeclared}
 use Rattle.language.specs.WellFormed as language
 use Rattle.leftcorner.specs.Table.{Table}
 use Rattle.leftcorner.specs.Construction.{WellFormed, EntriesMeet, ItemsMeet, LookaheadsMeet, CellsAgree, CellsMeet}
 use Rattle.leftcorner.specs.Claim.{_↔_}
-use Rattle.leftcorner.specs.Swap.{flip, lookaheads-over, agree-over, cells-over}
+use Rattle.leftcorner.proofs.Swap.{flip, lookaheads-over, agree-over, cells-over}
 use Rattle.analysis.specs.ByRules.{FirstByRules}
-use Rattle.analysis.specs.Decided.{first?}
+use Rattle.analysis.proofs.Decided.{first?}
 use Rattle.analysis.specs.InMemory.{SetsOf}
 use Rattle.analysis.specs.FirstBy.{FirstBy}
 use Rattle.reply.specs.declared.Reply.{Reply}
 use Rattle.reply.specs.declared.Kind.the-variants.{ItemMismatch}
-use Rattle.verdict.specs.ItemsDecided.{items?}
-use Rattle.verdict.specs.EntriesDecided.{entries?}
-use Rattle.verdict.specs.LookaheadsDecided.{lookaheads?}
-use Rattle.verdict.specs.CellsDecided.{agree?, cells?}
-use Rattle.verdict.specs.Verdict.{refused, verdict, Outside, off-items, off-lookaheads, off-agree, off-cells, All, Fails, is-list, is-seven, is-eight, is-nine, is-ten, is-zero}
+use Rattle.verdict.proofs.ItemsDecided.{items?}
+use Rattle.verdict.proofs.EntriesDecided.{entries?}
+use Rattle.verdict.proofs.LookaheadsDecided.{lookaheads?}
+use Rattle.verdict.proofs.CellsDecided.{agree?, cells?}
+use Rattle.verdict.specs.Verdict.{refused, verdict}
+use Rattle.verdict.proofs.VerdictLaws.{Outside, off-items, off-lookaheads, off-agree, off-cells, All, Fails, is-list, is-seven, is-eight, is-nine, is-ten, is-zero}
 use Rattle.judge.specs.Accepts.{codes, code-in, tableVerdict}
 use Rattle.judge.specs.Faults.{Fault, answerOf, Found}
 use Rattle.analysis.proofs.FirstLaws.{first-flags}

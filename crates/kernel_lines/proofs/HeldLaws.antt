@@ -9,8 +9,8 @@ use Rattle.language.specs.Grammar.{Grammar, at}
 use Rattle.language.specs.Sentence.{In, here, there}
 use Rattle.leftcorner.specs.Table.{KernelLine, K, Table}
 use Rattle.leftcorner.specs.Construction.{KernelAt}
-use Rattle.leftcorner.specs.ReadOff.{clash}
-use Rattle.language.specs.GrammarLaws.{at-below}
+use Rattle.leftcorner.proofs.ReadOff.{clash}
+use Rattle.language.proofs.GrammarLaws.{at-below}
 use Rattle.memory.specs.Memory.{HoldsKernels}
 use Rattle.kernel_lines.specs.Lines.{IsLine, LineAt}
 

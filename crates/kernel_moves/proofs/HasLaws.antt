@@ -8,14 +8,14 @@ use mathlib.Core.List.{List, [], _∷_}
 use mathlib.Core.Option.{some}
 use lib.ListN.{length}
 use Rattle.language.specs.Grammar.{Grammar, Rule, at, ruleAt}
-use Rattle.language.specs.GrammarLaws.{range-rule, rule-range, at-below}
+use Rattle.language.proofs.GrammarLaws.{range-rule, rule-range, at-below}
 use Rattle.language.specs.Sentence.{In}
 use Rattle.leftcorner.specs.Table.{EntryLine, E, Goes}
 use Rattle.leftcorner.specs.Construction.{KernelAt, Has, in-kernel, MovedBy, moved}
-use Rattle.lalr.specs.Strings.{entryStrings, entryLines}
-use Rattle.lalr.specs.States.{itemOf, dotOf, alone, move}
-use Rattle.lalr.specs.Limits.{bounded, code-low}
-use Rattle.lalr.specs.MoveLaws.{item-of, dot-of, alone-line, line-alone, move-is}
+use Rattle.lalr_states.specs.Strings.{entryStrings, entryLines}
+use Rattle.lalr_states.specs.States.{itemOf, dotOf, alone, move}
+use Rattle.lalr_states.proofs.Limits.{bounded, code-low}
+use Rattle.lalr_states.proofs.MoveLaws.{item-of, dot-of, alone-line, line-alone, move-is}
 use Rattle.items.specs.Layout.{Shaped, leftAt}
 use Rattle.memory.specs.Memory.{HoldsItems}
 use Rattle.fixpoint.specs.Flags.{On, Marks}

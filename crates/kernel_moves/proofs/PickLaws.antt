@@ -11,7 +11,7 @@ use lib.Dec.{eqb}
 use lib.ListN.{length, getD, set, take, length-append, length-set}
 use lib.Seq.{take-suc, take-suc-set}
 use Rattle.language.specs.Sentence.{In, here, there}
-use Rattle.language.specs.Member.{in-cons}
+use Rattle.language.proofs.Member.{in-cons}
 use Rattle.kernel_moves.specs.Moved.{picked}
 
 pub in-one : {A : Type 0} {x z : A} → In x (z ∷ []) → x ≡ z

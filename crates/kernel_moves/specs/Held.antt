@@ -6,8 +6,8 @@ use lib.ListN.{length}
 use Rattle.language.specs.Grammar.{Grammar, at}
 use Rattle.language.specs.WellFormed as language
 use Rattle.leftcorner.specs.Table.{EntryLine, Table, entryAt}
-use Rattle.lalr.specs.Strings.{entryStrings, entryLines}
-use Rattle.lalr.specs.States.{alone}
+use Rattle.lalr_states.specs.Strings.{entryStrings, entryLines}
+use Rattle.lalr_states.specs.States.{alone}
 use Rattle.memory.specs.Memory.{HoldsItems}
 
 pub record HoldsGrammar (items : List ℕ) (rules strings : ℕ) (g : Grammar) : Type 0 where

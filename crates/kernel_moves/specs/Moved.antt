@@ -8,7 +8,7 @@ use lib.Dec.{eqb}
 use lib.ListN.{getD}
 use Rattle.language.specs.Grammar.{Grammar}
 use Rattle.language.specs.Sentence.{In}
-use Rattle.lalr.specs.States.{itemOf, dotOf, move}
+use Rattle.lalr_states.specs.States.{itemOf, dotOf, move}
 use Rattle.closure.specs.Kernel.{BeforeNonterminal}
 use Rattle.moves.specs.Moves.{symbolAfter, Present}
 use Rattle.kernel_moves.specs.Held.{HoldsGrammar}

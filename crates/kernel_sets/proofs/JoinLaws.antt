@@ -9,10 +9,10 @@ use mathlib.Core.List.{List, [], _∷_, _++_}
 use lib.ListN.{length, getD, set, take, drop, length-set}
 use lib.Seq.{getD-at, getD-set-same, getD-set-other, take-add}
 use Rattle.language.specs.Sentence.{In}
-use Rattle.lalr.specs.States.{Kernel, noteIf}
-use Rattle.lalr.specs.LineLaws.{in-either}
-use Rattle.lalr.specs.Discovery.{Fits, in-getD}
-use Rattle.lalr.specs.DiscoverySteps.{note-none, note-known, note-new}
+use Rattle.lalr_states.specs.States.{Kernel, noteIf}
+use Rattle.lalr.proofs.LineLaws.{in-either}
+use Rattle.lalr_states.proofs.Discovery.{Fits, in-getD}
+use Rattle.lalr_states.proofs.DiscoverySteps.{note-none, note-known, note-new}
 use Rattle.kernel_moves.specs.Moved.{Numbered}
 use Rattle.kernel_sets.specs.Sets.{part, setsIn, Bounds, FindsSet, Leads, Joins}
 use Rattle.kernel_sets.proofs.PartLaws.{part-length, stored-front, stored-back}

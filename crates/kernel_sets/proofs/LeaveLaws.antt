@@ -7,10 +7,10 @@ use mathlib.Core.Path.{_≡_, refl, sym, ap, subst, _∙_}
 use mathlib.Core.Logic.{_⊎_, inl, inr}
 use mathlib.Core.List.{List, [], _∷_}
 use lib.ListN.{length, take}
-use Rattle.lalr.specs.States.{Kernel, range, leave}
-use Rattle.lalr.specs.Distinct.{Extends, kept, longer}
-use Rattle.lalr.specs.Discovery.{Fits, after-extends, leave-extends}
-use Rattle.lalr.specs.DiscoverySteps.{leave-none, leave-more, leave-full}
+use Rattle.lalr_states.specs.States.{Kernel, range, leave}
+use Rattle.lalr_states.proofs.Distinct.{Extends, kept, longer}
+use Rattle.lalr_states.proofs.Discovery.{Fits, after-extends, leave-extends}
+use Rattle.lalr_states.proofs.DiscoverySteps.{leave-none, leave-more, leave-full}
 use Rattle.moves.specs.Moves.{Cells}
 use Rattle.kernel_moves.specs.Moved.{Numbered, picked}
 use Rattle.kernel_sets.specs.Sets.{setsIn, Bounds, Leads, Joins, movesBy, leaveBy}

@@ -7,7 +7,7 @@ use lib.ListN.{length, getD, take, drop, length-take, length-drop}
 use lib.Seq.{take-take, take-at, drop-at, take-length, length-take-le, ext-getD, getD-take, getD-drop}
 use Rattle.language.specs.Sentence.{In, here, there}
 use Rattle.kernel_moves.specs.Moved.{Numbered}
-use Rattle.language.specs.Member.{in-drop}
+use Rattle.language.proofs.Member.{in-drop}
 use Rattle.kernel_sets.specs.Sets.{part}
 
 pub part-length : (sets : List ℕ) (a b : ℕ) → b ≤ length sets → length (part sets a b) ≡ b - a

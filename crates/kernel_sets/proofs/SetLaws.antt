@@ -7,8 +7,8 @@ use mathlib.Core.Path.{_≡_, refl, sym, ap, ap₂, _∙_}
 use mathlib.Core.List.{List, [], _∷_, _++_}
 use lib.ListN.{length, getD, take, length-append, List·getD-append}
 use lib.Seq.{take-all, take-append-le, getD-at}
-use Rattle.lalr.specs.States.{Kernel, find, total}
-use Rattle.lalr.specs.Discovery.{total-and, find-is}
+use Rattle.lalr_states.specs.States.{Kernel, find, total}
+use Rattle.lalr_states.proofs.Discovery.{total-and, find-is}
 use Rattle.kernel_sets.specs.Sets.{part, setsIn, Bounds, FindsSet}
 use Rattle.kernel_sets.proofs.PartLaws.{part-length, part-same}
 

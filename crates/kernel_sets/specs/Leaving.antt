@@ -3,7 +3,7 @@ use Prim.Native.Nat.{ℕ, _-_, _≤_, _<_}
 use mathlib.Core.Path.{_≡_}
 use mathlib.Core.List.{List, []}
 use lib.ListN.{take}
-use Rattle.lalr.specs.States.{range, leave}
+use Rattle.lalr_states.specs.States.{range, leave}
 use Rattle.kernel_moves.specs.Moved.{Numbered, picked}
 use Rattle.kernel_sets.specs.Sets.{setsIn, Bounds, Leads, movesBy, leaveBy}
 use Rattle.kernel_sets.specs.Cells.{Cell}

@@ -4,7 +4,7 @@ use mathlib.Core.Path.{_≡_}
 use mathlib.Core.List.{List, [], _∷_, _++_}
 use lib.ListN.{length, getD, take, drop}
 use Rattle.language.specs.Sentence.{In}
-use Rattle.lalr.specs.States.{Kernel, range, noteIf, leave}
+use Rattle.lalr_states.specs.States.{Kernel, range, noteIf, leave}
 use Rattle.kernel_moves.specs.Moved.{Numbered, picked}
 
 -- the numbers from a up to b

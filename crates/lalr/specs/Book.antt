@@ -13,10 +13,10 @@ use Rattle.leftcorner.specs.Construction.{CellsAgree}
 use Rattle.reply.specs.declared.Kind.the-variants.{LimitExceeded, Conflict, BufferTooSmall}
 use Rattle.reply.specs.declared.Reply.{Reply}
 use Rattle.reply.specs.declared.Reply.the-variants.{Accepted, Refused}
-use Rattle.verdict.specs.CellsDecided.{agree?}
+use Rattle.verdict.proofs.CellsDecided.{agree?}
 use Rattle.verdict.specs.Verdict.{lowest, refused, first-of}
-use Rattle.lalr.specs.Strings.{entryStrings}
-use Rattle.lalr.specs.States.{total, states}
+use Rattle.lalr_states.specs.Strings.{entryStrings}
+use Rattle.lalr_states.specs.States.{total, states}
 use Rattle.lalr.specs.Built.{items, built}
 use Rattle.lalr.specs.Text.{tableText}
 

@@ -12,11 +12,11 @@ use Rattle.language.specs.Grammar.{Grammar}
 use Rattle.language.specs.Sentence.{In}
 use Rattle.leftcorner.specs.Table.{EntryLine, E, KernelLine, K, Action, S, N, A, P, ActionLine, L, Table}
 use Rattle.leftcorner.specs.Construction.{Asked}
-use Rattle.verdict.specs.CellsDecided.{asked?}
-use Rattle.lalr.specs.Strings.{entryStrings, entryLines}
-use Rattle.lalr.specs.States.{Kernel, itemOf, dotOf, range, keep, states, goto}
-use Rattle.lalr.specs.Lookaheads.{Lookahead}
-use Rattle.lalr.specs.LookaheadDecided.{lookahead?}
+use Rattle.verdict.proofs.CellsDecided.{asked?}
+use Rattle.lalr_states.specs.Strings.{entryStrings, entryLines}
+use Rattle.lalr_states.specs.States.{Kernel, itemOf, dotOf, range, keep, states, goto}
+use Rattle.lalr_states.specs.Lookaheads.{Lookahead}
+use Rattle.lalr_states.proofs.LookaheadDecided.{lookahead?}
 
 -- the first of some actions that is asked of a cell
 abbrev pub orElse : {P : Type 0} → Dec P → Action → Option Action → Option Action

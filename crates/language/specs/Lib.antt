@@ -3,14 +3,6 @@ pub mod Derivation
 pub mod Listing
 pub mod Sentence
 pub mod First
-pub mod Member
-pub mod Strings
 pub mod WellFormed
-pub mod Lists
 pub mod Trace
-pub mod Replay
-pub mod Announced
-pub mod Prefix
-pub mod GrammarLaws
 pub mod Nullable
-pub mod FirstLaws

@@ -2,7 +2,7 @@
 use Prim.Native.Nat.{ℕ, _≤_}
 use mathlib.Core.Logic.{_⊎_}
 use mathlib.Core.Path.{_≡_}
-use mathlib.Core.List.{List, [], _∷_, _++_}
+use mathlib.Core.List.{List, _∷_, _++_}
 use mathlib.Core.Option.{some}
 use Rattle.language.specs.Grammar.{Grammar, Rule, ruleAt, right, IsTerminal, IsNonterminal}
 use Rattle.language.specs.Derivation.{Tree, yield, IsTree}

@@ -1,13 +1,11 @@
 -- The events of a derivation, in the order in which a left-corner walk meets them. Closing a group is an event too: it makes a
 -- trace decodable, which a listing is not under left recursion.
-use Prim.Native.Nat.{ℕ, suc}
-use mathlib.Core.Path.{_≡_, refl, sym, ap, ap₂, _∙_}
+use Prim.Native.Nat.{ℕ}
 use mathlib.Core.List.{List, [], _∷_, _++_}
 use mathlib.Core.Option.{Option, some, none}
 use lib.ListN.{length, take, drop}
-use lib.Seq.{take-append-seam, drop-append-seam}
 use Rattle.language.specs.Grammar.{Grammar, Rule, ruleAt}
-use Rattle.language.specs.Derivation.{Tree, Forest, leaf, node, nil, cons, _⧺_, IsForest}
+use Rattle.language.specs.Derivation.{Tree, Forest, leaf, node, nil, cons}
 
 pub data Event : Type 0 where
   shifted : ℕ → Event
@@ -44,32 +42,3 @@ module _ (g : Grammar) where
     pub traces : Forest → List (List Event)
     traces nil = []
     traces (cons T F) = trace T ∷ traces F
-
-  traces-⧺ : (F G : Forest) → traces (F ⧺ G) ≡ traces F ++ traces G
-  traces-⧺ nil G = refl
-  traces-⧺ (cons T F) G = ap (λ (l : List (List Event)). trace T ∷ l) (traces-⧺ F G)
-
-  traces-length : (F : Forest) (α : List ℕ) → IsForest g F α → length (traces F) ≡ length α
-  traces-length nil [] h = refl
-  traces-length nil (X ∷ α) h = absurd h
-  traces-length (cons T F) [] h = absurd h
-  traces-length (cons T F) (X ∷ α) h = ap suc (traces-length F α (h .1))
-
-  take-traces : (F G : Forest) (α : List ℕ) → IsForest g F α → take (length α) (traces (F ⧺ G)) ≡ traces F
-  take-traces F G α h =
-      ap₂ (λ (n : ℕ) (l : List (List Event)). take n l) (sym (traces-length F α h)) (traces-⧺ F G) ∙ take-append-seam (traces F) (traces G)
-
-  drop-traces : (F G : Forest) (α : List ℕ) → IsForest g F α → drop (length α) (traces (F ⧺ G)) ≡ traces G
-  drop-traces F G α h =
-      ap₂ (λ (n : ℕ) (l : List (List Event)). drop n l) (sym (traces-length F α h)) (traces-⧺ F G) ∙ drop-append-seam (traces F) (traces G)
-
-  pub closings-cons : (F G : Forest) (γ : List ℕ) (γs : List (List ℕ)) → IsForest g F γ
-      → closings (γ ∷ γs) (traces (F ⧺ G)) ≡ flat (traces F) ++ closed ∷ closings γs (traces G)
-  closings-cons F G γ γs h =
-      ap₂ (λ (l n : List (List Event)). flat l ++ closed ∷ closings γs n) (take-traces F G γ h) (drop-traces F G γ h)
-
-  pub trace-node : (i : ℕ) (r : Rule) (F G : Forest) → ruleAt g i ≡ some r → IsForest g F (r .before)
-      → trace (node i (F ⧺ G)) ≡ flat (traces F) ++ announced i ∷ closings (r .groups) (traces G)
-  trace-node i r F G e h =
-      ap (λ (o : Option Rule). weave o i (traces (F ⧺ G))) e
-      ∙ ap₂ (λ (l n : List (List Event)). flat l ++ announced i ∷ closings (r .groups) n) (take-traces F G (r .before) h) (drop-traces F G (r .before) h)

@@ -15,8 +15,8 @@ use Rattle.analysis.specs.Adds.{Adds}
 use Rattle.analysis.specs.FirstBy.{FirstBy}
 use Rattle.inclusions.specs.Asks.{LinesAsk}
 use Rattle.inclusions.specs.Included.{FlagAsked}
-use Rattle.lalr.specs.Lookaheads.{Lookahead}
-use Rattle.lalr.specs.Lookaheads as look
+use Rattle.lalr_states.specs.Lookaheads.{Lookahead}
+use Rattle.lalr_states.specs.Lookaheads as look
 use Rattle.least_lookaheads.specs.StatesHeld.{StatesHeld, HoldsLookaheads}
 use Rattle.least_lookaheads.specs.Passes.{SomeAsks, PassMade}
 use Rattle.least_lookaheads.proofs.LookLaws.{Sound, Met, met-more, met-within, sound-asked, met-state, met-grown, holds-all}

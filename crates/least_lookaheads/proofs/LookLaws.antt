@@ -7,11 +7,11 @@ use mathlib.Core.Option.{some}
 use native.Mathlib.Omega.{arith}
 use lib.ListN.{length}
 use Rattle.language.specs.Grammar.{Grammar, Rule, ruleAt, concat}
-use Rattle.language.specs.GrammarLaws.{rule-range}
+use Rattle.language.proofs.GrammarLaws.{rule-range}
 use Rattle.language.specs.Sentence.{In, here}
 use Rattle.leftcorner.specs.Table.{Table, Goes}
 use Rattle.leftcorner.specs.Construction.{entryItem, EntryAt, KernelAt, Has, MovedBy, moved, Carries, in-kernel, in-closure}
-use Rattle.leftcorner.specs.Closure.{has-of}
+use Rattle.leftcorner.proofs.Closure.{has-of}
 use Rattle.fixpoint.specs.Flags.{On}
 use Rattle.memory.specs.Memory.{stateAt, itemAt, dotAt}
 use Rattle.analysis.specs.FirstBy.{FirstBy, first-low}
@@ -25,16 +25,16 @@ use Rattle.carried.proofs.CarryLaws.{Carried, row-item, row-in, in-row}
 use Rattle.inclusions.specs.Included.{Included, by-move, by-group, FlagAsked}
 use Rattle.inclusions.proofs.IncludeLaws.{NextIn, included-map, asked-included, included-asked}
 use Rattle.inclusions.proofs.FlagLaws.{flag-map, flag-at, flag-line}
-use Rattle.lalr.specs.Strings.{entryStrings}
-use Rattle.lalr.specs.EntryLaws.{entry-line, entry-number, found-entry, some-entry}
-use Rattle.lalr.specs.States.{Kernel, itemOf, alone, states, kernelOf, goto}
-use Rattle.lalr.specs.Over.{goes-over, moved-over}
-use Rattle.lalr.specs.MoveLaws.{item-of, dot-of, line-alone, move-only, in-move, moved-dot}
-use Rattle.lalr.specs.StateLaws.{more-states, entry-kernel, Reached, entry-or, goes-to}
-use Rattle.lalr.specs.Lookaheads.{bare, entryOf, Lookahead}
-use Rattle.lalr.specs.Lookaheads as look
-use Rattle.lalr.specs.Carried.{group-wanted}
-use Rattle.lalr.specs.Live.{in-one}
+use Rattle.lalr_states.specs.Strings.{entryStrings}
+use Rattle.lalr_states.proofs.EntryLaws.{entry-line, entry-number, found-entry, some-entry}
+use Rattle.lalr_states.specs.States.{Kernel, itemOf, alone, states, kernelOf, goto}
+use Rattle.lalr.proofs.Over.{goes-over, moved-over}
+use Rattle.lalr_states.proofs.MoveLaws.{item-of, dot-of, line-alone, move-only, in-move, moved-dot}
+use Rattle.lalr_states.proofs.StateLaws.{more-states, entry-kernel, Reached, entry-or, goes-to}
+use Rattle.lalr_states.specs.Lookaheads.{bare, entryOf, Lookahead}
+use Rattle.lalr_states.specs.Lookaheads as look
+use Rattle.lalr.proofs.Carried.{group-wanted}
+use Rattle.lalr.proofs.Live.{in-one}
 use Rattle.least_lookaheads.specs.StatesHeld.{entryTable, LineOf, StatesHeld, HoldsLookaheads}
 use Rattle.least_lookaheads.specs.Passes.{ClosureIs, SomeAsks, StateMet}
 use Rattle.least_lookaheads.proofs.TableLaws.{held-entries, flagTable, flagged, flags-held}

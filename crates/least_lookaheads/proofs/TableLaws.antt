@@ -8,11 +8,11 @@ use native.Mathlib.Omega.{arith}
 use lib.ListN.{length, getD}
 use Rattle.language.specs.Grammar.{Grammar, at}
 use Rattle.language.specs.Sentence.{In}
-use Rattle.language.specs.GrammarLaws.{at-range}
+use Rattle.language.proofs.GrammarLaws.{at-range}
 use Rattle.leftcorner.specs.Table.{E, KernelLine, K, Table, entryAt}
 use Rattle.leftcorner.specs.Construction.{KernelAt}
-use Rattle.leftcorner.specs.ItemStrings.{wanted-declared}
-use Rattle.leftcorner.specs.ReadOff.{clash}
+use Rattle.leftcorner.proofs.ItemStrings.{wanted-declared}
+use Rattle.leftcorner.proofs.ReadOff.{clash}
 use Rattle.fixpoint.specs.Flags.{On}
 use Rattle.memory.specs.Memory.{HoldsKernels, stateAt, itemAt, dotAt}
 use Rattle.memory.specs.Fits.{Fits}
@@ -20,13 +20,13 @@ use Rattle.memory.specs.Held.{Held}
 use Rattle.closure.specs.InMemory.{DeclaredItem, InMemory}
 use Rattle.inclusions.specs.Included.{FlagAsked}
 use Rattle.inclusions.proofs.FlagLaws.{flag-line}
-use Rattle.lalr.specs.Strings.{entryStrings, entryLines}
-use Rattle.lalr.specs.Distinct.{in-at}
-use Rattle.lalr.specs.EntryLaws.{entry-line, one-entry, lines-length}
-use Rattle.lalr.specs.States.{range, keep, states}
-use Rattle.lalr.specs.Lists.{in-range, range-in, keep-only, keep-every}
-use Rattle.lalr.specs.Limits.{Limits, declared, wanted-short, wanted-filled}
-use Rattle.lalr.specs.BuiltForm.{kernel-known}
+use Rattle.lalr_states.specs.Strings.{entryStrings, entryLines}
+use Rattle.lalr_states.proofs.Distinct.{in-at}
+use Rattle.lalr_states.proofs.EntryLaws.{entry-line, one-entry, lines-length}
+use Rattle.lalr_states.specs.States.{range, keep, states}
+use Rattle.lalr_states.proofs.Lists.{in-range, range-in, keep-only, keep-every}
+use Rattle.lalr_states.proofs.Limits.{Limits, declared, wanted-short, wanted-filled}
+use Rattle.lalr.proofs.BuiltForm.{kernel-known}
 use Rattle.least_lookaheads.specs.StatesHeld.{entryTable, StatesHeld}
 
 -- ---- flags as codes

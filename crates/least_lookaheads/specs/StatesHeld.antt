@@ -11,9 +11,9 @@ use Rattle.memory.specs.Memory.{HoldsItems, HoldsEntries, stateAt, itemAt, dotA
 use Rattle.closure.specs.InMemory.{LineIs}
 use Rattle.moves.specs.Moves.{nextAt}
 use Rattle.entry_list.specs.Uses.{HoldsUses}
-use Rattle.lalr.specs.Strings.{entryStrings, entryLines}
-use Rattle.lalr.specs.States.{itemOf, dotOf, move, states, kernelOf, goto}
-use Rattle.lalr.specs.Limits.{Limits}
+use Rattle.lalr_states.specs.Strings.{entryStrings, entryLines}
+use Rattle.lalr_states.specs.States.{itemOf, dotOf, move, states, kernelOf, goto}
+use Rattle.lalr_states.proofs.Limits.{Limits}
 
 -- the entries of g, for what items mean
 abbrev pub entryTable : Grammar → Table

@@ -6,7 +6,7 @@ ghost use mathlib.Core.Path.{_≡_};
 ghost use Prim.Native.Nat.{_+_, _*_, _<_, _≤_};
 ghost use lib.ListN.{length};
 ghost use Rattle.language.specs.Grammar.{Grammar};
-ghost use Rattle.lalr.specs.Lookaheads.{Lookahead};
+ghost use Rattle.lalr_states.specs.Lookaheads.{Lookahead};
 ghost use Rattle.analysis.specs.FirstBy.{FirstBy};
 ghost use Rattle.closure.specs.Prepared.{Prepared};
 ghost use Rattle.kernel_lines.specs.Lines.{Lines};

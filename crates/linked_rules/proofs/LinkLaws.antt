@@ -9,12 +9,12 @@ use lib.Dec.{leb}
 use lib.ListN.{length, getD, length-map, length-append, List·getD-map, List·getD-eq-default}
 use borrow.Author.Tests.{leb-true, leb-false}
 use Rattle.language.specs.Grammar.{Grammar, Rule, ruleAt, at, concat}
-use Rattle.language.specs.GrammarLaws.{not-there, rule-range, range-rule, in-string}
+use Rattle.language.proofs.GrammarLaws.{not-there, rule-range, range-rule, in-string}
 use Rattle.language.specs.Listing.{unitOf, isUnit}
 use Rattle.language.specs.Sentence.{In, here, there}
 use Rattle.leftcorner.specs.Table.{Table, stateOf, entryFrom, groupsOf, groupEntries, automaton}
 use Rattle.leftcorner.specs.Construction.{EntryAt, of-group, EntriesMeet}
-use Rattle.leftcorner.specs.ReadOff.{found-entry}
+use Rattle.leftcorner.proofs.ReadOff.{found-entry}
 use Rattle.memory.specs.Memory.{HoldsEntries}
 use Rattle.memory.proofs.RangeLaws.{entry-range}
 use Rattle.entry_list.specs.Uses.{HoldsStrings, HoldsUses, entriesOf}

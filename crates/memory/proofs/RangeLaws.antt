@@ -5,7 +5,7 @@ use mathlib.Core.List.{List}
 use mathlib.Core.Option.{some}
 use native.Mathlib.Omega.{arith}
 use lib.ListN.{length}
-use Rattle.language.specs.GrammarLaws.{not-there, at-below, at-range}
+use Rattle.language.proofs.GrammarLaws.{not-there, at-below, at-range}
 use Rattle.leftcorner.specs.Table.{EntryLine, E, Table, entryAt}
 
 module _ (t : Table) {strings : ℕ} (count : length (t .entries) ≡ strings) where

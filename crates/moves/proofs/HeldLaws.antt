@@ -7,7 +7,7 @@ use mathlib.Core.Option.{some}
 use native.Mathlib.Omega.{arith}
 use lib.ListN.{replicate}
 use Rattle.language.specs.Grammar.{Grammar, Rule, ruleAt}
-use Rattle.language.specs.GrammarLaws.{rule-range, range-rule}
+use Rattle.language.proofs.GrammarLaws.{rule-range, range-rule}
 use Rattle.leftcorner.specs.Table.{Table}
 use Rattle.leftcorner.specs.Construction.{Has, in-kernel, MovedBy}
 use Rattle.leftcorner.specs.Construction as construction

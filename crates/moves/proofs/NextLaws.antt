@@ -9,7 +9,7 @@ use lib.ListN.{getD}
 use Rattle.language.specs.Grammar.{Grammar}
 use Rattle.leftcorner.specs.Table.{Table, Action, S, N, A, P, nextState, actionFor, gotoState}
 use Rattle.leftcorner.specs.Construction.{ActionAt}
-use Rattle.leftcorner.specs.ReadOff.{clash, action-is, action-back}
+use Rattle.leftcorner.proofs.ReadOff.{clash, action-is, action-back}
 use Rattle.memory.specs.Memory.{kindOf, valueOf}
 use Rattle.memory.specs.Held.{Held}
 use Rattle.moves.specs.Moves.{nextAt}

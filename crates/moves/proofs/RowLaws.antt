@@ -10,11 +10,11 @@ use lib.ListN.{length, getD, drop}
 use lib.Seq.{drop-cons}
 use Rattle.language.specs.Grammar.{Grammar, Rule, ruleAt, right, IsTerminal, IsNonterminal}
 use Rattle.language.specs.Sentence.{In, here}
-use Rattle.language.specs.Member.{in-drop}
+use Rattle.language.proofs.Member.{in-drop}
 use Rattle.leftcorner.specs.Table.{Table, stringOf, symbolsOf, recognitionPoint, Goes}
 use Rattle.leftcorner.specs.Construction.{entryItem, EntryAt}
-use Rattle.leftcorner.specs.ReadOff.{clash, stringAt}
-use Rattle.leftcorner.specs.Sources.{symbols-rule, point-rule, symbols-entry, point-entry}
+use Rattle.leftcorner.proofs.ReadOff.{clash, stringAt}
+use Rattle.leftcorner.proofs.Sources.{symbols-rule, point-rule, symbols-entry, point-entry}
 use Rattle.items.specs.Layout.{lengthAt, markAt, symbolAt, EntryIn}
 use Rattle.memory.specs.Held.{Held}
 use Rattle.moves.specs.Moves.{symbolAfter}

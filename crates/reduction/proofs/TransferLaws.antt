@@ -7,7 +7,7 @@ use native.Mathlib.Decide.{ℕ-discrete}
 use lib.ListN.{getD, set, replicate, length-replicate}
 use Rattle.language.specs.Grammar.{Grammar, Rule, right, ruleAt}
 use Rattle.language.specs.Sentence.{In, Productive, Reachable}
-use Rattle.language.specs.GrammarLaws.{rule-range, range-rule}
+use Rattle.language.proofs.GrammarLaws.{rule-range, range-rule}
 use Rattle.items.specs.Layout.{leftAt, symbolAt, Holds, Shaped}
 use Rattle.items.proofs.HoldsLaws.{symbol-in, in-symbol}
 use Rattle.fixpoint.specs.Flags.{On, Off, Marks}

@@ -4,9 +4,10 @@ use mathlib.Core.Path.{_≡_, refl, sym, ap, subst}
 use mathlib.Core.List.{List, [], _∷_}
 use mathlib.Core.Option.{Option, some, none}
 use Rattle.language.specs.Grammar.{Grammar, Rule, right, ruleAt, IsTerminal}
-use Rattle.language.specs.Derivation.{Tree, Forest, leaf, node, nil, cons, All, tree-ind, IsTree, IsForest}
+use Rattle.language.specs.Derivation.{Tree, Forest, leaf, node, nil, cons, IsTree, IsForest}
+use Rattle.language.proofs.Forests.{All, tree-ind}
 use Rattle.language.specs.Sentence.{In, here, there, Productive}
-use Rattle.language.specs.FirstLaws.{some-forest}
+use Rattle.language.proofs.FirstLaws.{some-forest}
 use Rattle.fixpoint.specs.Least.{Clauses, Least, seed, by, least-every}
 
 abbrev pub leftOf : Option Rule → ℕ

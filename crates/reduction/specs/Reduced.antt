@@ -7,12 +7,13 @@ use native.Mathlib.Omega.{arith}
 use lib.ListN.{length}
 use Rattle.language.specs.Grammar.{Grammar, Rule, right, ruleAt, IsTerminal, IsNonterminal}
 use Rattle.language.specs.Sentence.{In, Productive, Reachable, AllProductive}
-use Rattle.language.specs.GrammarLaws.{not-there, rule-range}
+use Rattle.language.proofs.GrammarLaws.{not-there, rule-range}
 use Rattle.fixpoint.specs.declared.Found.{Found}
-use Rattle.fixpoint.specs.Tests.{map?, both?, not?, not-not}
+use Rattle.fixpoint.proofs.Tests.{map?, both?, not?, not-not}
 use Rattle.fixpoint.specs.Least.{Least}
 use Rattle.fixpoint.specs.Lowest.{Lowest, lowest, lowest-is}
-use Rattle.fixpoint.specs.Decision.{Each, decide}
+use Rattle.fixpoint.specs.Each.{Each}
+use Rattle.fixpoint.proofs.Decision.{decide}
 use Rattle.reduction.specs.Strings.{each?, in?, numbers, numbers-all, occurrences, occurrences-all}
 use Rattle.reduction.specs.Derives.{leftOf, productions, rules-productive, productive-rules}
 use Rattle.reduction.specs.Reaches.{Occurrence, occurs, reaching, rules-reachable, reachable-rules}

@@ -8,9 +8,9 @@ use native.Mathlib.Decide.{ℕ-discrete}
 use native.Mathlib.Omega.{arith}
 use Rattle.language.specs.Grammar.{Rule, right, at}
 use Rattle.language.specs.Sentence.{In, here, there}
-use Rattle.language.specs.GrammarLaws.{not-there}
-use Rattle.fixpoint.specs.Tests.{map?, both?, either?}
-use Rattle.fixpoint.specs.Decision.{Each}
+use Rattle.language.proofs.GrammarLaws.{not-there}
+use Rattle.fixpoint.proofs.Tests.{map?, both?, either?}
+use Rattle.fixpoint.specs.Each.{Each}
 
 -- every symbol of a string
 pub on-each : {D : ℕ → Type 0} {X : ℕ} {β : List ℕ} → D X → ((a : ℕ) → In a β → D a) → (a : ℕ) → In a (X ∷ β) → D a

@@ -6,7 +6,7 @@ use mathlib.Core.List.{List}
 use lib.ListN.{length, take, replicate}
 use lib.Seq.{take-at}
 use borrow.Author.Tests.{le-leb}
-use Rattle.leftcorner.specs.ReadOff.{clash}
+use Rattle.leftcorner.proofs.ReadOff.{clash}
 use Rattle.reply.specs.declared.Kind.the-variants.{LimitExceeded}
 use Rattle.reply.specs.declared.Refusal.{Refusal}
 use Rattle.reply.specs.declared.Reply.{Reply}

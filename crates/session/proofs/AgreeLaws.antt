@@ -15,7 +15,7 @@ use Rattle.language.specs.Sentence.{In}
 use Rattle.leftcorner.specs.Machine.{Automaton, Cell, on, Event, announced, act, step, tell, land, shiftTo, popTo, walk}
 use Rattle.leftcorner.specs.Table.{EntryLine, E, Action, S, N, A, P, Table, entryAt, stateOf, actionFor, gotoState, cellOf, groupEntries, automaton}
 use Rattle.leftcorner.specs.Construction.{ActionAt}
-use Rattle.leftcorner.specs.ReadOff.{action-back}
+use Rattle.leftcorner.proofs.ReadOff.{action-back}
 use Rattle.memory.specs.Memory.{HoldsActions, kindOf, valueOf, popValue}
 use Rattle.memory.specs.Fits.{Fits}
 use Rattle.walk_tables.specs.Memory.{figureOf, gotoOf, cellAt, memoryRule, memoryGrammar, meaning, memoryAutomaton}

@@ -1,3 +1,5 @@
 pub mod AgreeLaws
 pub mod TableLaws
 pub mod BookLaws
+pub mod Demand3
+pub mod SessionLaws

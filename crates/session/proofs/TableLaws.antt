@@ -8,15 +8,15 @@ use mathlib.Core.List.{List, [], _∷_}
 use mathlib.Core.Option.{some}
 use lib.ListN.{length, getD, replicate}
 use Rattle.language.specs.Grammar.{Grammar, Rule, ruleAt}
-use Rattle.language.specs.GrammarLaws.{rule-range}
+use Rattle.language.proofs.GrammarLaws.{rule-range}
 use Rattle.language.specs.First.{First}
 use Rattle.language.specs.Listing.{unitsIn}
 use Rattle.language.specs.Sentence.{In}
-use Rattle.language.specs.Member.{in-cons}
+use Rattle.language.proofs.Member.{in-cons}
 use Rattle.leftcorner.specs.Machine.{Verdict, whole-at, wrong-at, short-at, walk}
 use Rattle.leftcorner.specs.Table.{Action, P, Table, stateOf, automaton}
 use Rattle.leftcorner.specs.Construction.{EntryAt, ActionAt, Asked, to-move, to-announce, to-pop}
-use Rattle.leftcorner.specs.ReadOff.{clash}
+use Rattle.leftcorner.proofs.ReadOff.{clash}
 use Rattle.fixpoint.specs.declared.Found.{Found}
 use Rattle.range.specs.Range.{within}
 use Rattle.range.proofs.RangeLaws.{within-true}

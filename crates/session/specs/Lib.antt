@@ -1,3 +1,2 @@
 pub mod Session
-pub mod SessionLaws
 pub mod Demand3

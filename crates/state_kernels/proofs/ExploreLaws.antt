@@ -8,14 +8,14 @@ use mathlib.Core.Logic.{_⊎_, inl, inr}
 use mathlib.Core.List.{List, []}
 use lib.ListN.{getD}
 use Rattle.language.specs.Grammar.{Grammar}
-use Rattle.lalr.specs.States.{Kernel, range, move, leave, explore}
-use Rattle.lalr.specs.States as lalr
-use Rattle.lalr.specs.Lists.{range-in}
-use Rattle.lalr.specs.Distinct.{Extends, kept}
-use Rattle.lalr.specs.Discovery.{leave-extends}
-use Rattle.lalr.specs.DiscoverySteps.{leave-over, explore-more, explore-done, explore-full}
-use Rattle.lalr.specs.MoveLaws.{move-outside}
-use Rattle.lalr.specs.StateLaws.{states-are}
+use Rattle.lalr_states.specs.States.{Kernel, range, move, leave, explore}
+use Rattle.lalr_states.specs.States as lalr
+use Rattle.lalr_states.proofs.Lists.{range-in}
+use Rattle.lalr_states.proofs.Distinct.{Extends, kept}
+use Rattle.lalr_states.proofs.Discovery.{leave-extends}
+use Rattle.lalr_states.proofs.DiscoverySteps.{leave-over, explore-more, explore-done, explore-full}
+use Rattle.lalr_states.proofs.MoveLaws.{move-outside}
+use Rattle.lalr_states.proofs.StateLaws.{states-are}
 use Rattle.kernel_moves.specs.Held.{HoldsGrammar}
 use Rattle.kernel_moves.specs.Moved.{picked, ListsMoves}
 use Rattle.kernel_sets.specs.Sets.{part, setsIn, Leads, movesBy}

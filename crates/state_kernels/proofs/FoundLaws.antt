@@ -9,12 +9,12 @@ use mathlib.Core.List.{List, []}
 use lib.ListN.{length, getD, take, drop, List·getD-eq-default}
 use lib.Seq.{getD-take, getD-drop, length-take-le}
 use Rattle.language.specs.Grammar.{Grammar}
-use Rattle.language.specs.GrammarLaws.{in-string}
-use Rattle.lalr.specs.States.{Kernel, itemOf, dotOf, total, move, kernelOf}
-use Rattle.lalr.specs.States as lalr
-use Rattle.lalr.specs.Discovery.{Fits}
-use Rattle.lalr.specs.MoveLaws.{move-nothing}
-use Rattle.lalr.specs.StateLaws.{goto-at}
+use Rattle.language.proofs.GrammarLaws.{in-string}
+use Rattle.lalr_states.specs.States.{Kernel, itemOf, dotOf, total, move, kernelOf}
+use Rattle.lalr_states.specs.States as lalr
+use Rattle.lalr_states.proofs.Discovery.{Fits}
+use Rattle.lalr_states.proofs.MoveLaws.{move-nothing}
+use Rattle.lalr_states.proofs.StateLaws.{goto-at}
 use Rattle.memory.specs.Memory.{itemAt, dotAt}
 use Rattle.kernel_moves.specs.Held.{HoldsGrammar}
 use Rattle.kernel_moves.specs.Moved.{Numbered}

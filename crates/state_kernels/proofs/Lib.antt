@@ -2,3 +2,4 @@ pub mod SeedLaws
 pub mod ExploreLaws
 pub mod LineLaws
 pub mod FoundLaws
+pub mod ItemLines

@@ -7,9 +7,9 @@ use mathlib.Core.List.{List, [], _∷_}
 use lib.ListN.{length, getD, set, take, drop, length-set}
 use lib.Seq.{drop-cons, ext-getD, getD-take, getD-set-same, getD-set-other, length-take-le}
 use Rattle.language.specs.Grammar.{Grammar}
-use Rattle.language.specs.GrammarLaws.{in-index}
-use Rattle.lalr.specs.Strings.{entryStrings}
-use Rattle.lalr.specs.StateLaws.{kernels-length, kernel-at, firstKernels}
+use Rattle.language.proofs.GrammarLaws.{in-index}
+use Rattle.lalr_states.specs.Strings.{entryStrings}
+use Rattle.lalr_states.proofs.StateLaws.{kernels-length, kernel-at, firstKernels}
 use Rattle.kernel_sets.specs.Sets.{part, setsIn}
 use Rattle.state_kernels.specs.Exploring.{Seeded}
 use Rattle.kernel_sets.proofs.SetLaws.{sets-length, sets-at}

@@ -4,9 +4,9 @@ use mathlib.Core.Path.{_≡_, refl, ap}
 use mathlib.Core.List.{List, [], _∷_}
 use lib.ListN.{length, getD, take}
 use Rattle.language.specs.Grammar.{Grammar}
-use Rattle.lalr.specs.States.{Kernel, itemOf, dotOf, total, move, kernelOf, goto}
-use Rattle.lalr.specs.States as lalr
-use Rattle.lalr.specs.Discovery.{Fits}
+use Rattle.lalr_states.specs.States.{Kernel, itemOf, dotOf, total, move, kernelOf, goto}
+use Rattle.lalr_states.specs.States as lalr
+use Rattle.lalr_states.proofs.Discovery.{Fits}
 use Rattle.memory.specs.Memory.{stateAt, itemAt, dotAt}
 use Rattle.kernel_lines.specs.Lines.{Lines}
 use Rattle.kernel_sets.specs.Cells.{shiftKind}

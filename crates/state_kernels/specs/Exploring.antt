@@ -6,10 +6,10 @@ use mathlib.Core.Logic.{_⊎_}
 use mathlib.Core.List.{List, []}
 use lib.ListN.{length, getD, take}
 use Rattle.language.specs.Grammar.{Grammar}
-use Rattle.lalr.specs.Strings.{entryStrings}
-use Rattle.lalr.specs.States.{Kernel, move, explore}
-use Rattle.lalr.specs.States as lalr
-use Rattle.lalr.specs.StateLaws.{firstKernels}
+use Rattle.lalr_states.specs.Strings.{entryStrings}
+use Rattle.lalr_states.specs.States.{Kernel, move, explore}
+use Rattle.lalr_states.specs.States as lalr
+use Rattle.lalr_states.proofs.StateLaws.{firstKernels}
 use Rattle.kernel_moves.specs.Held.{HoldsGrammar}
 use Rattle.kernel_moves.specs.Moved.{Numbered}
 use Rattle.kernel_sets.specs.Sets.{setsIn, Bounds, Leads}

@@ -1,4 +1,3 @@
 pub mod Exploring
 pub mod Lines
 pub mod Discovered
-pub mod ItemLines

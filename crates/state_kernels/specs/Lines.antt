@@ -3,7 +3,7 @@ use Prim.Native.Nat.{ℕ, _+_, _≤_, _<_}
 use mathlib.Core.Path.{_≡_}
 use mathlib.Core.List.{List}
 use lib.ListN.{getD}
-use Rattle.lalr.specs.States.{itemOf, dotOf}
+use Rattle.lalr_states.specs.States.{itemOf, dotOf}
 use Rattle.memory.specs.Memory.{stateAt, itemAt, dotAt}
 
 -- line l is that of number x in state q

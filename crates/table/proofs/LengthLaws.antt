@@ -10,7 +10,7 @@ use borrow.Author.Tests.{le-leb, lt-leb}
 use lib.Dec.{leb, ltb, eqb}
 use lib.ListN.{length, getD, drop}
 use Rattle.language.specs.Grammar.{Grammar, Rule, right, at, ruleAt, concat}
-use Rattle.language.specs.GrammarLaws.{at-below}
+use Rattle.language.proofs.GrammarLaws.{at-below}
 use Rattle.language.specs.WellFormed.{WellFormed}
 use Rattle.range.specs.Range.{within}
 use Rattle.range.proofs.RangeLaws.{within-true}

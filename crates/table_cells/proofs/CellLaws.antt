@@ -11,26 +11,27 @@ use borrow.Author.Tests.{lt-ltb, leb-true}
 use lib.Dec.{leb}
 use lib.ListN.{length, getD}
 use Rattle.language.specs.Grammar.{Grammar}
-use Rattle.language.specs.GrammarLaws.{rule-range}
-use Rattle.language.specs.Strings.{AllDeclared}
+use Rattle.language.proofs.GrammarLaws.{rule-range}
+use Rattle.language.proofs.Strings.{AllDeclared}
 use Rattle.leftcorner.specs.Claim.{_↔_}
 use Rattle.leftcorner.specs.Table.{Action, S, N, A, P}
 use Rattle.leftcorner.specs.Construction.{Asked, to-announce, EntriesMeet, CellsAgree}
-use Rattle.leftcorner.specs.ReadOff.{clash}
-use Rattle.leftcorner.specs.Swap.{flip, asked-over, agree-over}
+use Rattle.leftcorner.proofs.ReadOff.{clash}
+use Rattle.leftcorner.proofs.Swap.{flip, asked-over, agree-over}
 use Rattle.analysis.specs.ByRules.{FirstByRules}
-use Rattle.analysis.specs.Decided.{first?}
+use Rattle.analysis.proofs.Decided.{first?}
 use Rattle.fixpoint.specs.Flags.{Decides}
 use Rattle.memory.specs.Memory.{popValue}
 use Rattle.analysis.specs.FirstBy.{FirstBy}
 use Rattle.cells.specs.Demands.{HoldsAsked}
-use Rattle.lalr.specs.States.{states, goto}
-use Rattle.lalr.specs.EntryLaws.{entries-meet}
-use Rattle.lalr.specs.Limits.{declared}
-use Rattle.lalr.specs.LineLaws.{same-entries}
-use Rattle.lalr.specs.CellLaws.{cell-asked, cell-moves, cell-some}
-use Rattle.lalr.specs.BuiltForm.{asked-place}
-use Rattle.lalr.specs.Builder.{terminalCodes, first-in, codes-low}
+use Rattle.lalr_states.specs.States.{states, goto}
+use Rattle.lalr_states.proofs.EntryLaws.{entries-meet}
+use Rattle.lalr_states.proofs.Limits.{declared}
+use Rattle.lalr.proofs.LineLaws.{same-entries}
+use Rattle.lalr.proofs.CellLaws.{cell-asked, cell-moves, cell-some}
+use Rattle.lalr.proofs.BuiltForm.{asked-place}
+use Rattle.lalr_states.specs.Lookaheads.{terminalCodes}
+use Rattle.lalr_states.proofs.CodeLaws.{first-in, codes-low}
 use Rattle.table_cells.specs.Fill.{Stored, StoredAt, KeptAt, FillsState}
 use Rattle.table_cells.specs.Cells.{itemsOf, cellOf, AskedOf, Agree, ShiftAt, HoldsLines, CellIs, StateFilled, Filling}
 use Rattle.table_cells.proofs.FillLaws.{kept-same, kept-then}

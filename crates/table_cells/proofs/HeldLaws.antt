@@ -8,9 +8,9 @@ use lib.ListN.{length}
 use Rattle.language.specs.Grammar.{Grammar}
 use Rattle.leftcorner.specs.Table.{E, Table, actionFor, gotoState}
 use Rattle.leftcorner.specs.Construction.{EntryAt, KernelAt, WellFormed}
-use Rattle.leftcorner.specs.ReadOff.{clash}
+use Rattle.leftcorner.proofs.ReadOff.{clash}
 use Rattle.analysis.specs.ByRules.{FirstByRules}
-use Rattle.analysis.specs.Decided.{first?}
+use Rattle.analysis.proofs.Decided.{first?}
 use Rattle.memory.specs.Memory.{HoldsActions, kindOf, valueOf}
 use Rattle.memory.specs.Fits.{Fits}
 use Rattle.memory.specs.Held.{Held}
@@ -18,15 +18,17 @@ use Rattle.closure.specs.InMemory.{InMemory}
 use Rattle.closure.proofs.UseLaws.{in-memory}
 use Rattle.moves.specs.Moves.{Readable}
 use Rattle.carried.specs.Rows.{Ready}
-use Rattle.lalr.specs.Distinct.{at-in}
-use Rattle.lalr.specs.EntryLaws.{lines-length}
-use Rattle.lalr.specs.Over.{entry-over, symbols-over}
-use Rattle.lalr.specs.Strings.{entryStrings}
-use Rattle.lalr.specs.LineLaws.{same-entries}
-use Rattle.lalr.specs.BuiltForm.{entries-both, to-built}
-use Rattle.lalr.specs.ItemForm.{items-states, items-lines, no-line, no-action, items-form}
-use Rattle.lalr.specs.Readable as lalr
-use Rattle.lalr.specs.Builder.{terminalCodes, first-in, codes-low, builder-form}
+use Rattle.lalr_states.proofs.Distinct.{at-in}
+use Rattle.lalr_states.proofs.EntryLaws.{lines-length}
+use Rattle.lalr.proofs.Over.{entry-over, symbols-over}
+use Rattle.lalr_states.specs.Strings.{entryStrings}
+use Rattle.lalr.proofs.LineLaws.{same-entries}
+use Rattle.lalr.proofs.BuiltForm.{entries-both, to-built}
+use Rattle.lalr.proofs.ItemForm.{items-states, items-lines, no-line, no-action, items-form}
+use Rattle.lalr.proofs.Readable as lalr
+use Rattle.lalr_states.specs.Lookaheads.{terminalCodes}
+use Rattle.lalr_states.proofs.CodeLaws.{first-in, codes-low}
+use Rattle.lalr.proofs.BuilderLaws.{builder-form}
 use Rattle.table_cells.specs.Cells.{itemsOf, tableOf, HoldsLines, Sized}
 
 -- a table without action lines: its cells are empty

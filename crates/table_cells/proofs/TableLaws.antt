@@ -12,14 +12,15 @@ use lib.Dec.{ltb}
 use lib.ListN.{length, getD}
 use Rattle.language.specs.Grammar.{Grammar}
 use Rattle.leftcorner.specs.Table.{Action, S, N, A, P, actionFor, gotoState}
-use Rattle.leftcorner.specs.ReadOff.{clash, action-back, action-is}
+use Rattle.leftcorner.proofs.ReadOff.{clash, action-back, action-is}
 use Rattle.analysis.specs.ByRules.{FirstByRules}
-use Rattle.analysis.specs.Decided.{first?}
-use Rattle.lalr.specs.States.{states, goto}
-use Rattle.lalr.specs.CellLaws.{cell-moves, cell-some, cell-move}
-use Rattle.lalr.specs.BuiltForm as book
-use Rattle.lalr.specs.BuiltForm.{is-action}
-use Rattle.lalr.specs.Builder.{terminalCodes, first-in}
+use Rattle.analysis.proofs.Decided.{first?}
+use Rattle.lalr_states.specs.States.{states, goto}
+use Rattle.lalr.proofs.CellLaws.{cell-moves, cell-some, cell-move}
+use Rattle.lalr.proofs.BuiltForm as book
+use Rattle.lalr.proofs.BuiltForm.{is-action}
+use Rattle.lalr_states.specs.Lookaheads.{terminalCodes}
+use Rattle.lalr_states.proofs.CodeLaws.{first-in}
 use Rattle.table_cells.specs.Fill.{KeptAt}
 use Rattle.table_cells.specs.Cells.{tableOf, cellOf, AskedOf, Agree, HoldsMoves, HoldsLines, CellIs, Filling, Filled}
 use Rattle.table_cells.proofs.HeldLaws.{form}

@@ -11,16 +11,17 @@ use Rattle.leftcorner.specs.Claim.{_↔_}
 use Rattle.leftcorner.specs.Table.{Action, S, Table}
 use Rattle.leftcorner.specs.Construction.{Asked, CellsAgree}
 use Rattle.analysis.specs.ByRules.{FirstByRules}
-use Rattle.analysis.specs.Decided.{first?}
+use Rattle.analysis.proofs.Decided.{first?}
 use Rattle.memory.specs.Memory.{HoldsItems, HoldsEntries, HoldsKernels, HoldsActions, kindOf, valueOf}
 use Rattle.analysis.specs.FirstBy.{FirstBy}
 use Rattle.closure.specs.Prepared.{Prepared}
 use Rattle.moves.specs.Moves.{Lined}
-use Rattle.lalr.specs.Strings.{entryStrings}
-use Rattle.lalr.specs.States.{total, states, goto}
-use Rattle.lalr.specs.Limits.{Limits}
+use Rattle.lalr_states.specs.Strings.{entryStrings}
+use Rattle.lalr_states.specs.States.{total, states, goto}
+use Rattle.lalr_states.proofs.Limits.{Limits}
 use Rattle.lalr.specs.Built.{items, cellAction, built}
-use Rattle.lalr.specs.Builder.{terminalCodes, first-in}
+use Rattle.lalr_states.specs.Lookaheads.{terminalCodes}
+use Rattle.lalr_states.proofs.CodeLaws.{first-in}
 use Rattle.table_cells.specs.Fill.{KeptAt}
 
 -- the table that the builder writes, and what it is without its action lines

@@ -15,7 +15,7 @@ use lib.Seq.{getD-drop}
 use Rattle.language.specs.Grammar.{at}
 use Rattle.leftcorner.specs.Table.{EntryLine, E, sameString, entryFrom}
 use Rattle.items.specs.Layout.{EntryIn, lengthAt, symbolAt}
-use Rattle.language.specs.GrammarLaws.{at-below}
+use Rattle.language.proofs.GrammarLaws.{at-below}
 use Rattle.table_lines.specs.Block.{Numbers}
 use Rattle.table_entries.specs.Memory.{Rows}
 

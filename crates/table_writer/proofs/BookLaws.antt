@@ -6,7 +6,7 @@ use native.Mathlib.Decide.{decLe}
 use native.Mathlib.Omega.{arith}
 use lib.ListN.{length, take, set, replicate, length-take, length-map}
 use lib.Seq.{sets, take-all, take-nil, take-take}
-use Rattle.lalr.specs.States.{range}
+use Rattle.lalr_states.specs.States.{range}
 use Rattle.lalr.specs.Built.{actionsOf}
 use Rattle.lalr.specs.Text.{line, entryText, kernelText, actionText, tableText}
 use Rattle.table_writer.specs.MemoryTable.{entryIn, kernelIn, actionIn, memoryTable, memoryText}

@@ -1,3 +1,6 @@
 pub mod SinkLaws
 pub mod TextLaws
 pub mod BookLaws
+pub mod BuiltOrder
+pub mod InMemory
+pub mod ActionLines

@@ -8,7 +8,7 @@ use lib.ListN.{length, take, set, length-append}
 use lib.Seq.{sets, set-out, take-all, take-nil, take-append-le, take-append-add, length-sets}
 use Rattle.language.specs.Grammar.{concat}
 use Rattle.items.proofs.StoreLaws.{sets-join}
-use Rattle.lalr.specs.States.{range}
+use Rattle.lalr_states.specs.States.{range}
 use Rattle.table_writer.specs.Sink.{Wrote}
 
 -- ---- one byte

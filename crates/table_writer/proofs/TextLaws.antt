@@ -9,7 +9,7 @@ use lib.ListN.{getD}
 use Rattle.leftcorner.specs.Table.{E, K, Action, ActionLine}
 use Rattle.items.specs.Layout.{lengthAt, symbolAt}
 use Rattle.fixpoint.specs.Flags.{On}
-use Rattle.lalr.specs.States.{range, keepIf, keep}
+use Rattle.lalr_states.specs.States.{range, keepIf, keep}
 use Rattle.lalr.specs.Built.{lineIf, actionsOn, actionsOf}
 use Rattle.lalr.specs.Text.{lead, digits, fields, line, entryText, kernelText, actionBytes, actionText}
 use Rattle.table_writer.specs.MemoryTable.{symbolsIn, on?, setIn, cellIn, gotoIn, actionIn, linesIn}

@@ -12,7 +12,7 @@ use Rattle.leftcorner.specs.Table.{EntryLine, E, KernelLine, K, Action, S, N, A
 use Rattle.items.specs.Layout.{Shaped, lengthAt, symbolAt}
 use Rattle.fixpoint.specs.Flags.{On}
 use Rattle.memory.specs.Memory.{stateAt, itemAt, dotAt}
-use Rattle.lalr.specs.States.{range, keep}
+use Rattle.lalr_states.specs.States.{range, keep}
 use Rattle.lalr.specs.Built.{actionsOn, actionsOf}
 use Rattle.lalr.specs.Text.{tableText}
 

@@ -8,7 +8,7 @@ ghost use Prim.Native.Nat.{_+_, _*_, _<_, _≤_, min};
 ghost use lib.ListN.{length, replicate};
 ghost use Rattle.items.specs.Layout.{Shaped};
 ghost use Rattle.memory.specs.Memory.{stateAt, itemAt, dotAt};
-ghost use Rattle.lalr.specs.States.{range};
+ghost use Rattle.lalr_states.specs.States.{range};
 ghost use Rattle.lalr.specs.Built.{lineIf, actionsOf};
 ghost use Rattle.lalr.specs.Text.{lead, fields, line, entryText, kernelText, actionText};
 ghost use Rattle.table_writer.specs.MemoryTable.{symbolsIn, entryIn, setIn, codesIn, kernelIn, cellIn, gotoIn, actionIn, linesIn, memoryText, Sized};

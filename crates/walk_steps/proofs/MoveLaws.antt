@@ -8,7 +8,7 @@ use lib.ListN.{length, getD, set, drop, take, length-set, length-drop}
 use lib.Seq.{length-take-le, take-suc-set, drop-drop, getD-set-same}
 use Rattle.language.specs.Grammar.{Grammar, ruleAt}
 use Rattle.language.specs.First.{next}
-use Rattle.leftcorner.specs.Bounded.{fits-yes}
+use Rattle.leftcorner.proofs.Bounded.{fits-yes}
 use Rattle.leftcorner.specs.Machine.{Automaton, Event, Outcome, on, rulesOf, toCome, taken, shiftTo, popTo, tell, Verdict}
 use Rattle.walk_tables.specs.Memory.{figureOf, groupEntries, memoryGrammar, memoryAutomaton}
 use Rattle.walk_tables.proofs.MemoryLaws.{unit-is}

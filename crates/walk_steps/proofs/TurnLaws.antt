@@ -9,7 +9,7 @@ use native.Mathlib.Omega.{arith}
 use lib.ListN.{length, take}
 use Rattle.language.specs.Grammar.{Grammar, Rule, ruleAt}
 use Rattle.language.specs.Listing.{unitsIn, isUnit, unitOf}
-use Rattle.leftcorner.specs.Bounded.{fits-no}
+use Rattle.leftcorner.proofs.Bounded.{fits-no}
 use Rattle.leftcorner.specs.Machine.{Automaton, Event, Outcome, on, whole, wrong, rulesOf, shiftTo, popTo, Verdict, whole-at, wrong-at, short-at}
 use Rattle.leftcorner.specs.Machine as machine
 use Rattle.walk_steps.specs.declared.Position.{Position}

@@ -7,7 +7,7 @@ use lib.ListN.{length, getD, set, take, drop, length-set}
 use lib.Seq.{getD-set-same, length-take-le}
 use Rattle.language.specs.Grammar.{Grammar}
 use Rattle.language.specs.First.{next}
-use Rattle.leftcorner.specs.Bounded.{fits-yes}
+use Rattle.leftcorner.proofs.Bounded.{fits-yes}
 use Rattle.leftcorner.specs.Machine.{Verdict, step, walkFor}
 use Rattle.reply.specs.declared.Kind.the-variants.{BufferTooSmall, SyntaxError}
 use Rattle.walk_tables.specs.Memory.{memoryGrammar, memoryAutomaton}

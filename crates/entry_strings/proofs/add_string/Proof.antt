@@ -4,7 +4,7 @@ use borrow.Author.Needs.{needs}
 use denote.Ref.{now}
 use lib.ListN.{take, drop}
 use Rattle.table_lines.specs.Block.{Numbers}
-use Rattle.lalr.specs.Strings.{entryLines}
+use Rattle.lalr_states.specs.Strings.{entryLines}
 use Rattle.entry_strings.proofs.NumberLaws.{string-fits, numbers-held}
 use Rattle.entry_strings.proofs.StoreLaws.{grown-same, grown-more, lines-count, rows-in, stored-same, stored-more}
 use Rattle.entry_strings.proofs.add_string.Statement.{statement}

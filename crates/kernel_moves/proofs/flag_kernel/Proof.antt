@@ -4,7 +4,7 @@ use Prim.Native.Nat.{_≤_, _-_}
 use native.Mathlib.Omega.{arith}
 use lib.ListN.{length, take}
 use borrow.Author.Needs.{needs}
-use Rattle.language.specs.GrammarLaws.{in-string}
+use Rattle.language.proofs.GrammarLaws.{in-string}
 use Rattle.analysis.proofs.AddLaws.{adds-one}
 use Rattle.analysis.specs.Adds.{Adds}
 use Rattle.kernel_moves.specs.Moved.{OfNumber, StandsBefore, SameNumber}

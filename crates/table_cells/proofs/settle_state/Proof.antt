@@ -1,7 +1,7 @@
 use mathlib.Core.Path.{refl}
 use borrow.Author.Needs.{needs}
 use borrow.Author.Tests.{not-true, not-false}
-use Rattle.leftcorner.specs.ReadOff.{clash}
+use Rattle.leftcorner.proofs.ReadOff.{clash}
 use Rattle.fixpoint.proofs.PassLaws.{is-yes, is-no}
 use Rattle.table_cells.proofs.HeldLaws.{held}
 use Rattle.table_cells.proofs.CellLaws.{agree-decided, state-filled}

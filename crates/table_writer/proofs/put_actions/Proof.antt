@@ -2,7 +2,7 @@
 use Prim.Native.Nat.{_+_, _≤_, _-_}
 use native.Mathlib.Omega.{arith}
 use borrow.Author.Needs.{needs}
-use Rattle.lalr.specs.States.{range}
+use Rattle.lalr_states.specs.States.{range}
 use Rattle.lalr.specs.Text.{actionText}
 use Rattle.table_writer.specs.MemoryTable.{linesIn}
 use Rattle.table_writer.proofs.SinkLaws.{Through, through-none, through-more, through-all, wrote-length}

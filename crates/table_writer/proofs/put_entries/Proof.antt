@@ -4,7 +4,7 @@ use mathlib.Core.List.{_∷_}
 use native.Mathlib.Omega.{arith}
 use borrow.Author.Needs.{needs}
 use lib.ListN.{getD}
-use Rattle.lalr.specs.States.{range}
+use Rattle.lalr_states.specs.States.{range}
 use Rattle.lalr.specs.Text.{line}
 use Rattle.table_writer.specs.MemoryTable.{symbolsIn}
 use Rattle.table_writer.proofs.SinkLaws.{in-words, Through, through-none, through-more, through-all, wrote-length}

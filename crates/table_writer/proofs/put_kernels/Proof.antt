@@ -4,7 +4,7 @@ use mathlib.Core.List.{_∷_}
 use native.Mathlib.Omega.{arith}
 use borrow.Author.Needs.{needs}
 use Rattle.memory.specs.Memory.{stateAt, itemAt, dotAt}
-use Rattle.lalr.specs.States.{range}
+use Rattle.lalr_states.specs.States.{range}
 use Rattle.lalr.specs.Text.{line}
 use Rattle.table_writer.specs.MemoryTable.{codesIn}
 use Rattle.table_writer.proofs.SinkLaws.{Through, through-none, through-more, through-all, wrote-length}

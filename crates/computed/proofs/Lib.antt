@@ -1,0 +1,9 @@
+pub mod First
+pub mod Moves
+pub mod Lookaheads
+pub mod States
+pub mod Asked
+pub mod Table
+pub mod Work
+pub mod Cells
+pub mod Computed

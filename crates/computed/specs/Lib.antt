@@ -1,9 +1,0 @@
-pub mod Work
-pub mod First
-pub mod Moves
-pub mod States
-pub mod Lookaheads
-pub mod Asked
-pub mod Cells
-pub mod Table
-pub mod Computed

@@ -1,0 +1,15 @@
+pub mod Once
+pub mod Readable
+pub mod CellLaws
+pub mod CellCases
+pub mod Live
+pub mod Carried
+pub mod MeetsBuilt
+pub mod BookLaws
+pub mod BuiltForm
+pub mod Over
+pub mod Least
+pub mod Conflicts
+pub mod ItemForm
+pub mod LineLaws
+pub mod BuilderLaws

@@ -1,0 +1,10 @@
+pub mod Lists
+pub mod Distinct
+pub mod EntryLaws
+pub mod Limits
+pub mod MoveLaws
+pub mod Discovery
+pub mod DiscoverySteps
+pub mod StateLaws
+pub mod LookaheadDecided
+pub mod CodeLaws

@@ -1,0 +1,10 @@
+pub mod Forests
+pub mod TraceLaws
+pub mod Announced
+pub mod Lists
+pub mod Prefix
+pub mod Replay
+pub mod FirstLaws
+pub mod GrammarLaws
+pub mod Member
+pub mod Strings

@@ -1,0 +1,7 @@
+pub mod Actions
+pub mod Digits
+pub mod Book
+pub mod Line
+pub mod Kernels
+pub mod Entries
+pub mod Block

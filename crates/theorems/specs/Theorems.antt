@@ -1,0 +1,46 @@
+-- The theorems that a customer relies on. Each is stated here in full over names that can be looked up; docs/ARCHITECTURE.md, 'What to believe',
+-- lists the files that define them, in reading order. What the calls answer is said by their contracts (crates/NAME/src/lib.rt), as equations with
+-- the definitions `verdictOf`, `session` and `buildOf`, for all bytes and lengths.
+use Prim.Native.Nat.{ℕ, _≤_}
+use mathlib.Core.Path.{_≡_}
+use mathlib.Core.List.{List, [], _∷_}
+use lib.ListN.{length}
+use Rattle.language.specs.Grammar.{Grammar, IsTerminal}
+use Rattle.language.specs.Sentence.{In}
+use Rattle.leftcorner.specs.Table.{Table}
+use Rattle.leftcorner.specs.Claim.{_↔_}
+use Rattle.reply.specs.declared.Reply.the-variants.{Accepted}
+use Rattle.fixpoint.specs.Each.{Each}
+use Rattle.grammar.specs.Book.{accepted, grammarOf}
+use Rattle.checker.specs.Checked.{verdictOf, Accepts}
+use Rattle.checker.proofs.Exactly as checker
+use Rattle.session.specs.Demand3.{Demanded}
+use Rattle.session.proofs.Demand3 as session
+use Rattle.builder_promise.specs.Promise.{Promise}
+use Rattle.builder_promise.proofs.Promise as builder
+use Rattle.worked_examples.specs.Books.{smallest, g1, g1-cut, d}
+use Rattle.worked_examples.specs.Built.{Built}
+use Rattle.worked_examples.specs.Starred.{Proved, sessions}
+use Rattle.worked_examples.proofs.Built as books
+use Rattle.worked_examples.proofs.Starred as examples
+
+-- Demand 2: "Tables are accepted if and only if their items, contexts and cells meet the left-corner construction of document 01."
+pub accepted-exactly : (gs s : List ℕ) → (verdictOf gs s ≡ Accepted 0) ↔ ((g : Grammar) × (t : Table) × Accepts gs s g t)
+accepted-exactly = checker.exactly
+
+-- and the builder, of any book that is read as a grammar: `Promise` has the sentences, one by one
+pub builder-promise : (gs : List ℕ) (g : Grammar) → grammarOf gs ≡ accepted g → Promise gs g
+builder-promise = builder.builder-promise
+
+-- Demand 3, of any two books that are accepted, whoever built the tables: `Demanded` has its sentences, one by one
+pub demand3 : (gs s : List ℕ) → verdictOf gs s ≡ Accepted 0
+    → (g : Grammar) × (t : Table) × Accepts gs s g t
+    × ((w : List ℕ) → length w ≤ 65535 → ((a : ℕ) → In a w → IsTerminal g a) → Demanded gs s g t w)
+demand3 = session.demand3
+
+-- None of them speaks of nothing: the books of document 01 are built and accepted, and its starred sessions answer what is told
+pub built : Each Built (smallest ∷ g1 ∷ g1-cut ∷ d ∷ [])
+built = books.built
+
+pub starred : Each Proved sessions
+starred = examples.starred

@@ -1,0 +1,4 @@
+pub mod Built
+pub mod Starred
+pub mod Computing
+pub mod Laws
