@@ -6,10 +6,15 @@ use Rattle.build_memory.proofs.build_stated.Statement.{statement}
 use Rattle.build_memory.proofs.build_stated.Tie as tie
 
 number-entries-requires : tie.Need-number-entries-requires
-number-entries-requires c κs = let s = c .before .before .before .before .before .before .before .before in (few-strings (s .pre .0 .is .entered), s .pre .1 .1 .0)
+number-entries-requires c κs =
+    let start = c .before .before .before .before .before .before .before .before in
+    (few-strings (start .pre .0 .is .entered), start .pre .1 .1 .0)
 
 settle-cells-requires : tie.Need-settle-cells-requires
-settle-cells-requires c κs = let s = c .before .before .before .before .before .before .before .before .before .before .before .before .before .before .before in (s .pre .0, (s .pre .1 .0, (c .before .before .before .before .before .before .number-entries .ensures, s .pre .1 .1 .1)))
+settle-cells-requires c κs =
+    let at-number-entries = c .before .before .before .before .before .before in
+    let start = at-number-entries .before .before .before .before .before .before .before .before .before in
+    (start .pre .0, (start .pre .1 .0, (at-number-entries .number-entries .ensures, start .pre .1 .1 .1)))
 
 same-length : tie.Need-same-length
 same-length c = search needs
@@ -24,7 +29,15 @@ same-length-4 : tie.Need-same-length-4
 same-length-4 c = search needs
 
 returns : tie.Need-returns
-returns c = λ gs g e T. let w = c .before .before .before .before .before .before .before .settle-cells .ensures in (c .if1 .taken, constructed-of e T (c .before .before .before .before .before .before .before .before .before .before .before .before .before .before .number-entries .ensures) (w .1 g T) refl (w .0 .1) (w .0 .0))
+returns c =
+    let at-settle-cells = c .before .before .before .before .before .before .before in
+    λ gs g e T.
+    let w = at-settle-cells .settle-cells .ensures in (
+      c .if1 .taken,
+      constructed-of e T
+          (at-settle-cells .before .before .before .before .before .before .before .number-entries .ensures) (w .1 g T)
+          refl (w .0 .1) (w .0 .0),
+    )
 
 same-length-5 : tie.Need-same-length-5
 same-length-5 c = search needs
@@ -39,7 +52,13 @@ same-length-8 : tie.Need-same-length-8
 same-length-8 c = search needs
 
 returns-2 : tie.Need-returns-2
-returns-2 c = λ gs g e T. let w = c .before .before .before .before .before .before .before .settle-cells .ensures in constructed-of e T (c .before .before .before .before .before .before .before .before .before .before .before .before .before .before .number-entries .ensures) (w .1 g T) (c .if1 .left) (w .0 .1) (w .0 .0)
+returns-2 c =
+    let at-settle-cells = c .before .before .before .before .before .before .before in
+    λ gs g e T.
+    let w = at-settle-cells .settle-cells .ensures in
+    constructed-of e T
+    (at-settle-cells .before .before .before .before .before .before .before .number-entries .ensures) (w .1 g T)
+    (c .if1 .left) (w .0 .1) (w .0 .0)
 
 pub build-stated-spec : {M : Type 1} → statement M
 build-stated-spec =

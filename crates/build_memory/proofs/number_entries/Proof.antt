@@ -30,7 +30,12 @@ loop-less : tie.Need-loop-less Inv-loop μ-loop
 loop-less c = search needs
 
 loop-again : tie.Need-loop-again Inv-loop μ-loop
-loop-again c = let o = c .before .loop in (omega (arith, c .loop-test .taken), search needs, number-more (o .entries) (omega (arith, o .inv .1, c .loop-test .taken, c .before .before .pre .0)) (o .inv .2))
+loop-again c =
+    let o = c .before .loop in (
+      omega (arith, c .loop-test .taken),
+      search needs,
+      number-more (o .entries) (omega (arith, o .inv .1, c .loop-test .taken, c .before .before .pre .0)) (o .inv .2),
+    )
 
 same-length : tie.Need-same-length Inv-loop μ-loop
 same-length c = search needs

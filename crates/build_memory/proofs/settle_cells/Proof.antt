@@ -18,7 +18,9 @@ slice-aggregate-entries-meet : tie.Need-slice-aggregate-entries-meet
 slice-aggregate-entries-meet c = search needs
 
 entries-meet-requires : tie.Need-entries-meet-requires
-entries-meet-requires c κs = let s = c .before .before .before .before .before .before .before .before in let S = s .pre .0 .is in let E = S .entered in let R = s .pre .1 .0 in let N = s .pre .1 .1 .0 in
+entries-meet-requires c κs =
+    let S = c .before .before .before .before .before .before .before .before .pre .0 .is in
+    let E = S .entered in
     (E .shaped, ((few-rules E, some-strings E, few-strings E), refl))
 
 slice-aggregate-find-sets : tie.Need-slice-aggregate-find-sets
@@ -28,7 +30,9 @@ slice-aggregate-find-sets-2 : tie.Need-slice-aggregate-find-sets-2
 slice-aggregate-find-sets-2 c = search needs
 
 find-sets-requires : tie.Need-find-sets-requires
-find-sets-requires c κs = let s = c .before .before .before .before .before .before .before .before .before .before .before .before in let S = s .pre .0 .is in let E = S .entered in let R = s .pre .1 .0 in let N = s .pre .1 .1 .0 in
+find-sets-requires c κs =
+    let S = c .before .before .before .before .before .before .before .before .before .before .before .before .pre .0 .is in
+    let E = S .entered in
     (shaped-less _ (E .shaped), (few-terminals E, (refl, refl)))
 
 slice-aggregate-prepare-rules : tie.Need-slice-aggregate-prepare-rules
@@ -44,14 +48,22 @@ slice-aggregate-prepare-rules-4 : tie.Need-slice-aggregate-prepare-rules-4
 slice-aggregate-prepare-rules-4 c = search needs
 
 prepare-rules-requires : tie.Need-prepare-rules-requires
-prepare-rules-requires c κs = let s = c .before .before .before .before .before .before .before .before .before .before .before .before .before .before .before .before .before .before .before in let S = s .pre .0 .is in let E = S .entered in let R = s .pre .1 .0 in let N = s .pre .1 .1 .0 in let k = c .before .before .before .before .before .before .find-sets .kept in
-    (E .shaped, ((within _ _, few-rules E, few-codes-of (few-terminals E)), ((k .1 .1 .1 .0, k .1 .1 .1 .1 .0), (refl, refl))))
+prepare-rules-requires c κs =
+    let at-find-sets = c .before .before .before .before .before .before in
+    let S = at-find-sets .before .before .before .before .before .before .before .before .before .before .before .before .before .pre .0 .is in
+    let E = S .entered in
+    let k = at-find-sets .find-sets .kept in (
+      E .shaped,
+      ((within _ _, few-rules E, few-codes-of (few-terminals E)), ((k .1 .1 .1 .0, k .1 .1 .1 .1 .0), (refl, refl))),
+    )
 
 slice-aggregate-link-lines : tie.Need-slice-aggregate-link-lines
 slice-aggregate-link-lines c = search needs
 
 link-lines-requires : tie.Need-link-lines-requires
-link-lines-requires c κs = let s = c .before .before .before .before .before .before .before .before .before .before .before .before .before .before .before .before .before .before .before .before .before .before .before in let S = s .pre .0 .is in let E = S .entered in let R = s .pre .1 .0 in let N = s .pre .1 .1 .0 in
+link-lines-requires c κs =
+    let S = c .before .before .before .before .before .before .before .before .before .before .before .before .before .before .before .before .before .before
+    .before .before .before .before .before .pre .0 .is in
     (S .safe .some-lines, refl)
 
 slice-aggregate-find-lookaheads : tie.Need-slice-aggregate-find-lookaheads
@@ -73,22 +85,53 @@ slice-aggregate-find-lookaheads-6 : tie.Need-slice-aggregate-find-lookaheads-6
 slice-aggregate-find-lookaheads-6 c = search needs
 
 find-lookaheads-requires : tie.Need-find-lookaheads-requires
-find-lookaheads-requires c κs = let s = c .before .before .before .before .before .before .before .before .before .before .before .before .before .before .before .before .before .before .before .before .before .before .before .before .before .before .before .before .before .before .before .before .before .before in let S = s .pre .0 .is in let E = S .entered in let R = s .pre .1 .0 in let N = s .pre .1 .1 .0 in let m = c .before .before .before .before .before .before .before .before .before .before .before .before .before .before .prepare-rules in (
-  record { lined = record { shaped = E .shaped; some-lines = S .safe .some-lines; linked = c .before .before .before .before .before .before .before .before .before .before .link-lines .ensures }; ready = record { shaped = E .shaped; few-codes = few-codes-of (few-terminals E); nul-room = c .before .before .before .before .before .before .before .before .before .before .before .before .before .before .before .before .before .before .before .before .before .find-sets .kept .1 .1 .1 .0; fst-room = c .before .before .before .before .before .before .before .before .before .before .before .before .before .before .before .before .before .before .before .before .before .find-sets .kept .1 .1 .1 .1 .0 }; few-rules = few-rules E; rules-within = within _ _; entries-room = omega (arith, N .room); uses-room = omega (arith, c .before .before .before .before .before .before .before .before .before .before .before .before .before .before .before .before .before .before .before .before .before .before .before .before .before .entries-meet .ensures .0) },
-  (
-    record { kinds-room = omega (arith, R .kinds-room); values-room = omega (arith, R .values-room); gotos-room = omega (arith, R .gotos-room) },
-    ((m .kept .1 .1 .1 .1 .1 .1 .0, m .kept .1 .1 .1 .1 .1 .1 .1 .0), (m .ensures, (S .safe .few-states, few-strings E, few-flags S (s .pre .1 .1 .1)))),
-  ),
-)
+find-lookaheads-requires c κs =
+    let at-link-lines = c .before .before .before .before .before .before .before .before .before .before in
+    let at-prepare-rules = at-link-lines .before .before .before .before in
+    let at-find-sets = at-prepare-rules .before .before .before .before .before .before .before in
+    let at-entries-meet = at-find-sets .before .before .before .before in
+    let start = at-entries-meet .before .before .before .before .before .before .before .before .before in
+    let S = start .pre .0 .is in
+    let E = S .entered in
+    let R = start .pre .1 .0 in
+    let N = start .pre .1 .1 .0 in
+    let m = at-prepare-rules .prepare-rules in (
+      record {
+        lined = record { shaped = E .shaped; some-lines = S .safe .some-lines; linked = at-link-lines .link-lines .ensures };
+        ready = record {
+          shaped = E .shaped;
+          few-codes = few-codes-of (few-terminals E);
+          nul-room = at-find-sets .find-sets .kept .1 .1 .1 .0;
+          fst-room = at-find-sets .find-sets .kept .1 .1 .1 .1 .0;
+        };
+        few-rules = few-rules E;
+        rules-within = within _ _;
+        entries-room = omega (arith, N .room);
+        uses-room = omega (arith, at-entries-meet .entries-meet .ensures .0);
+      },
+      (
+        record { kinds-room = omega (arith, R .kinds-room); values-room = omega (arith, R .values-room); gotos-room = omega (arith, R .gotos-room) },
+        (
+          (m .kept .1 .1 .1 .1 .1 .1 .0, m .kept .1 .1 .1 .1 .1 .1 .1 .0),
+          (m .ensures, (S .safe .few-states, few-strings E, few-flags S (start .pre .1 .1 .1))),
+        ),
+      ),
+    )
 
 slice-aggregate-fill-cells : tie.Need-slice-aggregate-fill-cells
 slice-aggregate-fill-cells c = search needs
 
 slice-aggregate-fill-cells-2 : tie.Need-slice-aggregate-fill-cells-2
-slice-aggregate-fill-cells-2 c = sym (c .before .before .before .before .before .before .before .before .before .before .before .before .before .before .before .before .before .before .before .before .before .before .before .before .before .before .before .find-sets .kept .1 .1 .1 .0)
+slice-aggregate-fill-cells-2 c =
+    let at-find-sets = c .before .before .before .before .before .before .before .before .before .before .before .before .before .before .before .before
+    .before .before .before .before .before .before .before .before .before .before .before in
+    sym (at-find-sets .find-sets .kept .1 .1 .1 .0)
 
 slice-aggregate-fill-cells-3 : tie.Need-slice-aggregate-fill-cells-3
-slice-aggregate-fill-cells-3 c = sym (c .before .before .before .before .before .before .before .before .before .before .before .before .before .before .before .before .before .before .before .before .before .before .before .before .before .before .before .before .find-sets .kept .1 .1 .1 .1 .0)
+slice-aggregate-fill-cells-3 c =
+    let at-find-sets = c .before .before .before .before .before .before .before .before .before .before .before .before .before .before .before .before
+    .before .before .before .before .before .before .before .before .before .before .before .before in
+    sym (at-find-sets .find-sets .kept .1 .1 .1 .1 .0)
 
 slice-aggregate-fill-cells-4 : tie.Need-slice-aggregate-fill-cells-4
 slice-aggregate-fill-cells-4 c = search needs
@@ -97,10 +140,32 @@ slice-aggregate-fill-cells-5 : tie.Need-slice-aggregate-fill-cells-5
 slice-aggregate-fill-cells-5 c = search needs
 
 fill-cells-requires : tie.Need-fill-cells-requires
-fill-cells-requires c κs = let s = c .before .before .before .before .before .before .before .before .before .before .before .before .before .before .before .before .before .before .before .before .before .before .before .before .before .before .before .before .before .before .before .before .before .before .before .before .before .before .before .before .before .before .before .before .before in let S = s .pre .0 .is in let E = S .entered in let R = s .pre .1 .0 in let N = s .pre .1 .1 .0 in let m = c .before .before .before .before .before .before .before .before .before .before .before .before .before .before .before .before .before .before .before .before .before .before .before .before .before .prepare-rules in let k = c .before .before .before .before .before .before .before .before .before .before .before .before .before .before .before .before .before .before .before .before .before .before .before .before .before .before .before .before .before .before .before .before .find-sets .kept in (
-  record { lined = record { shaped = E .shaped; some-lines = S .safe .some-lines; linked = c .before .before .before .before .before .before .before .before .before .before .before .before .before .before .before .before .before .before .before .before .before .link-lines .ensures }; codes-room = few-flags S (c .before .before .before .before .before .before .before .before .before .before .find-lookaheads .kept .1 .1 .1 .1 .1 .1 .1 .1 .1 .1 .1 .1 .1 .1 .1 .1 .1 .0 ∙ s .pre .1 .1 .1); nul-room = k .1 .1 .1 .0; fst-room = k .1 .1 .1 .1 .0; starts-room = m .kept .1 .1 .1 .1 .1 .1 .0; through-room = m .kept .1 .1 .1 .1 .1 .1 .1 .0; prepared = m .ensures; few-codes = few-codes-of (few-terminals E); few-rules = few-rules E; few-strings = few-strings E },
-  (S .safe .few-states, omega (arith, R .kinds-room), omega (arith, R .values-room)),
-)
+fill-cells-requires c κs =
+    let at-find-lookaheads = c .before .before .before .before .before .before .before .before .before .before in
+    let at-link-lines = at-find-lookaheads .before .before .before .before .before .before .before .before .before .before .before in
+    let at-prepare-rules = at-link-lines .before .before .before .before in
+    let at-find-sets = at-prepare-rules .before .before .before .before .before .before .before in
+    let start = at-find-sets .before .before .before .before .before .before .before .before .before .before .before .before .before in
+    let S = start .pre .0 .is in
+    let E = S .entered in
+    let R = start .pre .1 .0 in
+    let m = at-prepare-rules .prepare-rules in
+    let k = at-find-sets .find-sets .kept in (
+      record {
+        lined = record { shaped = E .shaped; some-lines = S .safe .some-lines; linked = at-link-lines .link-lines .ensures };
+        codes-room = few-flags S
+            (at-find-lookaheads .find-lookaheads .kept .1 .1 .1 .1 .1 .1 .1 .1 .1 .1 .1 .1 .1 .1 .1 .1 .1 .0 ∙ start .pre .1 .1 .1);
+        nul-room = k .1 .1 .1 .0;
+        fst-room = k .1 .1 .1 .1 .0;
+        starts-room = m .kept .1 .1 .1 .1 .1 .1 .0;
+        through-room = m .kept .1 .1 .1 .1 .1 .1 .1 .0;
+        prepared = m .ensures;
+        few-codes = few-codes-of (few-terminals E);
+        few-rules = few-rules E;
+        few-strings = few-strings E;
+      },
+      (S .safe .few-states, omega (arith, R .kinds-room), omega (arith, R .values-room)),
+    )
 
 same-length : tie.Need-same-length
 same-length c = search needs
@@ -112,12 +177,30 @@ same-length-3 : tie.Need-same-length-3
 same-length-3 c = search needs
 
 returns : tie.Need-returns
-returns c = let s = c .before .before .before .before .before .before .before .before .before .before .before .before .before .before .before .before .before .before .before .before .before .before .before .before .before .before .before .before .before .before .before .before .before .before .before .before .before .before .before .before .before .before .before .before .before .before .before .before .before .before in let S = s .pre .0 .is in let E = S .entered in let R = s .pre .1 .0 in let N = s .pre .1 .1 .0 in let f = c .before .before .before .before .fill-cells .ensures in (
-  (c .before .before .before .before .before .before .before .before .before .before .before .before .before .before .before .find-lookaheads .kept .1 .1 .1 .1 .1 .1 .1 .1 .1 .1 .1 .1 .1 .1 .1 .1 .1 .0 ∙ s .pre .1 .1 .1, record { kernels-room = R .kernels-room; kinds-room = f .0 .0 ∙ R .kinds-room; values-room = f .0 .1 ∙ R .values-room; gotos-room = R .gotos-room }),
-  λ g T.
-      let U = uses-hold T _ (c .before .before .before .before .before .before .before .before .before .before .before .before .before .before .before .before .before .before .before .before .before .before .before .before .before .before .before .before .before .before .before .before .before .before .before .before .before .before .before .before .before .entries-meet .ensures .1 g _ (strings-hold T) (T .entered .goal-is)) in
-      settled-of T N (c .before .before .before .before .before .before .before .before .before .before .before .before .before .before .before .before .before .before .before .before .before .before .before .before .before .before .before .before .before .before .before .before .before .before .before .before .before .find-sets .ensures g (rules-hold T) (T .entered .terminal-count)) (c .before .before .before .before .before .before .before .before .before .before .before .before .before .before .before .find-lookaheads .ensures g (states-held T N U)) (f .1 g _ _),
-)
+returns c =
+    let at-fill-cells = c .before .before .before .before in
+    let at-find-lookaheads = at-fill-cells .before .before .before .before .before .before .before .before .before .before .before in
+    let at-find-sets = at-find-lookaheads .before .before .before .before .before .before .before .before .before .before .before .before .before .before
+    .before .before .before .before .before .before .before .before in
+    let at-entries-meet = at-find-sets .before .before .before .before in
+    let start = at-entries-meet .before .before .before .before .before .before .before .before .before in
+    let R = start .pre .1 .0 in
+    let N = start .pre .1 .1 .0 in
+    let f = at-fill-cells .fill-cells .ensures in (
+      (
+        at-find-lookaheads .find-lookaheads .kept .1 .1 .1 .1 .1 .1 .1 .1 .1 .1 .1 .1 .1 .1 .1 .1 .1 .0 ∙ start .pre .1 .1 .1,
+        record {
+          kernels-room = R .kernels-room;
+          kinds-room = f .0 .0 ∙ R .kinds-room;
+          values-room = f .0 .1 ∙ R .values-room;
+          gotos-room = R .gotos-room;
+        },
+      ),
+      λ g T.
+          let U = uses-hold T _ (at-entries-meet .entries-meet .ensures .1 g _ (strings-hold T) (T .entered .goal-is)) in
+          settled-of T N (at-find-sets .find-sets .ensures g (rules-hold T) (T .entered .terminal-count))
+          (at-find-lookaheads .find-lookaheads .ensures g (states-held T N U)) (f .1 g _ _),
+    )
 
 pub settle-cells-spec : {M : Type 1} → statement M
 settle-cells-spec =

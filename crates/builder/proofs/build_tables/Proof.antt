@@ -32,7 +32,16 @@ slice-aggregate-build-7 : tie.Need-slice-aggregate-build-7
 slice-aggregate-build-7 c = search needs
 
 build-requires : tie.Need-build-requires
-build-requires c κs = record { items-room = refl; entries-room = refl; kernels-room = refl; lookaheads-room = refl; kinds-zeros = refl; values-zeros = refl; gotos-zeros = refl }
+build-requires c κs =
+    record {
+      items-room = refl;
+      entries-room = refl;
+      kernels-room = refl;
+      lookaheads-room = refl;
+      kinds-zeros = refl;
+      values-zeros = refl;
+      gotos-zeros = refl;
+    }
 
 enum-known-built : tie.Need-enum-known-built
 enum-known-built c = search needs
@@ -72,43 +81,52 @@ slice-aggregate-write-book-7 c = search needs
 
 write-book-requires : tie.Need-write-book-requires
 write-book-requires c κs =
-    let s = c .before .before .before .before .before .before .before .before .before .before .before .before .before .before .before .before .before .before in
-    let b = s .build .ensures in
-    let C = rw (c .before .before .before .before .before .before .before .before .before .built3 .given .1) at b in
-    let k = s .before .before .before .before .before .before .before .before .before .before in
-    (sized-of (C .stated) (C .numbered) (C .rooms) (C .lookaheads-room), zeros-again (length (now (k .before .before .before .before .args .out))) (k .clear .ensures))
+    let at-built3 = c .before .before .before .before .before .before .before .before .before in
+    let at-build = at-built3 .before .before .before .before .before .before .before .before .before in
+    let at-clear = at-build .before .before .before .before .before .before .before .before .before .before in
+    let b = at-build .build .ensures in
+    let C = rw (at-built3 .built3 .given .1) at b in (
+      sized-of (C .stated) (C .numbered) (C .rooms) (C .lookaheads-room),
+      zeros-again (length (now (at-clear .before .before .before .before .args .out))) (at-clear .clear .ensures),
+    )
 
 same-length : tie.Need-same-length
 same-length c = search needs
 
 returns : tie.Need-returns
 returns c =
-    let s = c .before .before .before .before .before .before .before .before .before .before .before in
-    let b = s .build .ensures in
-    build-refused _ _ (rw (c .before .before .built .given .1) at b) (c .refused .ensures) (s .before .before .before .before .before .before .before .before .before .before .clear .ensures)
+    let at-build = c .before .before .before .before .before .before .before .before .before .before .before in
+    let b = at-build .build .ensures in
+    build-refused _ _ (rw (c .before .before .built .given .1) at b) (c .refused .ensures)
+    (at-build .before .before .before .before .before .before .before .before .before .before .clear .ensures)
 
 same-length-2 : tie.Need-same-length-2
 same-length-2 c = search needs
 
 returns-2 : tie.Need-returns-2
 returns-2 c =
-    let s = c .before .before .before .before .before .before .before .before .before .before .before in
-    let b = s .build .ensures in
+    let at-build = c .before .before .before .before .before .before .before .before .before .before .before in
+    let b = at-build .build .ensures in
     let C = rw (c .before .before .built2 .given .1) at b in
-    build-conflict _ _ (C .1) (C .0) (c .refused2 .ensures) (s .before .before .before .before .before .before .before .before .before .before .clear .ensures)
+    build-conflict _ _ (C .1) (C .0) (c .refused2 .ensures)
+    (at-build .before .before .before .before .before .before .before .before .before .before .clear .ensures)
 
 same-length-3 : tie.Need-same-length-3
 same-length-3 c =
     let w = c .before .before in
-    w .write-book .kept .1 .1 .1 .1 .1 .1 .1 .1 .0 ∙ w .before .before .before .before .before .before .before .before .before .before .before .before .before .before .before .before .before .before .before .before .before .before .before .before .before .before .before .before .before .clear .kept .0
+    w .write-book .kept .1 .1 .1 .1 .1 .1 .1 .1 .0
+    ∙ w .before .before .before .before .before .before .before .before .before .before .before .before .before .before .before .before .before .before .before
+    .before .before .before .before .before .before .before .before .before .before .clear .kept .0
 
 returns-3 : tie.Need-returns-3
 returns-3 c =
-    let s = c .before .before .before .before .before .before .before .before .before .before .before .before .before .before .before .before .before .before .before .before .before in
-    let b = s .build .ensures in
-    let C = rw (c .before .before .before .before .before .before .before .before .before .before .before .before .built3 .given .1) at b in
+    let at-built3 = c .before .before .before .before .before .before .before .before .before .before .before .before in
+    let at-build = at-built3 .before .before .before .before .before .before .before .before .before in
+    let b = at-build .build .ensures in
+    let C = rw (at-built3 .built3 .given .1) at b in
     let w = c .before .before .write-book .ensures in
-    build-book _ _ C (s .before .before .before .before .before .before .before .before .before .before .clear .ensures) refl w
+    build-book _ _ C
+    (at-build .before .before .before .before .before .before .before .before .before .before .clear .ensures) refl w
 
 pub build-tables-spec : {M : Type 1} → statement M
 build-tables-spec =

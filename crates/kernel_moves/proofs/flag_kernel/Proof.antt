@@ -13,7 +13,10 @@ use Rattle.kernel_moves.proofs.flag_kernel.Statement.{statement}
 use Rattle.kernel_moves.proofs.flag_kernel.Tie as tie
 
 abbrev Inv-loop : tie.InvT-loop
-Inv-loop items count kernel present₀ held₀ j₀ present held j = (j ≤ length kernel) × Adds (OfNumber (StandsBefore items) (take j kernel)) present₀ present × Adds (OfNumber SameNumber (take j kernel)) held₀ held
+Inv-loop items count kernel present₀ held₀ j₀ present held j =
+    (j ≤ length kernel)
+    × Adds (OfNumber (StandsBefore items) (take j kernel)) present₀ present
+    × Adds (OfNumber SameNumber (take j kernel)) held₀ held
 
 abbrev μ-loop : tie.MeasureT-loop
 μ-loop items count kernel present₀ held₀ j₀ present held j = length kernel - j
@@ -28,10 +31,21 @@ shared-slice-read-x : tie.Need-shared-slice-read-x Inv-loop μ-loop
 shared-slice-read-x c = search needs
 
 slice-write-held : tie.Need-slice-write-held Inv-loop μ-loop
-slice-write-held c = omega (arith, c .before .before .before .before .before .before .before .pre .1 .1 _ (in-string (c .before .before .before .before .before .before .before .args .kernel .now) (c .before .before .loop .j) (c .before .loop-test .taken)), c .before .before .loop .inv .2 .long)
+slice-write-held c =
+    let at-loop = c .before .before in
+    let start = at-loop .before .before .before .before .before in
+    omega (
+      arith,
+      start .pre .1 .1 _ (in-string (start .args .kernel .now) (at-loop .loop .j) (c .before .loop-test .taken)),
+      at-loop .loop .inv .2 .long,
+    )
 
 symbol-after-requires : tie.Need-symbol-after-requires Inv-loop μ-loop
-symbol-after-requires c κs = (c .before .before .before .before .before .before .before .pre .0, omega (arith, c .before .before .before .before .before .before .before .pre .1 .1 _ (in-string (c .before .before .before .before .before .before .before .args .kernel .now) (c .before .before .loop .j) (c .before .loop-test .taken))))
+symbol-after-requires c κs =
+    let start = c .before .before .before .before .before .before .before in (
+      start .pre .0,
+      omega (arith, start .pre .1 .1 _ (in-string (start .args .kernel .now) (c .before .before .loop .j) (c .before .loop-test .taken))),
+    )
 
 add-j : tie.Need-add-j Inv-loop μ-loop
 add-j c = search needs
@@ -40,7 +54,16 @@ loop-less : tie.Need-loop-less Inv-loop μ-loop
 loop-less c = search needs
 
 loop-again : tie.Need-loop-again Inv-loop μ-loop
-loop-again c = let o = c .before .before .before .before .loop in let l = c .before .before .before .loop-test .taken in let b = c .before .before .before .before .before .before .before .before .before .pre .1 .1 _ (in-string (c .before .before .before .before .before .before .before .before .before .args .kernel .now) (o .j) l) in (omega arith, numbers-more _ (c .before .before .before .before .before .before .before .before .before .args .kernel .now) (o .j) l (o .inv .1) (stands-none _ _ (c .before .symbol-after .ensures .0) _ (c .if1 .taken)), numbers-more _ (c .before .before .before .before .before .before .before .before .before .args .kernel .now) (o .j) l (o .inv .2) (adds-one _ refl (omega (arith, o .inv .2 .long))))
+loop-again c =
+    let at-loop-test = c .before .before .before in
+    let start = at-loop-test .before .before .before .before .before .before in
+    let o = at-loop-test .before .loop in
+    let l = at-loop-test .loop-test .taken in
+    let b = start .pre .1 .1 _ (in-string (start .args .kernel .now) (o .j) l) in (
+      omega arith,
+      numbers-more _ (start .args .kernel .now) (o .j) l (o .inv .1) (stands-none _ _ (c .before .symbol-after .ensures .0) _ (c .if1 .taken)),
+      numbers-more _ (start .args .kernel .now) (o .j) l (o .inv .2) (adds-one _ refl (omega (arith, o .inv .2 .long))),
+    )
 
 slice-write-present : tie.Need-slice-write-present Inv-loop μ-loop
 slice-write-present c = search needs
@@ -52,7 +75,17 @@ loop-less-2 : tie.Need-loop-less-2 Inv-loop μ-loop
 loop-less-2 c = search needs
 
 loop-again-2 : tie.Need-loop-again-2 Inv-loop μ-loop
-loop-again-2 c = let o = c .before .before .before .before .loop in let l = c .before .before .before .loop-test .taken in let b = c .before .before .before .before .before .before .before .before .before .pre .1 .1 _ (in-string (c .before .before .before .before .before .before .before .before .before .args .kernel .now) (o .j) l) in (omega arith, numbers-more _ (c .before .before .before .before .before .before .before .before .before .args .kernel .now) (o .j) l (o .inv .1) (stands-one _ _ (c .before .symbol-after .ensures .0) (c .if1 .left) refl (omega (arith, o .inv .1 .long))), numbers-more _ (c .before .before .before .before .before .before .before .before .before .args .kernel .now) (o .j) l (o .inv .2) (adds-one _ refl (omega (arith, o .inv .2 .long))))
+loop-again-2 c =
+    let at-loop-test = c .before .before .before in
+    let start = at-loop-test .before .before .before .before .before .before in
+    let o = at-loop-test .before .loop in
+    let l = at-loop-test .loop-test .taken in
+    let b = start .pre .1 .1 _ (in-string (start .args .kernel .now) (o .j) l) in (
+      omega arith,
+      numbers-more _ (start .args .kernel .now) (o .j) l (o .inv .1)
+          (stands-one _ _ (c .before .symbol-after .ensures .0) (c .if1 .left) refl (omega (arith, o .inv .1 .long))),
+      numbers-more _ (start .args .kernel .now) (o .j) l (o .inv .2) (adds-one _ refl (omega (arith, o .inv .2 .long))),
+    )
 
 same-length : tie.Need-same-length Inv-loop μ-loop
 same-length c = search needs

@@ -29,7 +29,12 @@ loop-less : tie.Need-loop-less Inv-loop μ-loop
 loop-less c = search needs
 
 loop-again : tie.Need-loop-again Inv-loop μ-loop
-loop-again c = let o = c .before .before .before .loop in (omega arith, omega arith, starts-skip _ _ (λ p. c .before .is-present .ensures .no (not-true _ (c .if1 .taken)) p) (o .inv .2))
+loop-again c =
+    let o = c .before .before .before .loop in (
+      omega arith,
+      omega arith,
+      starts-skip _ _ (λ p. c .before .is-present .ensures .no (not-true _ (c .if1 .taken)) p) (o .inv .2),
+    )
 
 mul-held : tie.Need-mul-held Inv-loop μ-loop
 mul-held c = search needs
@@ -44,7 +49,13 @@ loop-less-2 : tie.Need-loop-less-2 Inv-loop μ-loop
 loop-less-2 c = search needs
 
 loop-again-2 : tie.Need-loop-again-2 Inv-loop μ-loop
-loop-again-2 c = let o = c .before .before .before .loop in (omega arith, omega arith, starts-more _ _ (o .inv .0) (c .before .is-present .ensures .yes (not-false _ (c .if1 .left))) refl (omega (arith, o .inv .2 .long)) (o .inv .2))
+loop-again-2 c =
+    let o = c .before .before .before .loop in (
+      omega arith,
+      omega arith,
+      starts-more _ _ (o .inv .0) (c .before .is-present .ensures .yes (not-false _ (c .if1 .left))) refl
+          (omega (arith, o .inv .2 .long)) (o .inv .2),
+    )
 
 same-length : tie.Need-same-length Inv-loop μ-loop
 same-length c = search needs

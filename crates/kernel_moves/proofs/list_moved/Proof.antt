@@ -48,7 +48,13 @@ loop-less-2 : tie.Need-loop-less-2 Inv-loop μ-loop
 loop-less-2 c = search needs
 
 loop-again-2 : tie.Need-loop-again-2 Inv-loop μ-loop
-loop-again-2 c = let o = c .before .before .before .before .before .loop in (omega arith, omega arith, o .inv .2, o .inv .3 ∙ sym (below-skip _ _ (o .x) (inr (sym (c .before .symbol-after .ensures .0) ∙ c .if2 .taken))))
+loop-again-2 c =
+    let o = c .before .before .before .before .before .loop in (
+      omega arith,
+      omega arith,
+      o .inv .2,
+      o .inv .3 ∙ sym (below-skip _ _ (o .x) (inr (sym (c .before .symbol-after .ensures .0) ∙ c .if2 .taken))),
+    )
 
 add-moved : tie.Need-add-moved Inv-loop μ-loop
 add-moved c = search needs
@@ -75,13 +81,23 @@ loop-less-3 : tie.Need-loop-less-3 Inv-loop μ-loop
 loop-less-3 c = search needs
 
 loop-again-3 : tie.Need-loop-again-3 Inv-loop μ-loop
-loop-again-3 c = let o = c .before .before .before .before .before .loop in (omega arith, omega arith, search needs, list-more _ _ (o .moved) (o .n) (o .x) (o .inv .3) (omega arith) (set-on (c .before .before .if1 .left)) (c .before .symbol-after .ensures .0) (c .if2 .left))
+loop-again-3 c =
+    let o = c .before .before .before .before .before .loop in (
+      omega arith,
+      omega arith,
+      search needs,
+      list-more _ _ (o .moved) (o .n) (o .x) (o .inv .3) (omega arith) (set-on (c .before .before .if1 .left))
+          (c .before .symbol-after .ensures .0) (c .if2 .left),
+    )
 
 same-length : tie.Need-same-length Inv-loop μ-loop
 same-length c = search needs
 
 returns : tie.Need-returns Inv-loop μ-loop
-returns c = let o = c .before .loop in let e : o .x ≡ c .before .before .before .before .before .args .count * 16 + 16 = omega arith in (omega arith, o .inv .3 ∙ ap (movedBelow _ _) e)
+returns c =
+    let o = c .before .loop in
+    let e : o .x ≡ c .before .before .before .before .before .args .count * 16 + 16 = omega arith in
+    (omega arith, o .inv .3 ∙ ap (movedBelow _ _) e)
 
 pub list-moved-spec : {M : Type 1} → statement M
 list-moved-spec =

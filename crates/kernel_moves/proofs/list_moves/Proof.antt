@@ -43,12 +43,17 @@ same-length c = search needs
 
 returns : tie.Need-returns
 returns c =
-    let start = c .before .before .before .before .before .before .before .before .before .before .before .before .before .before .before .before .before .before .before .before in
-    let flags = c .before .before .before .before .before .before .before .before .before .before .before .before .before .before .flag-kernel .ensures in
+    let at-hold-rules = c .before .before .before .before .before .before in
+    let at-close-present = at-hold-rules .before .before .before .before in
+    let at-flag-kernel = at-close-present .before .before .before .before in
+    let start = at-flag-kernel .before .before .before .before .before .before in
+    let flags = at-flag-kernel .flag-kernel .ensures in
     let moved = c .before .before .list-moved .ensures in
-    let present = marks-least (adds-marks 64 refl (flags .0)) (c .before .before .before .before .before .before .before .before .before .before .close-present .ensures) in
-    let held = adds-marks 4096 refl (adds-then (flags .1) (c .before .before .before .before .before .before .hold-rules .ensures)) in
-    (moved .0, subst (ListsMoves _ _ _ _) (sym (moved .1)) (lists-moves (start .pre .0) (start .pre .1 .0 .0) (start .pre .1 .1) present held))
+    let present = marks-least (adds-marks 64 refl (flags .0)) (at-close-present .close-present .ensures) in
+    let held = adds-marks 4096 refl (adds-then (flags .1) (at-hold-rules .hold-rules .ensures)) in (
+      moved .0,
+      subst (ListsMoves _ _ _ _) (sym (moved .1)) (lists-moves (start .pre .0) (start .pre .1 .0 .0) (start .pre .1 .1) present held),
+    )
 
 pub list-moves-spec : {M : Type 1} → statement M
 list-moves-spec =

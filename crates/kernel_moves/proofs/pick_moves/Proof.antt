@@ -49,7 +49,11 @@ loop-less-2 : tie.Need-loop-less-2 Inv-loop μ-loop
 loop-less-2 c = search needs
 
 loop-again-2 : tie.Need-loop-again-2 Inv-loop μ-loop
-loop-again-2 c = let o = c .before .before .before .loop in (omega arith, pick-more _ _ _ (o .inv .1) (omega arith) (c .if1 .left) (omega (arith, o .inv .1 .few, o .inv .1 .long)))
+loop-again-2 c =
+    let o = c .before .before .before .loop in (
+      omega arith,
+      pick-more _ _ _ (o .inv .1) (omega arith) (c .if1 .left) (omega (arith, o .inv .1 .few, o .inv .1 .long)),
+    )
 
 same-length : tie.Need-same-length Inv-loop μ-loop
 same-length c = search needs

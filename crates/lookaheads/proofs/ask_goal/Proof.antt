@@ -22,7 +22,9 @@ add-add-lines : tie.Need-add-add-lines
 add-add-lines c = search needs
 
 add-lines-requires : tie.Need-add-lines-requires
-add-lines-requires c κs = let p = c .before .before .before .before .before .before .before .before .pre in (p .0, (p .1 .0, (c .before .before .wide .ensures .1, omega arith, search needs, p .1 .1 .2)))
+add-lines-requires c κs =
+    let p = c .before .before .before .before .before .before .before .before .pre in
+    (p .0, (p .1 .0, (c .before .before .wide .ensures .1, omega arith, search needs, p .1 .1 .2)))
 
 same-length : tie.Need-same-length
 same-length c = c .before .before .add-lines .ensures .long

@@ -44,7 +44,10 @@ shared-slice-read-if2 : tie.Need-shared-slice-read-if2 Inv-loop μ-loop
 shared-slice-read-if2 c = search needs
 
 returns : tie.Need-returns Inv-loop μ-loop
-returns c = is-no _ (λ h. h .covered (c .before .before .before .before .before .loop .c) (omega arith) (set-on (c .before .before .if1 .left)) .nonzero (c .if2 .taken))
+returns c =
+    is-no _ (λ h.
+    h .covered (c .before .before .before .before .before .loop .c) (omega arith)
+    (set-on (c .before .before .if1 .left)) .nonzero (c .if2 .taken))
 
 add-c-2 : tie.Need-add-c-2 Inv-loop μ-loop
 add-c-2 c = search needs

@@ -19,17 +19,28 @@ slice-aggregate-mark-narrow : tie.Need-slice-aggregate-mark-narrow
 slice-aggregate-mark-narrow c = search needs
 
 mark-narrow-requires : tie.Need-mark-narrow-requires
-mark-narrow-requires c κs = let p = c .before .before .before .before .before .before .before .before .before .before .pre in
-    (p .0, (omega arith, omega (arith, p .0 .few, c .before .before .before .ask-goal .ensures .long, length-replicate {A = ℕ} 65536 0), p .1 .1 .1, p .1 .1 .3))
+mark-narrow-requires c κs =
+    let at-ask-goal = c .before .before .before in
+    let p = at-ask-goal .before .before .before .before .before .before .before .pre in (
+      p .0,
+      (
+        omega arith,
+        omega (arith, p .0 .few, at-ask-goal .ask-goal .ensures .long, length-replicate {A = ℕ} 65536 0),
+        p .1 .1 .1,
+        p .1 .1 .3,
+      ),
+    )
 
 same-length : tie.Need-same-length
 same-length c = c .before .before .mark-narrow .ensures .narrowing .long
 
 returns : tie.Need-returns
-returns c = (
-  c .before .before .mark-narrow .ensures .narrowing .long ∙ c .before .before .before .before .before .before .before .before .before .before .before .before .before .pre .1 .1 .3,
-  λ g t items kinds values gotos u H. goal-narrows g t H u 65536 refl (c .before .before .before .before .before .before .ask-goal .ensures) (c .before .before .mark-narrow .ensures),
-)
+returns c =
+    let at-mark-narrow = c .before .before in
+    let at-ask-goal = at-mark-narrow .before .before .before .before in (
+      at-mark-narrow .mark-narrow .ensures .narrowing .long ∙ at-ask-goal .before .before .before .before .before .before .before .pre .1 .1 .3,
+      λ g t items kinds values gotos u H. goal-narrows g t H u 65536 refl (at-ask-goal .ask-goal .ensures) (at-mark-narrow .mark-narrow .ensures),
+    )
 
 pub mark-goal-spec : {M : Type 1} → statement M
 mark-goal-spec =

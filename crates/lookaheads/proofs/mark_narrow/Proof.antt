@@ -16,7 +16,9 @@ loop-holds : tie.Need-loop-holds Inv-loop μ-loop
 loop-holds c = (omega arith, lines-start _)
 
 covers-requires : tie.Need-covers-requires Inv-loop μ-loop
-covers-requires c κs = let p = c .before .before .before .before .before .before .pre in (c .loop-test .taken, p .0 .few, p .1 .0, omega (arith, p .1 .1, p .1 .2), omega (arith, p .1 .1, p .1 .2))
+covers-requires c κs =
+    let p = c .before .before .before .before .before .before .pre in
+    (c .loop-test .taken, p .0 .few, p .1 .0, omega (arith, p .1 .1, p .1 .2), omega (arith, p .1 .1, p .1 .2))
 
 add-l : tie.Need-add-l Inv-loop μ-loop
 add-l c = search needs
@@ -31,7 +33,14 @@ state-of-requires : tie.Need-state-of-requires Inv-loop μ-loop
 state-of-requires c κs = (c .before .before .before .before .before .before .before .before .pre .0, c .before .before .loop-test .taken)
 
 slice-write-narrow : tie.Need-slice-write-narrow Inv-loop μ-loop
-slice-write-narrow c = omega (arith, c .state-of .ensures .1, c .before .before .before .before .loop .inv .1 .narrowing .long, c .before .before .before .before .before .before .before .before .before .pre .1 .3)
+slice-write-narrow c =
+    let at-loop = c .before .before .before .before in
+    omega (
+      arith,
+      c .state-of .ensures .1,
+      at-loop .loop .inv .1 .narrowing .long,
+      at-loop .before .before .before .before .before .pre .1 .3,
+    )
 
 add-l-2 : tie.Need-add-l-2 Inv-loop μ-loop
 add-l-2 c = search needs
@@ -40,11 +49,18 @@ loop-less-2 : tie.Need-loop-less-2 Inv-loop μ-loop
 loop-less-2 c = search needs
 
 loop-again-2 : tie.Need-loop-again-2 Inv-loop μ-loop
-loop-again-2 c = (
-  omega arith,
-  lines-lacking (c .before .before .before .before .loop .inv .1) (c .before .before .covers .ensures .no (c .before .if1 .left)) (c .before .before .before .loop-test .taken) (c .state-of .ensures .0) refl
-      (omega (arith, c .state-of .ensures .1, c .before .before .before .before .loop .inv .1 .narrowing .long, c .before .before .before .before .before .before .before .before .before .pre .1 .3)),
-)
+loop-again-2 c =
+    let at-covers = c .before .before in
+    let at-loop = at-covers .before .before in (
+      omega arith,
+      lines-lacking (at-loop .loop .inv .1) (at-covers .covers .ensures .no (c .before .if1 .left))
+          (at-covers .before .loop-test .taken) (c .state-of .ensures .0) refl (omega (
+            arith,
+            c .state-of .ensures .1,
+            at-loop .loop .inv .1 .narrowing .long,
+            at-loop .before .before .before .before .before .pre .1 .3,
+          )),
+    )
 
 same-length : tie.Need-same-length Inv-loop μ-loop
 same-length c = c .before .loop .inv .1 .narrowing .long

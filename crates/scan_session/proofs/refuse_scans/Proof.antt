@@ -28,8 +28,12 @@ same-length-2 c = search needs
 
 returns : tie.Need-returns
 returns c =
-    let k = c .before .before .before .before .before .before .before .before .before .before .before .before .before .before .args in
-    books-accepted (length (k .stack .now)) (length (k .listing .now)) (k .grammar .now) (k .tables .now) (k .why) (c .before .before .before .before .before .before .before .before .before .check-tables .ensures) (c .before .before .before .before .before .before .before .enum-told .given .1) (c .before .before .before .before .refuse .ensures)
+    let at-refuse = c .before .before .before .before in
+    let at-enum-told = at-refuse .before .before .before in
+    let k = at-enum-told .before .before .before .before .before .before .before .args in
+    books-accepted (length (k .stack .now)) (length (k .listing .now)) (k .grammar .now) (k .tables .now) (k .why)
+    (at-enum-told .before .before .check-tables .ensures) (at-enum-told .enum-told .given .1)
+    (at-refuse .refuse .ensures)
 
 same-length-3 : tie.Need-same-length-3
 same-length-3 c = search needs
@@ -39,8 +43,11 @@ same-length-4 c = search needs
 
 returns-2 : tie.Need-returns-2
 returns-2 c =
-    let k = c .before .before .before .before .before .before .before .before .before .before .before .before .before .before .before .args in
-    books-refused (length (k .stack .now)) (length (k .listing .now)) (k .grammar .now) (k .tables .now) (k .why) (c .before .before .before .before .before .before .before .before .before .before .check-tables .ensures) (c .before .before .before .before .before .before .before .before .verdict .given .1) (c .before .before .before .before .refuse2 .ensures)
+    let at-refuse2 = c .before .before .before .before in
+    let at-verdict = at-refuse2 .before .before .before .before in
+    let k = at-verdict .before .before .before .before .before .before .before .args in
+    books-refused (length (k .stack .now)) (length (k .listing .now)) (k .grammar .now) (k .tables .now) (k .why)
+    (at-verdict .before .before .check-tables .ensures) (at-verdict .verdict .given .1) (at-refuse2 .refuse2 .ensures)
 
 pub refuse-scans-spec : {M : Type 1} → statement M
 refuse-scans-spec =

@@ -17,8 +17,10 @@ same-length-2 c = search needs
 
 returns : tie.Need-returns
 returns c =
-    let k = c .before .before .before .before .before .before .before .before .before .before .before .before .before .args in
-    let T = file-refused (k .grammar .now) (k .tables .now) (k .file .now) (length (k .stack .now)) (length (k .listing .now)) (omega arith) (c .before .before .before .before .refuse .ensures) in
+    let at-refuse = c .before .before .before .before in
+    let k = at-refuse .before .before .before .before .before .before .before .before .before .args in
+    let T = file-refused (k .grammar .now) (k .tables .now) (k .file .now) (length (k .stack .now)) (length (k .listing .now)) (omega arith)
+    (at-refuse .refuse .ensures) in
     (T .reply-is, (T .listing-is, T .stack-is))
 
 walk-scans-requires : tie.Need-walk-scans-requires
@@ -32,8 +34,10 @@ same-length-4 c = search needs
 
 returns-2 : tie.Need-returns-2
 returns-2 c =
-    let k = c .before .before .before .before .before .before .before .before .before .before .before .before .before .args in
-    let T = file-walked (k .grammar .now) (k .tables .now) (k .file .now) (length (k .stack .now)) (length (k .listing .now)) (omega arith) (c .before .before .before .before .walk-scans .ensures) in
+    let at-walk-scans = c .before .before .before .before in
+    let k = at-walk-scans .before .before .before .before .before .before .before .before .before .args in
+    let T = file-walked (k .grammar .now) (k .tables .now) (k .file .now) (length (k .stack .now)) (length (k .listing .now)) (omega arith)
+    (at-walk-scans .walk-scans .ensures) in
     (T .reply-is, (T .listing-is, T .stack-is))
 
 pub run-scans-spec : {M : Type 1} → statement M

@@ -19,13 +19,18 @@ enum-known-read : tie.Need-enum-known-read
 enum-known-read c = search needs
 
 array-share-prefix-tokens : tie.Need-array-share-prefix-tokens
-array-share-prefix-tokens c = omega (arith, scans-listed _ _ _ (sym (c .before .before .before .before .read-scans .ensures .0) ∙ c .before .read .given .1) .fits)
+array-share-prefix-tokens c =
+    omega (
+      arith,
+      scans-listed _ _ _ (sym (c .before .before .before .before .read-scans .ensures .0) ∙ c .before .read .given .1) .fits,
+    )
 
 slice-aggregate-run-session : tie.Need-slice-aggregate-run-session
 slice-aggregate-run-session c =
-    let l = scans-listed _ _ _ (sym (c .before .before .before .before .before .read-scans .ensures .0) ∙ c .before .before .read .given .1) in
-    let e : length (c .before .before .before .before .before .read-scans .last .1 .0) ≡ 65536 = search needs in
-    sym (length-take-le _ (c .before .before .before .before .before .read-scans .last .1 .0) (omega (arith, l .fits, e)))
+    let at-read-scans = c .before .before .before .before .before in
+    let l = scans-listed _ _ _ (sym (at-read-scans .read-scans .ensures .0) ∙ c .before .before .read .given .1) in
+    let e : length (at-read-scans .read-scans .last .1 .0) ≡ 65536 = search needs in
+    sym (length-take-le _ (at-read-scans .read-scans .last .1 .0) (omega (arith, l .fits, e)))
 
 run-session-requires : tie.Need-run-session-requires
 run-session-requires c κs = search needs
@@ -44,11 +49,14 @@ same-length-2 c = search needs
 
 returns : tie.Need-returns
 returns c =
-    let k = c .before .before .before .before .before .before .before .before .before .before .before .before .before .before .before .before .before .before .before .args in
-    let r = c .before .before .before .before .before .before .before .before .before .before .before .before .read-scans .ensures in
-    let x = c .before .before .before .before .run-session .ensures in
-    scans-walked (length (k .stack .now)) (length (k .listing .now)) (k .grammar .now) (k .tables .now) (k .file .now) (r .0) _ (c .before .before .before .before .before .before .before .before .before .read .given .1) (r .1)
-    (record { reply-is = x .0; listing-is = x .1 .0; stack-is = x .1 .1 })
+    let at-run-session = c .before .before .before .before in
+    let at-read = at-run-session .before .before .before .before .before in
+    let at-read-scans = at-read .before .before .before in
+    let k = at-read-scans .before .before .before .before .before .before .before .args in
+    let r = at-read-scans .read-scans .ensures in
+    let x = at-run-session .run-session .ensures in
+    scans-walked (length (k .stack .now)) (length (k .listing .now)) (k .grammar .now) (k .tables .now) (k .file .now)
+    (r .0) _ (at-read .read .given .1) (r .1) (record { reply-is = x .0; listing-is = x .1 .0; stack-is = x .1 .1 })
 
 same-length-3 : tie.Need-same-length-3
 same-length-3 c = search needs
@@ -58,8 +66,14 @@ same-length-4 c = search needs
 
 returns-2 : tie.Need-returns-2
 returns-2 c =
-    let k = c .before .before .before .before .before .before .before .before .before .before .before .before .before .before .before .before .before .before .args in
-    scans-refused (length (k .stack .now)) (length (k .listing .now)) (k .grammar .now) (k .tables .now) (k .file .now) (c .before .before .before .before .before .before .before .before .before .before .before .read-scans .ensures .0) (c .before .before .before .before .before .before .before .before .before .before .before .before .before .before .before .before .before .before .pre) (c .before .before .before .before .before .before .before .before .read2 .given .1) (c .before .before .before .before .refuse-scans .ensures)
+    let at-refuse-scans = c .before .before .before .before in
+    let at-read2 = at-refuse-scans .before .before .before .before in
+    let at-read-scans = at-read2 .before .before .before in
+    let start = at-read-scans .before .before .before .before .before .before .before in
+    let k = start .args in
+    scans-refused (length (k .stack .now)) (length (k .listing .now)) (k .grammar .now) (k .tables .now) (k .file .now)
+    (at-read-scans .read-scans .ensures .0) (start .pre) (at-read2 .read2 .given .1)
+    (at-refuse-scans .refuse-scans .ensures)
 
 pub walk-scans-spec : {M : Type 1} → statement M
 walk-scans-spec =
