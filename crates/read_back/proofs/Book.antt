@@ -10,7 +10,7 @@ use Rattle.language.specs.WellFormed.{WellFormed}
 use Rattle.range.proofs.RangeLaws.{true-within}
 use Rattle.grammar.specs.Book.{grammarOf, accepted}
 use Rattle.leftcorner.specs.Table.{Table}
-use Rattle.table.specs.declared.Head.the-variants as head
+use Rattle.table_head.specs.declared.Head.the-variants as head
 use Rattle.table.specs.Book.{headOf, whole, actionsOf, kernelsOf, entriesOf, tableOf, tablesOf}
 use Rattle.lalr.specs.Text.{line, entryText, kernelText, actionText, tableText}
 use Rattle.lalr.proofs.Readable.{Readable}

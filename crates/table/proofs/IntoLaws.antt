@@ -16,14 +16,15 @@ use Rattle.grammar.specs.declared.GrammarReply.{GrammarReply}
 use Rattle.grammar.specs.declared.GrammarReply.the-variants as grammar-reply
 use Rattle.grammar.specs.Book as grammar
 use Rattle.grammar.specs.Memory as grammar-memory
-use Rattle.grammar.proofs.IntoLaws.{is-accepted, is-rejected, long-enough}
+use Rattle.grammar.proofs.IntoLaws.{is-accepted, is-rejected, long-enough, cleared-length, zeros-again}
 use Rattle.grammar.proofs.GrammarLaws.{accepted-reduced}
 use Rattle.table_lines.proofs.ListLaws.{both-true}
 use Rattle.table.specs.declared.TableReply.{TableReply}
 use Rattle.table.specs.declared.TableReply.the-variants as reply
 use Rattle.table.specs.declared.Counts.{Counts}
 use Rattle.table.specs.Book.{Reading, whole, rejected, rejectedAt, tableOf, tablesOf, readOf}
-use Rattle.table.specs.Memory.{replyOf, Slices, slices, roomFor, hasRoom, Rooms, Roomy, Wiped, Blank, Holds, Fills, filled-with, denied}
+use Rattle.table_blocks.specs.Memory.{Roomy, Blank}
+use Rattle.table.specs.Memory.{replyOf, Slices, slices, roomFor, hasRoom, Rooms, Wiped, Holds, Fills, filled-with, denied}
 
 module _ (gs s : List ℕ) where
   pub too-long : 65536 < length s → tablesOf gs s ≡ rejectedAt kind.LimitExceeded 0
@@ -83,6 +84,18 @@ pub record Alike (b c : Slices) : Type 0 where
   pub gotos-same : length (b .gotos) ≡ length (c .gotos)
   pub named-same : length (b .named) ≡ length (c .named)
 
+alike-alike : {b c d : Slices} → Alike b c → Alike c d → Alike b d
+alike-alike s t = record {
+  items-same = s .items-same ∙ t .items-same;
+  states-same = s .states-same ∙ t .states-same;
+  kernels-same = s .kernels-same ∙ t .kernels-same;
+  lookaheads-same = s .lookaheads-same ∙ t .lookaheads-same;
+  kinds-same = s .kinds-same ∙ t .kinds-same;
+  values-same = s .values-same ∙ t .values-same;
+  gotos-same = s .gotos-same ∙ t .gotos-same;
+  named-same = s .named-same ∙ t .named-same;
+}
+
 pub holds-alike : {x : Reading} {b c a : Slices} → Alike b c → Holds x b a → Holds x c a
 holds-alike s h = record {
   items-are = rw (← s .items-same) (h .items-are);
@@ -100,11 +113,15 @@ fills-alike s (filled-with h) = filled-with (holds-alike s h)
 fills-alike s denied = denied
 
 -- ---- the answer
-pub fills-refused : {b a : Slices} {x : Reading} {r : TableReply} {why : Refusal} → Fills b a x r → r ≡ reply.Refused why → x ≡ rejected why
+fills-refused : {b a : Slices} {x : Reading} {r : TableReply} {why : Refusal} → Fills b a x r → r ≡ reply.Refused why → x ≡ rejected why
 fills-refused (filled-with h) e = let z : _≡_ {A = ℕ} 0 1 = cc in absurd (omega arith)
 fills-refused {why = why} (denied {why = v}) e = let q : v ≡ why = cc in ap rejected q
 
-pub fills-read : {b a : Slices} {x : Reading} {r : TableReply} {k : Counts} → Fills b a x r → r ≡ reply.Read k → (r ≡ replyOf x) × Holds x b a
+pub fills-reply : {b a : Slices} {x : Reading} {r : TableReply} → Fills b a x r → r ≡ replyOf x
+fills-reply (filled-with h) = refl
+fills-reply denied = refl
+
+fills-read : {b a : Slices} {x : Reading} {r : TableReply} {k : Counts} → Fills b a x r → r ≡ reply.Read k → (r ≡ replyOf x) × Holds x b a
 fills-read (filled-with h) e = (refl, h)
 fills-read denied e = let z : _≡_ {A = ℕ} 0 1 = cc in absurd (omega arith)
 
@@ -118,6 +135,30 @@ pub record AllZero (b a : Slices) : Type 0 where
   pub values-zero : a .values ≡ replicate (length (b .values)) 0
   pub gotos-zero : a .gotos ≡ replicate (length (b .gotos)) 0
   pub named-zero : a .named ≡ replicate (length (b .named)) 0
+
+zero-same : {b a : Slices} → AllZero b a → Alike a b
+zero-same {b} z = record {
+  items-same = cleared-length (length (b .items)) (z .items-zero);
+  states-same = cleared-length (length (b .states)) (z .states-zero);
+  kernels-same = cleared-length (length (b .kernels)) (z .kernels-zero);
+  lookaheads-same = cleared-length (length (b .lookaheads)) (z .lookaheads-zero);
+  kinds-same = cleared-length (length (b .kinds)) (z .kinds-zero);
+  values-same = cleared-length (length (b .values)) (z .values-zero);
+  gotos-same = cleared-length (length (b .gotos)) (z .gotos-zero);
+  named-same = cleared-length (length (b .named)) (z .named-zero);
+}
+
+zero-alike : {b c a : Slices} → Alike b c → AllZero b a → AllZero c a
+zero-alike s z = record {
+  items-zero = rw (← s .items-same) (z .items-zero);
+  states-zero = rw (← s .states-same) (z .states-zero);
+  kernels-zero = rw (← s .kernels-same) (z .kernels-zero);
+  lookaheads-zero = rw (← s .lookaheads-same) (z .lookaheads-zero);
+  kinds-zero = rw (← s .kinds-same) (z .kinds-zero);
+  values-zero = rw (← s .values-same) (z .values-zero);
+  gotos-zero = rw (← s .gotos-same) (z .gotos-zero);
+  named-zero = rw (← s .named-same) (z .named-zero);
+}
 
 pub holds-zero : {x : Reading} {b a : Slices} {why : Refusal} → x ≡ rejected why → AllZero b a → (reply.Refused why ≡ replyOf x) × Holds x b a
 holds-zero e z = rw e (
@@ -133,6 +174,14 @@ holds-zero e z = rw e (
     named-are = z .named-zero;
   },
 )
+
+-- slices b, cleared to c and read into, are d: as they are where the books are read, and cleared once more where they are refused
+pub cleared-read : {b c d : Slices} {x : Reading} {r : TableReply} {k : Counts} → Fills c d x r → r ≡ reply.Read k → AllZero b c → (r ≡ replyOf x) × Holds x b d
+cleared-read f e z = let h = fills-read f e in (h .0, holds-alike (zero-same z) (h .1))
+
+pub cleared-refused : {b c d a : Slices} {x : Reading} {r : TableReply} {why : Refusal} → Fills c d x r → r ≡ reply.Refused why → AllZero b c → Alike d c → AllZero d a
+    → (reply.Refused why ≡ replyOf x) × Holds x b a
+cleared-refused f e z s y = holds-zero (fills-refused f e) (zero-alike (alike-alike s (zero-same z)) y)
 
 -- ---- slices too short, or not
 pub short-read : (x : Reading) {k : Counts} {r : TableReply} → r ≡ replyOf x → r ≡ reply.Read k → reply.Refused (record { kind = kind.BufferTooSmall; place = 0 }) ≡ replyOf (readOf false x)
@@ -199,5 +248,27 @@ has-room b r =
       le-leb 256 (length (b .named)) (r .named-room),
     )
 
-pub room-tells : (b : Slices) → hasRoom b ≡ true → Roomy b
+room-tells : (b : Slices) → hasRoom b ≡ true → Roomy b
 room-tells b e = let r = rooms-tell b e in record { items-room = r .items-room; kinds-room = r .kinds-room; gotos-room = r .gotos-room }
+
+-- cleared, they are ready for the books
+pub wiped-now : (b : Slices) {c : Slices} → hasRoom b ≡ true → AllZero b c → Wiped c
+wiped-now b e z = let r = room-tells b e in
+    let s = zero-same z in
+    record {
+      items-none = zeros-again (length (b .items)) (z .items-zero);
+      cleared = record {
+        states-none = zeros-again (length (b .states)) (z .states-zero);
+        kernels-none = zeros-again (length (b .kernels)) (z .kernels-zero);
+        lookaheads-none = zeros-again (length (b .lookaheads)) (z .lookaheads-zero);
+        kinds-none = zeros-again (length (b .kinds)) (z .kinds-zero);
+        values-none = zeros-again (length (b .values)) (z .values-zero);
+        gotos-none = zeros-again (length (b .gotos)) (z .gotos-zero);
+        named-none = zeros-again (length (b .named)) (z .named-zero);
+      };
+      room = record {
+        items-room = omega (arith, r .items-room, s .items-same);
+        kinds-room = omega (arith, r .kinds-room, s .kinds-same);
+        gotos-room = omega (arith, r .gotos-room, s .gotos-same);
+      };
+    }

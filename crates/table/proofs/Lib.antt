@@ -1,5 +1,2 @@
-pub mod LengthLaws
-pub mod BlankLaws
 pub mod ReadLaws
-pub mod BlocksLaws
 pub mod IntoLaws

@@ -2,22 +2,21 @@
 // The door is `read_tables`; `clear_all` is inner.
 use grammar::GrammarReply;
 use header::Heading;
-use range::in_range;
 use reply::Kind;
 use reply::Refusal;
 use reply::Reply;
 use reply::clear;
-use table_lines::Block;
-use table_lines::Line;
+use table_blocks::Blocks;
+use table_head::Head;
 ghost use mathlib.Core.Path.{_≡_};
 ghost use mathlib.Core.Bool.{false};
-ghost use Prim.Native.Nat.{ℕ, _+_, _*_, _≤_, _<_};
+ghost use Prim.Native.Nat.{_<_};
 ghost use lib.ListN.{length, replicate};
 ghost use Rattle.language.specs.Grammar.{Grammar};
-ghost use Rattle.header.specs.declared.Heading.{Heading};
 ghost use Rattle.grammar.specs.Memory.{headingOf};
-ghost use Rattle.table.specs.Book.{headOf, entriesOf, tableOf, tablesOf, readOf};
-ghost use Rattle.table.specs.Memory.{asReply, replyOf, slices, roomFor, hasRoom, Roomy, Wiped, Begun, Blank, Holds, Fills};
+ghost use Rattle.table_blocks.specs.Memory.{Begun, Blank};
+ghost use Rattle.table.specs.Book.{tableOf, tablesOf, readOf};
+ghost use Rattle.table.specs.Memory.{asReply, replyOf, slices, roomFor, hasRoom, Wiped, Holds, Fills};
 
 // The bytes that each slice must have at least.
 pub const ITEMS: usize = 16640;
@@ -40,120 +39,10 @@ pub struct Counts {
     pub kernels: usize,
 }
 
-// The first line of a table book, with the position past it.
-pub enum Head {
-    Read(usize, usize, usize),
-    Refused(Refusal),
-}
-
 // What reading both books comes to.
 pub enum TableReply {
     Read(Counts),
     Refused(Refusal),
-}
-
-fn refuse_head(kind: Kind) -> Head
-    ensures { λ r. ⌜ r ≡ Head.Refused (record { kind = kind; place = 0 }) ⌝ }
-{
-    Head::Refused(Refusal { kind, place: 0 })
-}
-
-// The first line, `T,states,entries`.
-fn read_head(s: &[u8]) -> Head
-    requires { ⌜ length (now s) < 65537 ⌝ }
-    ensures { λ r. ⌜ r ≡ headOf (now (s .entry)) ⌝ }
-{
-    let mut numbers = [0usize; 67];
-    let Line::Whole(letter, p, next) = table_lines::read_line(s, 0, &mut numbers) else {
-        return refuse_head(Kind::Malformed);
-    };
-    if letter != b'T' {
-        return refuse_head(Kind::Malformed);
-    }
-    if p.count != 2 {
-        return refuse_head(Kind::Malformed);
-    }
-    let states = numbers[0];
-    let entries = numbers[1];
-    if !in_range(1, states, 255) {
-        return refuse_head(Kind::LimitExceeded);
-    }
-    if !in_range(1, entries, 127) {
-        return refuse_head(Kind::LimitExceeded);
-    }
-    Head::Read(states, entries, next)
-}
-
-// The blocks after the first line, read into memory that holds the grammar's rules and nothing else.
-fn read_blocks(
-    s: &[u8],
-    h: Heading,
-    states: usize,
-    entries: usize,
-    first: usize,
-    items: &mut [u8],
-    entry_states: &mut [u8],
-    kernels: &mut [u8],
-    lookaheads: &mut [u8],
-    kinds: &mut [u8],
-    values: &mut [u8],
-    gotos: &mut [u8],
-    named: &mut [u8],
-) -> TableReply
-    requires { ⌜ (length (now s) < 65537) × (states ≤ 255) × (entries ≤ 127) ⌝ }
-    requires { ⌜ Begun h (slices (now items) (now «entry_states») (now kernels) (now lookaheads) (now kinds) (now values) (now gotos) (now named)) ⌝ }
-    ensures { λ r. ⌜ ((g : Grammar) → Blank g (slices (now (items .entry)) (now («entry_states» .entry)) (now (kernels .entry)) (now (lookaheads .entry)) (now (kinds .entry)) (now (values .entry)) (now (gotos .entry)) (now (named .entry))) → h ≡ headingOf g
-        → Fills (slices (now (items .entry)) (now («entry_states» .entry)) (now (kernels .entry)) (now (lookaheads .entry)) (now (kinds .entry)) (now (values .entry)) (now (gotos .entry)) (now (named .entry))) (slices (now (items .exit)) (now («entry_states» .exit)) (now (kernels .exit)) (now (lookaheads .exit)) (now (kinds .exit)) (now (values .exit)) (now (gotos .exit)) (now (named .exit))) (entriesOf g (now (s .entry)) states entries first) r) ⌝ }
-{
-    let t = h.terminals;
-    let n = h.nonterminals;
-    let rules = h.rules;
-    match table_entries::read_entries(
-        s,
-        first,
-        t,
-        n,
-        states,
-        rules,
-        entries,
-        items,
-        entry_states,
-        named,
-    ) {
-        Block::Refused(why) => TableReply::Refused(why),
-        Block::Read(count, at) => match table_kernels::read_kernels(
-            s,
-            at,
-            t,
-            states,
-            rules + count,
-            items,
-            kernels,
-            lookaheads,
-        ) {
-            Block::Refused(why) => TableReply::Refused(why),
-            Block::Read(lines, at) => match table_actions::read_actions(
-                s,
-                at,
-                t,
-                n,
-                rules,
-                states,
-                kinds,
-                values,
-                gotos,
-                named,
-            ) {
-                Block::Refused(why) => TableReply::Refused(why),
-                Block::Read(_, _) => TableReply::Read(Counts {
-                    grammar: h,
-                    states,
-                    entries: count,
-                    kernels: lines,
-                }),
-            },
-        },
-    }
 }
 
 // A table book read into memory that holds the grammar's rules and nothing else.
@@ -174,9 +63,9 @@ fn read_book(
     ensures { λ r. ⌜ ((g : Grammar) → Blank g (slices (now (items .entry)) (now («entry_states» .entry)) (now (kernels .entry)) (now (lookaheads .entry)) (now (kinds .entry)) (now (values .entry)) (now (gotos .entry)) (now (named .entry))) → h ≡ headingOf g
         → Fills (slices (now (items .entry)) (now («entry_states» .entry)) (now (kernels .entry)) (now (lookaheads .entry)) (now (kinds .entry)) (now (values .entry)) (now (gotos .entry)) (now (named .entry))) (slices (now (items .exit)) (now («entry_states» .exit)) (now (kernels .exit)) (now (lookaheads .exit)) (now (kinds .exit)) (now (values .exit)) (now (gotos .exit)) (now (named .exit))) (tableOf g (now (s .entry))) r) ⌝ }
 {
-    match read_head(s) {
+    match table_head::read_head(s) {
         Head::Refused(why) => TableReply::Refused(why),
-        Head::Read(states, entries, first) => read_blocks(
+        Head::Read(states, entries, first) => match table_blocks::read_blocks(
             s,
             h,
             states,
@@ -190,7 +79,15 @@ fn read_book(
             values,
             gotos,
             named,
-        ),
+        ) {
+            Blocks::Refused(why) => TableReply::Refused(why),
+            Blocks::Read(count, lines) => TableReply::Read(Counts {
+                grammar: h,
+                states,
+                entries: count,
+                kernels: lines,
+            }),
+        },
     }
 }
 
@@ -263,61 +160,6 @@ fn read_cleared(
     }
 }
 
-// Both books read into slices that have room.
-fn read_into(
-    grammar: &[u8],
-    book: &[u8],
-    items: &mut [u8],
-    entry_states: &mut [u8],
-    kernels: &mut [u8],
-    lookaheads: &mut [u8],
-    kinds: &mut [u8],
-    values: &mut [u8],
-    gotos: &mut [u8],
-    named: &mut [u8],
-) -> TableReply
-    requires { ⌜ Roomy (slices (now items) (now «entry_states») (now kernels) (now lookaheads) (now kinds) (now values) (now gotos) (now named)) ⌝ }
-    ensures { λ r. ⌜ r ≡ replyOf (tablesOf (now (grammar .entry)) (now (book .entry))) ⌝ }
-    ensures { λ r. ⌜ Holds (tablesOf (now (grammar .entry)) (now (book .entry))) (slices (now (items .entry)) (now («entry_states» .entry)) (now (kernels .entry)) (now (lookaheads .entry)) (now (kinds .entry)) (now (values .entry)) (now (gotos .entry)) (now (named .entry))) (slices (now (items .exit)) (now («entry_states» .exit)) (now (kernels .exit)) (now (lookaheads .exit)) (now (kinds .exit)) (now (values .exit)) (now (gotos .exit)) (now (named .exit))) ⌝ }
-{
-    clear_all(
-        items,
-        entry_states,
-        kernels,
-        lookaheads,
-        kinds,
-        values,
-        gotos,
-        named,
-    );
-    let answer = read_cleared(
-        grammar,
-        book,
-        items,
-        entry_states,
-        kernels,
-        lookaheads,
-        kinds,
-        values,
-        gotos,
-        named,
-    );
-    if let TableReply::Refused(why) = answer {
-        clear_all(
-            items,
-            entry_states,
-            kernels,
-            lookaheads,
-            kinds,
-            values,
-            gotos,
-            named,
-        );
-        return TableReply::Refused(why);
-    }
-    answer
-}
-
 // What is answered where the slices are too short.
 fn read_short(grammar: &[u8], book: &[u8]) -> TableReply
     ensures { λ r. ⌜ r ≡ replyOf (readOf false (tablesOf (now (grammar .entry)) (now (book .entry)))) ⌝ }
@@ -330,7 +172,7 @@ fn read_short(grammar: &[u8], book: &[u8]) -> TableReply
     let mut values = [0u8; CELLS];
     let mut gotos = [0u8; CELLS];
     let mut named = [0u8; NAMED];
-    let answer = read_into(
+    let answer = read_cleared(
         grammar,
         book,
         &mut items,
@@ -404,7 +246,7 @@ pub fn read_tables(
     ensures { λ r. ⌜ r ≡ replyOf (readOf (hasRoom (slices (now (items .entry)) (now («entry_states» .entry)) (now (kernels .entry)) (now (lookaheads .entry)) (now (kinds .entry)) (now (values .entry)) (now (gotos .entry)) (now (named .entry)))) (tablesOf (now (grammar .entry)) (now (book .entry)))) ⌝ }
     ensures { λ r. ⌜ Holds (readOf (hasRoom (slices (now (items .entry)) (now («entry_states» .entry)) (now (kernels .entry)) (now (lookaheads .entry)) (now (kinds .entry)) (now (values .entry)) (now (gotos .entry)) (now (named .entry)))) (tablesOf (now (grammar .entry)) (now (book .entry)))) (slices (now (items .entry)) (now («entry_states» .entry)) (now (kernels .entry)) (now (lookaheads .entry)) (now (kinds .entry)) (now (values .entry)) (now (gotos .entry)) (now (named .entry))) (slices (now (items .exit)) (now («entry_states» .exit)) (now (kernels .exit)) (now (lookaheads .exit)) (now (kinds .exit)) (now (values .exit)) (now (gotos .exit)) (now (named .exit))) ⌝ }
 {
-    if !has_room(
+    let room = has_room(
         items.len(),
         entry_states.len(),
         kernels.len(),
@@ -413,20 +255,21 @@ pub fn read_tables(
         values.len(),
         gotos.len(),
         named.len(),
-    ) {
-        clear_all(
-            items,
-            entry_states,
-            kernels,
-            lookaheads,
-            kinds,
-            values,
-            gotos,
-            named,
-        );
+    );
+    clear_all(
+        items,
+        entry_states,
+        kernels,
+        lookaheads,
+        kinds,
+        values,
+        gotos,
+        named,
+    );
+    if !room {
         return read_short(grammar, book);
     }
-    read_into(
+    let answer = read_cleared(
         grammar,
         book,
         items,
@@ -437,7 +280,21 @@ pub fn read_tables(
         values,
         gotos,
         named,
-    )
+    );
+    if let TableReply::Refused(why) = answer {
+        clear_all(
+            items,
+            entry_states,
+            kernels,
+            lookaheads,
+            kinds,
+            values,
+            gotos,
+            named,
+        );
+        return TableReply::Refused(why);
+    }
+    answer
 }
 
 // The answer as a reply, with its number and place.

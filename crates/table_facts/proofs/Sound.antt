@@ -24,10 +24,10 @@ use Rattle.table_lines.specs.Block.{Lines, read, refused}
 use Rattle.table_entries.specs.Entries.{entriesFrom}
 use Rattle.table_kernels.specs.Kernels.{kernelsFrom}
 use Rattle.table_actions.specs.Actions.{actionsFrom}
-use Rattle.table.specs.declared.Head.{Head}
-use Rattle.table.specs.declared.Head.the-variants as head
+use Rattle.table_head.specs.declared.Head.{Head}
+use Rattle.table_head.specs.declared.Head.the-variants as head
 use Rattle.table.specs.Book.{headOf, onHead, Reading, whole, rejected, onLines, lengthsOf, tableWith, actionsOf, kernelsOf, entriesOf, tableOf, tablesOf}
-use Rattle.table.proofs.ReadLaws.{head-within}
+use Rattle.table_head.proofs.HeadLaws.{head-within}
 use Rattle.table_facts.proofs.Blocks.{Each, each-in, Once, once-in}
 use Rattle.table_facts.proofs.Entries as entries
 use Rattle.table_facts.proofs.Kernels as kernels

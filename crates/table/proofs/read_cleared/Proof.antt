@@ -1,7 +1,7 @@
 -- `table::read_cleared` meets its contract. Assumes nothing.
 use Rattle.table.proofs.IntoLaws.{too-long, no-grammar, with-grammar, grammar-refused, grammar-read, rules-laid, blank-now, fills-alike}
 use Rattle.table.specs.Memory.{denied}
-use mathlib.Core.Path.{refl}
+use mathlib.Core.Path.{refl, _∙_}
 use Prim.Native.Nat.{_-_}
 use native.Mathlib.Omega.{arith}
 use borrow.Author.Needs.{needs}
@@ -34,7 +34,7 @@ read-book-requires c κs = let d = c .before .before .before .before .before .be
     )
 
 same-length : tie.Need-same-length
-same-length c = search needs
+same-length c = c .before .before .before .before .before .read-grammar .kept .1 .0
 
 returns-2 : tie.Need-returns-2
 returns-2 c = let r = c .before .before .before .before .before in
@@ -42,28 +42,28 @@ returns-2 c = let r = c .before .before .before .before .before in
     rw (no-grammar _ _ (r .before .before .if1 .left) (grammar-refused _ _ (p .room .items-room) (r .read-grammar .ensures .0) (c .before .why .given .1))) denied
 
 same-length-2 : tie.Need-same-length-2
-same-length-2 c = search needs
+same-length-2 c = let b = c .before .before .before .before .before .before .before .before .before .before .before .before .before .before .before .before in b .read-book .kept .1 .1 .0 ∙ b .before .before .before .before .before .before .before .before .before .before .before .before .before .before .read-grammar .kept .1 .0
 
 same-length-3 : tie.Need-same-length-3
-same-length-3 c = search needs
+same-length-3 c = c .before .before .before .before .before .before .before .before .before .before .before .before .before .before .before .before .read-book .kept .1 .1 .1 .0
 
 same-length-4 : tie.Need-same-length-4
-same-length-4 c = search needs
+same-length-4 c = c .before .before .before .before .before .before .before .before .before .before .before .before .before .before .before .before .read-book .kept .1 .1 .1 .1 .0
 
 same-length-5 : tie.Need-same-length-5
-same-length-5 c = search needs
+same-length-5 c = c .before .before .before .before .before .before .before .before .before .before .before .before .before .before .before .before .read-book .kept .1 .1 .1 .1 .1 .0
 
 same-length-6 : tie.Need-same-length-6
-same-length-6 c = search needs
+same-length-6 c = c .before .before .before .before .before .before .before .before .before .before .before .before .before .before .before .before .read-book .kept .1 .1 .1 .1 .1 .1 .0
 
 same-length-7 : tie.Need-same-length-7
-same-length-7 c = search needs
+same-length-7 c = c .before .before .before .before .before .before .before .before .before .before .before .before .before .before .before .before .read-book .kept .1 .1 .1 .1 .1 .1 .1 .0
 
 same-length-8 : tie.Need-same-length-8
-same-length-8 c = search needs
+same-length-8 c = c .before .before .before .before .before .before .before .before .before .before .before .before .before .before .before .before .read-book .kept .1 .1 .1 .1 .1 .1 .1 .1 .0
 
 same-length-9 : tie.Need-same-length-9
-same-length-9 c = search needs
+same-length-9 c = c .before .before .before .before .before .before .before .before .before .before .before .before .before .before .before .before .read-book .kept .1 .1 .1 .1 .1 .1 .1 .1 .1 .0
 
 returns-3 : tie.Need-returns-3
 returns-3 c = let d = c .before .before .before .before .before .before .before .before .before .before .before .before .before .before .before .before .before .before .before .before .before .before .before .before .before in

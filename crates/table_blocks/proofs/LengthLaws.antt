@@ -23,7 +23,7 @@ use Rattle.table_lines.specs.Block.{Outcome, takes, stops, refuses, judge, judg
 use Rattle.table_entries.specs.Memory.{stringsOf, withEntries, EntryMemory}
 use Rattle.table_entries.proofs.MemoryLaws.{length-kept}
 use Rattle.table_kernels.specs.Kernels.{hasTriple, judgeKernel, noKernel, kernelNext, kernelsFrom}
-use Rattle.table.specs.Book.{lengthsOf}
+use Rattle.table_blocks.specs.Blocks.{lengthsOf}
 
 pub lines-same : {A : Type 0} (p q : ℕ → List A → Outcome A) → ((at : ℕ) (l : List A) → p at l ≡ q at l) → (k at : ℕ) (l : List A) → linesFrom k p at l ≡ linesFrom k q at l
 unfolding linesFrom

@@ -1,5 +1,5 @@
--- `table::read_head` meets its contract. Assumes nothing.
-use Rattle.table.proofs.ReadLaws.{head-capped}
+-- `table_head::read_head` meets its contract. Assumes nothing.
+use Rattle.table_head.proofs.HeadLaws.{head-capped}
 use Rattle.table_lines.proofs.HeldLaws.{Whole, whole-read, broken-read, held-count, held-at}
 use Rattle.table_lines.specs.Line.{lineAt}
 use borrow.Author.Tests.{eq-eqb, ne-eqb, not-true, not-false}
@@ -9,8 +9,8 @@ use Prim.Native.Nat.{_-_}
 use native.Mathlib.Omega.{arith}
 use lib.ListN.{length, replicate}
 use borrow.Author.Needs.{needs}
-use Rattle.table.proofs.read_head.Statement.{statement}
-use Rattle.table.proofs.read_head.Tie as tie
+use Rattle.table_head.proofs.read_head.Statement.{statement}
+use Rattle.table_head.proofs.read_head.Tie as tie
 
 -- the line that was read
 line-read : (c : tie.After-known-told) → let g = c .before .letter .given .0 in

@@ -1,24 +1,37 @@
--- `table::read_blocks` meets its contract. Assumes nothing.
+-- `table_blocks::read_blocks` meets its contract. Assumes nothing.
 use Rattle.table_lines.specs.Image.{image, flag}
-use Rattle.table.proofs.ReadLaws.{lines-few, entries-refused, entries-read, kernels-refused, kernels-read, actions-refused, actions-read}
-use Rattle.table.proofs.BlocksLaws.{begun-low, begun-entries, entries-at, kernels-at, counts-same, memory-sized}
-use Rattle.table.proofs.BlankLaws.{kernel-start, cells-start, blocks-hold}
-use Rattle.table.specs.Memory.{filled-with, denied}
-use Rattle.table_entries.specs.Memory.{isEntryState}
+use Rattle.table_blocks.proofs.ReadLaws.{lines-few, entries-refused, entries-read, kernels-refused, kernels-read, actions-refused, actions-read}
+use Rattle.table_blocks.proofs.BlocksLaws.{begun-low, begun-entries, entries-at, kernels-at, memory-sized, all-blocks}
+use Rattle.table_blocks.proofs.BlankLaws.{kernel-start, cells-start, blocks-hold}
+use Rattle.table_blocks.specs.Memory.{blocks-refused}
+use Rattle.table_entries.specs.Entries.{entriesFrom}
+use Rattle.table_entries.specs.Memory.{isEntryState, EntryMemory}
+use Rattle.leftcorner.specs.Table.{EntryLine}
+use Rattle.table_lines.specs.Block.{read}
 use Rattle.table_lines.proofs.BlockLaws.{reads-read, reads-refused}
-use mathlib.Core.List.{[]}
+use mathlib.Core.List.{List, []}
 use mathlib.Core.Path.{_≡_, sym, ap, _∙_}
 use Prim.Native.Nat.{ℕ, _+_, _-_}
 use native.Mathlib.Omega.{arith}
 use lib.ListN.{length}
+use denote.Ref.{now}
 use borrow.Author.Needs.{needs}
-use Rattle.table.proofs.read_blocks.Statement.{statement}
-use Rattle.table.proofs.read_blocks.Tie as tie
+use Rattle.table_blocks.proofs.read_blocks.Statement.{statement}
+use Rattle.table_blocks.proofs.read_blocks.Tie as tie
 
--- the entry lines that were read leave the flags of their states
-flags-at : (d : tie.After-known-told2) → let e = reads-read (d .before .before .before .before .before .before .before .before .before .read-entries .ensures) (d .before .count .given .1) in
-    d .before .before .before .before .before .before .before .before .before .read-entries .last .1 .1 .1 .1 .1 .1 .1 .1 .1 .0 ≡ image (length (d .before .before .before .before .before .before .before .before .before .read-entries .last .1 .1 .1 .1 .1 .1 .1 .1 .1 .0)) (λ x. flag (isEntryState (e .0) x))
-flags-at d = let e = reads-read (d .before .before .before .before .before .before .before .before .before .read-entries .ensures) (d .before .count .given .1) in
+-- the entry lines that were read, and memory with them
+entries-were : (d : tie.After-known-told2) → let r = d .before .before .before .before .before .before .before .before .before in
+    let a = r .before .before .before .before .before .before .before .before .before .before .before .before .before .args in
+    let g = d .before .count .given .0 in
+    let m = r .read-entries .last .1 .1 .1 .1 .1 .1 .1 in
+    (l : List EntryLine) × (entriesFrom (a .entries) (now (a .s)) (a .h .terminals) (a .h .nonterminals) (a .states) (a .first) ≡ read l (g .1 .0))
+    × (length l ≡ g .0) × EntryMemory (a .items .now) (a .h .rules) (length (a .entry-states .now)) (length (a .named .now)) l (m .0) (m .1 .0) (m .1 .1 .0)
+entries-were d = reads-read (d .before .before .before .before .before .before .before .before .before .read-entries .ensures) (d .before .count .given .1)
+
+-- they leave the flags of their states
+flags-at : (d : tie.After-known-told2) → let m = d .before .before .before .before .before .before .before .before .before .read-entries .last .1 .1 .1 .1 .1 .1 .1 .1 .1 .0 in
+    m ≡ image (length m) (λ x. flag (isEntryState (entries-were d .0) x))
+flags-at d = let e = entries-were d in
     e .3 .named-are ∙ ap (λ (n : ℕ). image n (λ x. flag (isEntryState (e .0) x))) (sym (d .before .before .before .before .before .before .before .before .before .read-entries .kept .1 .1 .1 .1 .1 .1 .1 .1 .1 .0))
 
 read-entries-requires : tie.Need-read-entries-requires
@@ -35,14 +48,16 @@ enum-known-count : tie.Need-enum-known-count
 enum-known-count c = search needs
 
 add-read-kernels : tie.Need-add-read-kernels
-add-read-kernels c = let p = c .before .before .before .before .before .before .before .before .before .before .before .before .before .before .before .before .before .before .before .before .before .before .pre in
-    let e = reads-read (c .before .before .before .before .before .before .before .before .before .read-entries .ensures) (c .before .count .given .1) in
+add-read-kernels c = let r = c .before .before .before .before .before .before .before .before .before in
+    let p = r .before .before .before .before .before .before .before .before .before .before .before .before .before .pre in
+    let e = entries-were c in
     record { fits = omega (arith, begun-low (p .1) .few-rules, lines-few _ _ _ [] (e .1), e .2, p .0 .2) }
 
 read-kernels-requires : tie.Need-read-kernels-requires
 read-kernels-requires c κs = let d = c .before .before .before in
-    let p = d .before .before .before .before .before .before .before .before .before .before .before .before .before .before .before .before .before .before .before .before .before .before .pre in
-    let e = reads-read (d .before .before .before .before .before .before .before .before .before .read-entries .ensures) (d .before .count .given .1) in
+    let r = d .before .before .before .before .before .before .before .before .before in
+    let p = r .before .before .before .before .before .before .before .before .before .before .before .before .before .pre in
+    let e = entries-were d in
     let w = begun-low (p .1) in (
       (p .0 .0, w .few-terminals, p .0 .1, omega (arith, w .few-rules, lines-few _ _ _ [] (e .1), e .2, p .0 .2)),
       (rw (e .2) at (e .3 .shaped), kernel-start (p .1 .blank)),
@@ -55,10 +70,10 @@ enum-known-lines : tie.Need-enum-known-lines
 enum-known-lines c = search needs
 
 read-actions-requires : tie.Need-read-actions-requires
-read-actions-requires c κs = let f = c .before .before .before .before in
-    let d = f .before .before .before .before .before .before .before .before .before .before .before in
-    let p = d .before .before .before .before .before .before .before .before .before .before .before .before .before .before .before .before .before .before .before .before .before .before .pre in
-    let e = reads-read (d .before .before .before .before .before .before .before .before .before .read-entries .ensures) (d .before .count .given .1) in
+read-actions-requires c κs = let d = c .before .before .before .before .before .before .before .before .before .before .before .before .before .before .before in
+    let r = d .before .before .before .before .before .before .before .before .before in
+    let p = r .before .before .before .before .before .before .before .before .before .before .before .before .before .pre in
+    let e = entries-were d in
     let w = begun-low (p .1) in (
       (p .0 .0, w .few-terminals, w .few-nonterminals, w .few-rules, p .0 .1, p .1 .blank .room .kinds-room, p .1 .blank .room .gotos-room),
       (cells-start (p .1 .blank), record { test = isEntryState (e .0); flags-are = flags-at d }),
@@ -80,7 +95,7 @@ same-length-3 : tie.Need-same-length-3
 same-length-3 c = search needs
 
 returns : tie.Need-returns
-returns c = λ g k q. rw (entries-refused g _ _ q _ _ (reads-refused (c .before .before .before .before .before .before .before .before .before .read-entries .ensures) (c .before .why .given .1))) denied
+returns c = λ g k q. rw (entries-refused g _ _ q _ _ (reads-refused (c .before .before .before .before .before .before .before .before .before .read-entries .ensures) (c .before .why .given .1))) blocks-refused
 
 same-length-4 : tie.Need-same-length-4
 same-length-4 c = search needs
@@ -100,8 +115,14 @@ same-length-8 c = search needs
 returns-2 : tie.Need-returns-2
 returns-2 c = λ g k q.
     let d = c .before .before .before .before .before .before .before .before .before .before .before in
-    let e = reads-read (d .before .before .before .before .before .before .before .before .before .read-entries .ensures) (d .before .count .given .1) in
-    rw (entries-read g _ _ q _ _ (e .1), kernels-refused g _ _ q (e .0) _ (ap (λ (n : ℕ). d .before .before .before .before .before .before .before .before .before .before .before .before .before .before .before .before .before .before .before .before .before .before .args .h .rules + n) (sym (e .2))) (sym (kernels-at k q _ _ _ (e .3) (e .2)) ∙ reads-refused (c .before .before .before .before .before .before .before .read-kernels .ensures) (c .before .why2 .given .1))) denied
+    let r = d .before .before .before .before .before .before .before .before .before in
+    let a = r .before .before .before .before .before .before .before .before .before .before .before .before .before .args in
+    let e = entries-were d in
+    let refused = reads-refused (c .before .before .before .before .before .before .before .read-kernels .ensures) (c .before .why2 .given .1) in
+    rw (
+      entries-read g _ _ q _ _ (e .1),
+      kernels-refused g _ _ q (e .0) _ (ap (λ (n : ℕ). a .h .rules + n) (sym (e .2))) (sym (kernels-at k q _ _ _ (e .3) (e .2)) ∙ refused),
+    ) blocks-refused
 
 same-length-9 : tie.Need-same-length-9
 same-length-9 c = c .before .before .before .before .before .before .before .before .before .before .before .before .before .before .before .before .before .before .before .before .before .before .before .before .before .before .before .before .before .before .before .before .before .before .before .before .read-entries .kept .1 .1 .1 .1 .1 .1 .1 .0
@@ -125,19 +146,24 @@ same-length-15 : tie.Need-same-length-15
 same-length-15 c = search needs
 
 same-length-16 : tie.Need-same-length-16
-same-length-16 c = c .before .before .before .before .before .before .before .before .before .before .before .read-actions .kept .1 .1 .1 .1 .1 .1 .1 .1 .1 .0 ∙ c .before .before .before .before .before .before .before .before .before .before .before .before .before .before .before .before .before .before .before .before .before .before .before .before .before .before .before .before .before .before .before .before .before .before .before .before .read-entries .kept .1 .1 .1 .1 .1 .1 .1 .1 .1 .0
+same-length-16 c = let a = c .before .before .before .before .before .before .before .before .before .before .before in
+    let e = a .before .before .before .before .before .before .before .before .before .before .before .before .before .before .before .before .before .before .before .before .before .before .before .before .before in
+    a .read-actions .kept .1 .1 .1 .1 .1 .1 .1 .1 .1 .0 ∙ e .read-entries .kept .1 .1 .1 .1 .1 .1 .1 .1 .1 .0
 
 returns-3 : tie.Need-returns-3
 returns-3 c = λ g k q.
     let f = c .before .before .before .before .before .before .before .before .before .before .before .before .before .before .before .before in
     let d = f .before .before .before .before .before .before .before .before .before .before .before in
-    let e = reads-read (d .before .before .before .before .before .before .before .before .before .read-entries .ensures) (d .before .count .given .1) in
+    let r = d .before .before .before .before .before .before .before .before .before in
+    let a = r .before .before .before .before .before .before .before .before .before .before .before .before .before .args in
+    let e = entries-were d in
     let i = reads-read (f .before .before .before .before .before .before .before .read-kernels .ensures) (f .before .lines .given .1) in
+    let refused = reads-refused (c .before .before .before .before .before .before .before .before .before .before .before .read-actions .ensures (isEntryState (e .0)) (flags-at d)) (c .before .why3 .given .1) in
     rw (
       entries-read g _ _ q _ _ (e .1),
-      kernels-read g _ _ q (e .0) _ (ap (λ (n : ℕ). d .before .before .before .before .before .before .before .before .before .before .before .before .before .before .before .before .before .before .before .before .before .before .args .h .rules + n) (sym (e .2))) (sym (kernels-at k q _ _ _ (e .3) (e .2)) ∙ i .1),
-      actions-refused g _ _ q (e .0) (i .0) _ (reads-refused (c .before .before .before .before .before .before .before .before .before .before .before .read-actions .ensures (isEntryState (e .0)) (flags-at d)) (c .before .why3 .given .1)),
-    ) denied
+      kernels-read g _ _ q (e .0) _ (ap (λ (n : ℕ). a .h .rules + n) (sym (e .2))) (sym (kernels-at k q _ _ _ (e .3) (e .2)) ∙ i .1),
+      actions-refused g _ _ q (e .0) (i .0) _ refused,
+    ) blocks-refused
 
 same-length-17 : tie.Need-same-length-17
 same-length-17 c = c .before .before .before .before .before .before .before .before .before .before .before .before .before .before .before .before .before .before .before .before .before .before .before .before .before .before .before .before .before .before .before .before .before .before .before .read-entries .kept .1 .1 .1 .1 .1 .1 .1 .0
@@ -167,16 +193,18 @@ returns-4 : tie.Need-returns-4
 returns-4 c = λ g k q.
     let f = c .before .before .before .before .before .before .before .before .before .before .before .before .before .before .before in
     let d = f .before .before .before .before .before .before .before .before .before .before .before in
-    let e = reads-read (d .before .before .before .before .before .before .before .before .before .read-entries .ensures) (d .before .count .given .1) in
+    let r = d .before .before .before .before .before .before .before .before .before in
+    let a = r .before .before .before .before .before .before .before .before .before .before .before .before .before .args in
+    let e = entries-were d in
     let i = reads-read (f .before .before .before .before .before .before .before .read-kernels .ensures) (f .before .lines .given .1) in
     let x = reads-read (c .before .before .before .before .before .before .before .before .before .before .read-actions .ensures (isEntryState (e .0)) (flags-at d)) (c .enum-told .given .1) in
     rw (
       entries-read g _ _ q _ _ (e .1),
-      kernels-read g _ _ q (e .0) _ (ap (λ (n : ℕ). d .before .before .before .before .before .before .before .before .before .before .before .before .before .before .before .before .before .before .before .before .before .before .args .h .rules + n) (sym (e .2))) (sym (kernels-at k q _ _ _ (e .3) (e .2)) ∙ i .1),
+      kernels-read g _ _ q (e .0) _ (ap (λ (n : ℕ). a .h .rules + n) (sym (e .2))) (sym (kernels-at k q _ _ _ (e .3) (e .2)) ∙ i .1),
       actions-read g _ _ q (e .0) (i .0) _ (x .1),
-      counts-same k q _ (e .0) (i .0) (x .0) (e .2) (i .2),
     )
-    (filled-with (blocks-hold k (entries-at k q (e .3)) (i .3) (memory-sized (d .before .before .before .before .before .before .before .before .before .read-entries .kept .1 .1 .1 .1 .1 .1 .1 .1 .1 .0) (x .3))))
+    (all-blocks (e .2) (i .2)
+    (blocks-hold k (entries-at k q (e .3)) (i .3) (memory-sized (r .read-entries .kept .1 .1 .1 .1 .1 .1 .1 .1 .1 .0) (x .3))))
 
 pub read-blocks-spec : {M : Type 1} → statement M
 read-blocks-spec =

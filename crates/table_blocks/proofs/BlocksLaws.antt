@@ -13,12 +13,11 @@ use Rattle.items.specs.Layout.{lengthAt, layout}
 use Rattle.table_entries.specs.Memory.{EntryMemory}
 use Rattle.table_kernels.specs.Kernels.{kernelsFrom}
 use Rattle.table_actions.specs.Memory.{ActionMemory}
-use Rattle.table.specs.declared.TableReply.{TableReply}
-use Rattle.table.specs.declared.TableReply.the-variants as reply
-use Rattle.table.specs.Book.{lengthsOf, tableWith}
-use Rattle.table.specs.Memory.{Slices, Begun, Blank, countsOf}
-use Rattle.table.proofs.LengthLaws.{kernels-same, lengths-agree}
-use Rattle.table.proofs.BlankLaws.{entry-start}
+use Rattle.table_blocks.specs.declared.Blocks.the-variants as blocks
+use Rattle.table_blocks.specs.Blocks.{whole, lengthsOf, tableWith}
+use Rattle.table_blocks.specs.Memory.{Slices, Begun, Blank, Holds, ReadsBlocks, blocks-read}
+use Rattle.table_blocks.proofs.LengthLaws.{kernels-same, lengths-agree}
+use Rattle.table_blocks.proofs.BlankLaws.{entry-start}
 
 -- the figures of a grammar that was read
 pub record Low (h : Heading) : Type 0 where
@@ -50,9 +49,10 @@ module _ {g : Grammar} {b : Slices} {h : Heading} (k : Blank g b) (q : h ≡ hea
       (subst (λ (z : List ℕ). EntryMemory z (length (g .rules)) a c l i es n) (k .items-are) (entries-at m)) j x
       (omega (arith, y, e, ap (λ (z : Heading). z .rules) q))) at
 
-  pub counts-same : (states : ℕ) {count lines : ℕ} (es : List EntryLine) (ks : List KernelLine) (xs : List ActionLine) → length es ≡ count → length ks ≡ lines
-      → reply.Read (record { grammar = h; states = states; entries = count; kernels = lines }) ≡ reply.Read (countsOf g (tableWith states es ks xs))
-  counts-same states es ks xs a c = cc
-
 pub memory-sized : {e : ℕ → Bool} {a b c n m : ℕ} {xs : List ActionLine} {k v g l : List ℕ} → n ≡ m → ActionMemory e a b c n xs k v g l → ActionMemory e a b c m xs k v g l
 memory-sized {e} {a} {b} {c} {xs = xs} {k = k} {v = v} {g = g} {l = l} q h = subst (λ (z : ℕ). ActionMemory e a b c z xs k v g l) q h
+
+-- the numbers of lines that the code counted
+pub all-blocks : {g : Grammar} {states count lines : ℕ} {b a : Slices} {es : List EntryLine} {ks : List KernelLine} {xs : List ActionLine} → length es ≡ count → length ks ≡ lines
+    → Holds (whole g (tableWith states es ks xs)) b a → ReadsBlocks g states b a (whole g (tableWith states es ks xs)) (blocks.Read count lines)
+all-blocks e i h = rw (← e, ← i) (blocks-read h)

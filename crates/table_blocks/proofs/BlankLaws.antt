@@ -20,8 +20,8 @@ use Rattle.table_entries.specs.Memory.{stringsOf, stateAt, isEntryState, withEn
 use Rattle.table_kernels.specs.Memory.{figureAt, lookaheadAt, KernelImage}
 use Rattle.memory.specs.Memory.{kindOf, valueOf}
 use Rattle.table_actions.specs.Memory.{cellAt, gotoAt, Cells, ActionMemory}
-use Rattle.table.specs.Book.{whole, tableWith}
-use Rattle.table.specs.Memory.{Slices, Zero, Blank, Holds}
+use Rattle.table_blocks.specs.Blocks.{whole, tableWith}
+use Rattle.table_blocks.specs.Memory.{Slices, Zero, Blank, Holds}
 
 -- ---- before
 zeros-are : (l : List ℕ) (f : ℕ → ℕ) → Zero l → ((i : ℕ) → f i ≡ 0) → l ≡ image (length l) f

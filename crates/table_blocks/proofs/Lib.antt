@@ -1,0 +1,4 @@
+pub mod LengthLaws
+pub mod BlankLaws
+pub mod ReadLaws
+pub mod BlocksLaws
