@@ -10,7 +10,10 @@ use Rattle.closure.proofs.add_kernel.Statement.{statement}
 use Rattle.closure.proofs.add_kernel.Tie as tie
 
 abbrev Inv-loop : tie.InvT-loop
-Inv-loop m items kernels lookaheads lines q codes nul fst present₀ follow₀ l₀ present follow l = (l ≤ lines) × Adds (KernelBefore m kernels l q) present₀ present × Adds (KernelFollows m codes nul fst kernels lookaheads l q) follow₀ follow
+Inv-loop m items kernels lookaheads lines q codes nul fst present₀ follow₀ l₀ present follow l =
+    (l ≤ lines)
+    × Adds (KernelBefore m kernels l q) present₀ present
+    × Adds (KernelFollows m codes nul fst kernels lookaheads l q) follow₀ follow
 
 abbrev μ-loop : tie.MeasureT-loop
 μ-loop m items kernels lookaheads lines q codes nul fst present₀ follow₀ l₀ present follow l = lines - l
@@ -28,26 +31,42 @@ loop-less : tie.Need-loop-less Inv-loop μ-loop
 loop-less c = search needs
 
 loop-again : tie.Need-loop-again Inv-loop μ-loop
-loop-again c = let v = c .before .before .before .loop .inv in
-    (omega arith, lines-skip _ _ _ _ (λ e. c .if1 .taken (c .before .state-of .ensures .0 ∙ e)) (v .1), lines-skip _ _ _ _ (λ e. c .if1 .taken (c .before .state-of .ensures .0 ∙ e)) (v .2))
+loop-again c =
+    let v = c .before .before .before .loop .inv in (
+      omega arith,
+      lines-skip _ _ _ _ (λ e. c .if1 .taken (c .before .state-of .ensures .0 ∙ e)) (v .1),
+      lines-skip _ _ _ _ (λ e. c .if1 .taken (c .before .state-of .ensures .0 ∙ e)) (v .2),
+    )
 
 item-of-requires : tie.Need-item-of-requires Inv-loop μ-loop
-item-of-requires c κs = (c .before .before .before .before .before .before .before .before .before .before .before .pre .1 .0, c .before .before .loop-test .taken)
+item-of-requires c κs =
+    let at-loop-test = c .before .before in (
+      at-loop-test .before .before .before .before .before .before .before .before .before .pre .1 .0,
+      at-loop-test .loop-test .taken,
+    )
 
 dot-of-requires : tie.Need-dot-of-requires Inv-loop μ-loop
-dot-of-requires c κs = (c .before .before .before .before .before .before .before .before .before .before .before .before .pre .1 .0, c .before .before .before .loop-test .taken)
+dot-of-requires c κs =
+    let at-loop-test = c .before .before .before in (
+      at-loop-test .before .before .before .before .before .before .before .before .before .pre .1 .0,
+      at-loop-test .loop-test .taken,
+    )
 
 mul-add-item : tie.Need-mul-add-item Inv-loop μ-loop
 mul-add-item c = search needs
 
 add-item-requires : tie.Need-add-item-requires Inv-loop μ-loop
-add-item-requires c κs = let p = c .before .before .before .before .before .before .before .before .before .before .before .before .before .before .before .pre in
-    let v = c .before .before .before .before .before .before .before .loop .inv in
-    let l = c .before .before .before .before .before .before .before .loop .l in
-    let t : l < c .before .before .before .before .before .before .before .before .before .before .before .before .before .before .before .args .lines = omega arith in (
+add-item-requires c κs =
+    let at-item-of = c .before .before .before in
+    let at-loop = at-item-of .before .before .before .before in
+    let start = at-loop .before .before .before .before .before .before .before .before in
+    let p = start .pre in
+    let v = at-loop .loop .inv in
+    let l = at-loop .loop .l in
+    let t : l < start .args .lines = omega arith in (
       p .0,
       (
-        (c .before .before .before .item-of .ensures .1, p .1 .1 .0 .1, omega (arith, t, p .1 .1 .0 .0)),
+        (at-item-of .item-of .ensures .1, p .1 .1 .0 .1, omega (arith, t, p .1 .1 .0 .0)),
         (p .1 .1 .1 .0, (v .1 .long ∙ p .1 .1 .1 .1 .0, v .2 .long ∙ p .1 .1 .1 .1 .1)),
       ),
     )
@@ -59,13 +78,18 @@ loop-less-2 : tie.Need-loop-less-2 Inv-loop μ-loop
 loop-less-2 c = search needs
 
 loop-again-2 : tie.Need-loop-again-2 Inv-loop μ-loop
-loop-again-2 c = let v = c .before .before .before .before .before .before .before .before .before .before .before .before .loop .inv in
-    let s = sym (c .before .before .before .before .before .before .before .before .before .before .state-of .ensures .0) ∙ c .before .before .before .before .before .before .before .before .before .if1 .left in
-    let kernels = c .before .before .before .before .before .before .before .before .before .before .before .before .before .before .before .before .before .before .before .before .args .kernels .now in
-    let l = c .before .before .before .before .before .before .before .before .before .before .before .before .loop .l in
-    let ei = c .before .before .before .before .before .before .before .before .item-of .ensures .0 in
-    let ek = c .before .before .before .before .before .before .before .dot-of .ensures .0 in
-    let a = c .before .before .before .before .add-item .ensures in (
+loop-again-2 c =
+    let at-add-item = c .before .before .before .before in
+    let at-dot-of = at-add-item .before .before .before in
+    let at-if1 = at-dot-of .before .before in
+    let at-loop = at-if1 .before .before .before in
+    let v = at-loop .loop .inv in
+    let s = sym (at-if1 .before .state-of .ensures .0) ∙ at-if1 .if1 .left in
+    let kernels = at-loop .before .before .before .before .before .before .before .before .args .kernels .now in
+    let l = at-loop .loop .l in
+    let ei = at-dot-of .before .item-of .ensures .0 in
+    let ek = at-dot-of .dot-of .ensures .0 in
+    let a = at-add-item .add-item .ensures in (
       omega arith,
       lines-more _ _ _ _ s (v .1) (line-before _ kernels l ei ek (a .0)),
       lines-more _ _ _ _ s (v .2) (line-follows _ kernels l ei ek _ _ _ _ (a .1)),

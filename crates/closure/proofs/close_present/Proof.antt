@@ -17,13 +17,20 @@ use Rattle.closure.proofs.close_present.Statement.{statement}
 use Rattle.closure.proofs.close_present.Tie as tie
 
 abbrev Inv-rules : tie.InvT-rules
-Inv-rules m items rules present₀ added₀ i₀ present added i = (1 ≤ i) × (i ≤ rules + 1) × Pass 64 (Least (expansions m rules) (On present₀)) present₀ present added₀ added (λ fs. (j : ℕ) → 1 ≤ j → j < i → ExpansionMet m rules j fs)
+Inv-rules m items rules present₀ added₀ i₀ present added i =
+    (1 ≤ i)
+    × (i ≤ rules + 1)
+    × Pass 64 (Least (expansions m rules) (On present₀)) present₀ present added₀ added
+    (λ fs. (j : ℕ) → 1 ≤ j → j < i → ExpansionMet m rules j fs)
 
 abbrev μ-rules : tie.MeasureT-rules
 μ-rules m items rules present₀ added₀ i₀ present added i = rules + 1 - i
 
 abbrev Inv-passes : tie.InvT-passes
-Inv-passes m items rules present₀ present = (length present ≡ 64) × ((y : ℕ) → On present y → Least (expansions m rules) (On present₀) y) × ((y : ℕ) → On present₀ y → On present y)
+Inv-passes m items rules present₀ present =
+    (length present ≡ 64)
+    × ((y : ℕ) → On present y → Least (expansions m rules) (On present₀) y)
+    × ((y : ℕ) → On present₀ y → On present y)
 
 abbrev μ-passes : tie.MeasureT-passes
 μ-passes m items rules present₀ present = zeros present
@@ -35,7 +42,9 @@ rules-holds : tie.Need-rules-holds Inv-rules μ-rules Inv-passes μ-passes
 rules-holds c = (omega arith, omega arith, pass-start _ (c .passes .inv .0) (λ y on. seed on) (λ _ j l m. absurd (no-gap l m)))
 
 left-in-requires : tie.Need-left-in-requires Inv-rules μ-rules Inv-passes μ-passes
-left-in-requires c κs = (c .before .before .before .before .before .before .pre .0, (omega (arith, c .before .before .before .before .before .before .pre .1 .0), c .before .before .rules .inv .2 .long))
+left-in-requires c κs =
+    let start = c .before .before .before .before .before .before in
+    (start .pre .0, (omega (arith, start .pre .1 .0), c .before .before .rules .inv .2 .long))
 
 add-i : tie.Need-add-i Inv-rules μ-rules Inv-passes μ-passes
 add-i c = search needs
@@ -44,12 +53,13 @@ rules-less : tie.Need-rules-less Inv-rules μ-rules Inv-passes μ-passes
 rules-less c = search needs
 
 rules-again : tie.Need-rules-again Inv-rules μ-rules Inv-passes μ-passes
-rules-again c = (
-  omega arith,
-  omega arith,
-  pass-more _ _ refl refl (c .before .before .before .before .rules .inv .2)
-      (λ d. from-more _ 1 (c .before .before .before .before .rules .i) d (left-out _ _ (c .before .left-in .ensures .no (not-true _ (c .if1 .taken))))),
-)
+rules-again c =
+    let at-rules = c .before .before .before .before in (
+      omega arith,
+      omega arith,
+      pass-more _ _ refl refl (at-rules .rules .inv .2)
+          (λ d. from-more _ 1 (at-rules .rules .i) d (left-out _ _ (c .before .left-in .ensures .no (not-true _ (c .if1 .taken))))),
+    )
 
 first-nonterminal-requires :
     tie.Need-first-nonterminal-requires Inv-rules μ-rules Inv-passes μ-passes
@@ -62,12 +72,13 @@ rules-less-2 : tie.Need-rules-less-2 Inv-rules μ-rules Inv-passes μ-passes
 rules-less-2 c = search needs
 
 rules-again-2 : tie.Need-rules-again-2 Inv-rules μ-rules Inv-passes μ-passes
-rules-again-2 c = (
-  omega arith,
-  omega arith,
-  pass-more _ _ refl refl (c .before .before .before .before .before .before .rules .inv .2)
-      (λ d. from-more _ 1 (c .before .before .before .before .before .before .rules .i) d (first-out _ _ (c .before .first-nonterminal .ensures) (c .if2 .taken))),
-)
+rules-again-2 c =
+    let at-rules = c .before .before .before .before .before .before in (
+      omega arith,
+      omega arith,
+      pass-more _ _ refl refl (at-rules .rules .inv .2)
+          (λ d. from-more _ 1 (at-rules .rules .i) d (first-out _ _ (c .before .first-nonterminal .ensures) (c .if2 .taken))),
+    )
 
 slice-read-if3 : tie.Need-slice-read-if3 Inv-rules μ-rules Inv-passes μ-passes
 slice-read-if3 c = omega (arith, c .before .before .before .before .before .before .before .rules .inv .2 .long, c .before .if2 .left)
@@ -76,7 +87,14 @@ slice-write-present : tie.Need-slice-write-present Inv-rules μ-rules Inv-passes
 slice-write-present c = omega (arith, c .before .before .before .before .before .before .before .before .rules .inv .2 .long, c .before .before .if2 .left)
 
 add-added : tie.Need-add-added Inv-rules μ-rules Inv-passes μ-passes
-add-added c = omega (arith, c .before .before .before .before .before .before .before .before .rules .inv .2 .count, zeros-le (c .before .before .before .before .before .before .before .before .before .passes .present), c .before .before .before .before .before .before .before .before .before .passes .inv .0)
+add-added c =
+    let at-rules = c .before .before .before .before .before .before .before .before in
+    omega (
+      arith,
+      at-rules .rules .inv .2 .count,
+      zeros-le (at-rules .before .passes .present),
+      at-rules .before .passes .inv .0,
+    )
 
 add-i-3 : tie.Need-add-i-3 Inv-rules μ-rules Inv-passes μ-passes
 add-i-3 c = search needs
@@ -85,14 +103,19 @@ rules-less-3 : tie.Need-rules-less-3 Inv-rules μ-rules Inv-passes μ-passes
 rules-less-3 c = search needs
 
 rules-again-3 : tie.Need-rules-again-3 Inv-rules μ-rules Inv-passes μ-passes
-rules-again-3 c = let p = c .before .before .before .before .before .before .before .before .rules .inv .2 in
-    let i = c .before .before .before .before .before .before .before .before .rules .i in
-    let f = c .before .before .before .first-nonterminal .ensures .found (omega (arith, c .before .before .if2 .left)) in (
+rules-again-3 c =
+    let at-if2 = c .before .before in
+    let at-if1 = at-if2 .before .before in
+    let at-rules = at-if1 .before .before .before .before in
+    let p = at-rules .rules .inv .2 in
+    let i = at-rules .rules .i in
+    let f = at-if2 .before .first-nonterminal .ensures .found (omega (arith, at-if2 .if2 .left)) in (
       omega arith,
       omega arith,
-      ⊎-elim
-          (λ w. pass-add _ _ (c .before .before .before .first-nonterminal .result) (w .1) (w .2) p (omega (arith, c .before .before .if2 .left)) (w .0 .taken)
-          (expand _ _ (c .before .before .before .before .before .before .before .before .rules .inv .0) (omega arith) (c .before .before .before .before .before .left-in .ensures .yes (not-false _ (c .before .before .before .before .if1 .left))) f (p .only)))
+      ⊎-elim (λ w.
+          pass-add _ _ (at-if2 .before .first-nonterminal .result) (w .1) (w .2) p (omega (arith, at-if2 .if2 .left))
+          (w .0 .taken)
+          (expand _ _ (at-rules .rules .inv .0) (omega arith) (at-if1 .before .left-in .ensures .yes (not-false _ (at-if1 .if1 .left))) f (p .only)))
           (λ w. pass-more _ _ (w .1) (w .2) p (λ d. from-more _ 1 i d (first-in _ _ f (set-on (w .0 .left)))))
           (c .if3 .came),
     )
@@ -109,9 +132,11 @@ same-length : tie.Need-same-length Inv-rules μ-rules Inv-passes μ-passes
 same-length c = omega (arith, c .before .before .rules .inv .2 .long, c .before .before .before .before .before .before .pre .1 .1)
 
 returns : tie.Need-returns Inv-rules μ-rules Inv-passes μ-passes
-returns c = let p = c .before .before .rules .inv .2 in
+returns c =
+    let p = c .before .before .rules .inv .2 in
     let o = c .before .before .before .passes .inv in
-    least-marks _ (λ y on. least-join _ (o .1) (p .only y on)) (λ y on. p .kept y (o .2 y on)) (all-expanded _ _ (λ j l h. p .closed (c .if4 .taken) j l (omega arith)))
+    least-marks _ (λ y on. least-join _ (o .1) (p .only y on)) (λ y on. p .kept y (o .2 y on))
+    (all-expanded _ _ (λ j l h. p .closed (c .if4 .taken) j l (omega arith)))
 
 pub close-present-spec : {M : Type 1} → statement M
 close-present-spec =

@@ -14,40 +14,64 @@ clear-requires-2 : tie.Need-clear-requires-2
 clear-requires-2 c κs = search needs
 
 add-kernel-requires : tie.Need-add-kernel-requires
-add-kernel-requires c κs = let c1 = c .before .before .before .before in
-    let c2 = c1 .before .before .before .before in
-    let start = c2 .before .before .before .before .before .before .before .before .before .before .before in
+add-kernel-requires c κs =
+    let at-clear2 = c .before .before .before .before in
+    let at-clear = at-clear2 .before .before .before .before in
+    let start = at-clear .before .before .before .before .before .before .before .before .before .before .before in
     let p = start .pre in
     let n = p .1 .1 .1 .1 .0 in (
       p .0,
       (
         p .1 .1 .0,
-        ((p .1 .1 .1 .0, p .1 .0 .2), ((n .0, n .1), (zeroed (c2 .clear .ensures) (start .pre .1 .1 .1 .1 .1 .1 .0), zeroed (c1 .clear2 .ensures) (start .pre .1 .1 .1 .1 .1 .1 .1)))),
+        (
+          (p .1 .1 .1 .0, p .1 .0 .2),
+          (
+            (n .0, n .1),
+            (
+              zeroed (at-clear .clear .ensures) (start .pre .1 .1 .1 .1 .1 .1 .0),
+              zeroed (at-clear2 .clear2 .ensures) (start .pre .1 .1 .1 .1 .1 .1 .1),
+            ),
+          ),
+        ),
       ),
     )
 
 close-present-requires : tie.Need-close-present-requires
-close-present-requires c κs = let c1 = c .before .before .before .before .before in
-    let c2 = c1 .before .before .before .before .before .before .before .before .before in
-    let start = c2 .before .before .before .before .before .before .before .before .before .before .before in
-    let p = start .pre in
-    (p .0, (p .1 .0 .0, c1 .add-kernel .ensures .0 .long ∙ zeroed (c2 .clear .ensures) (start .pre .1 .1 .1 .1 .1 .1 .0)))
+close-present-requires c κs =
+    let at-add-kernel = c .before .before .before .before .before in
+    let at-clear = at-add-kernel .before .before .before .before .before .before .before .before .before in
+    let start = at-clear .before .before .before .before .before .before .before .before .before .before .before in
+    let p = start .pre in (
+      p .0,
+      (
+        p .1 .0 .0,
+        at-add-kernel .add-kernel .ensures .0 .long ∙ zeroed (at-clear .clear .ensures) (start .pre .1 .1 .1 .1 .1 .1 .0),
+      ),
+    )
 
 close-follow-requires : tie.Need-close-follow-requires
-close-follow-requires c κs = let p = c .before .before .before .before .before .before .before .before .before .before .before .before .before .before .before .before .before .before .before .before .before .before .before .before .before .before .before .before .before .before .pre in
+close-follow-requires c κs =
+    let at-close-present = c .before .before .before .before in
+    let at-add-kernel = at-close-present .before .before .before .before .before .before in
+    let at-clear2 = at-add-kernel .before .before .before .before .before in
+    let at-clear = at-clear2 .before .before .before .before in
+    let start = at-clear .before .before .before .before .before .before .before .before .before .before .before in
+    let p = start .pre in
     let n = p .1 .1 .1 .1 .0 in
-    let a = adds-marks (length (c .before .before .before .before .before .before .before .before .before .before .before .before .before .before .before .before .before .before .before .before .before .before .before .before .before .before .before .before .before .before .args .present .now)) (c .before .before .before .before .before .before .before .before .before .before .before .before .before .before .before .before .before .before .before .clear .ensures)
-    (c .before .before .before .before .before .before .before .before .before .before .add-kernel .ensures .0) in
-    let w = adds-marks (length (c .before .before .before .before .before .before .before .before .before .before .before .before .before .before .before .before .before .before .before .before .before .before .before .before .before .before .before .before .before .before .args .follow .now)) (c .before .before .before .before .before .before .before .before .before .before .before .before .before .before .before .clear2 .ensures)
-    (c .before .before .before .before .before .before .before .before .before .before .add-kernel .ensures .1) in (
+    let a = adds-marks (length (start .args .present .now)) (at-clear .clear .ensures) (at-add-kernel .add-kernel .ensures .0) in
+    let w = adds-marks (length (start .args .follow .now)) (at-clear2 .clear2 .ensures) (at-add-kernel .add-kernel .ensures .1) in (
       p .0,
       (
         p .1 .0,
         (
           (n .2, n .3),
           (
-            (search needs, c .before .before .before .before .before .before .before .before .before .before .add-kernel .ensures .1 .long ∙ zeroed (c .before .before .before .before .before .before .before .before .before .before .before .before .before .before .before .clear2 .ensures) (p .1 .1 .1 .1 .1 .1 .1)),
-            covered _ _ _ _ _ _ _ _ _ (p .1 .0 .2) a (c .before .before .before .before .close-present .ensures) w,
+            (
+              at-close-present .close-present .kept .1 .1 .1 .0 ∙ at-add-kernel .add-kernel .ensures .0 .long
+                  ∙ zeroed (at-clear .clear .ensures) (p .1 .1 .1 .1 .1 .1 .0),
+              at-add-kernel .add-kernel .ensures .1 .long ∙ zeroed (at-clear2 .clear2 .ensures) (p .1 .1 .1 .1 .1 .1 .1),
+            ),
+            covered _ _ _ _ _ _ _ _ _ (p .1 .0 .2) a (at-close-present .close-present .ensures) w,
           ),
         ),
       ),
@@ -60,15 +84,21 @@ same-length-2 : tie.Need-same-length-2
 same-length-2 c = search needs
 
 returns : tie.Need-returns
-returns c = let c1 = c .before .before .before .before .before .before .before in
-    let c2 = c1 .before .before .before .before .before .before in
-    let c3 = c2 .before .before .before .before .before in
-    let c4 = c3 .before .before .before .before in
-    let start = c4 .before .before .before .before .before .before .before .before .before .before .before in
-    λ g t H. let p = start .pre in
-    holds-closure _ _ _ _ _ _ _ _ _ _ _ _ (p .0) (p .1 .1 .0 .item-low) (p .1 .0 .0) (p .1 .0 .2) g t H (p .1 .1 .1 .1 .1 .0)
-    (marks-least (adds-marks (length (start .args .present .now)) (c4 .clear .ensures) (c2 .add-kernel .ensures .0)) (c1 .close-present .ensures))
-    (marks-least (adds-marks (length (start .args .follow .now)) (c3 .clear2 .ensures) (c2 .add-kernel .ensures .1)) (c .before .before .close-follow .ensures))
+returns c =
+    let at-close-present = c .before .before .before .before .before .before .before in
+    let at-add-kernel = at-close-present .before .before .before .before .before .before in
+    let at-clear2 = at-add-kernel .before .before .before .before .before in
+    let at-clear = at-clear2 .before .before .before .before in
+    let start = at-clear .before .before .before .before .before .before .before .before .before .before .before in
+    λ g t H.
+    let p = start .pre in
+    holds-closure _ _ _ _ _ _ _ _ _ _ _ _ (p .0) (p .1 .1 .0 .item-low) (p .1 .0 .0) (p .1 .0 .2) g t H
+    (p .1 .1 .1 .1 .1 .0) (marks-least
+    (adds-marks (length (start .args .present .now)) (at-clear .clear .ensures) (at-add-kernel .add-kernel .ensures .0))
+    (at-close-present .close-present .ensures))
+    (marks-least
+    (adds-marks (length (start .args .follow .now)) (at-clear2 .clear2 .ensures) (at-add-kernel .add-kernel .ensures .1))
+    (c .before .before .close-follow .ensures))
 
 pub close-state-spec : {M : Type 1} → statement M
 close-state-spec =

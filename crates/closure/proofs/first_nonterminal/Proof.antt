@@ -18,10 +18,15 @@ returns-2 : tie.Need-returns-2
 returns-2 c = record { found = λ l. absurd (omega (arith, l)); missing = λ _ b p. omega (arith, p .symbol, c .before .symbol-of .ensures .0, c .if2 .taken) }
 
 returns-3 : tie.Need-returns-3
-returns-3 c = let e = c .before .symbol-of .ensures in record {
-  found = λ _. record { before = c .before .before .before .stands-before .ensures .yes (not-false _ (c .before .before .if1 .left)); symbol = omega (arith, e .0, c .if2 .left) };
-  missing = λ l b p. omega (arith, l, e .1, c .if2 .left);
-}
+returns-3 c =
+    let e = c .before .symbol-of .ensures in
+    record {
+      found = λ _. record {
+        before = c .before .before .before .stands-before .ensures .yes (not-false _ (c .before .before .if1 .left));
+        symbol = omega (arith, e .0, c .if2 .left);
+      };
+      missing = λ l b p. omega (arith, l, e .1, c .if2 .left);
+    }
 
 pub first-nonterminal-spec : {M : Type 1} → statement M
 first-nonterminal-spec =

@@ -16,10 +16,20 @@ shared-slice-read-if2 : tie.Need-shared-slice-read-if2
 shared-slice-read-if2 c = search needs
 
 returns-2 : tie.Need-returns-2
-returns-2 c = is-no _ (λ p. p .on .nonzero (off-at (c .before .before .before .before .before .before .args .present .now) (omega (arith, p .is, c .before .before .before .left-of .ensures .0, c .before .before .if1 .left)) (c .if2 .taken)))
+returns-2 c =
+    let at-if1 = c .before .before in
+    is-no _ (λ p.
+    p .on .nonzero (off-at (at-if1 .before .before .before .before .args .present .now)
+    (omega (arith, p .is, at-if1 .before .left-of .ensures .0, at-if1 .if1 .left)) (c .if2 .taken)))
 
 returns-3 : tie.Need-returns-3
-returns-3 c = is-yes _ (record { left = c .before .before .before .left-of .result - 64; is = omega (arith, c .before .before .before .left-of .ensures .0, c .before .before .if1 .left); on = set-on (c .if2 .left) })
+returns-3 c =
+    let at-if1 = c .before .before in
+    is-yes _ (record {
+      left = at-if1 .before .left-of .result - 64;
+      is = omega (arith, at-if1 .before .left-of .ensures .0, at-if1 .if1 .left);
+      on = set-on (c .if2 .left);
+    })
 
 pub left-in-spec : {M : Type 1} → statement M
 left-in-spec =

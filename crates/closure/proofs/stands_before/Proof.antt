@@ -19,7 +19,11 @@ returns-2 : tie.Need-returns-2
 returns-2 c = is-no _ (λ p. p .unmarked (sym (c .before .mark-of .ensures .0) ∙ c .if2 .taken))
 
 returns-3 : tie.Need-returns-3
-returns-3 c = is-yes _ (record { within = omega (arith, c .before .before .before .length-of .ensures .0); unmarked = λ e. c .if2 .left (c .before .mark-of .ensures .0 ∙ e) })
+returns-3 c =
+    is-yes _ (record {
+      within = omega (arith, c .before .before .before .length-of .ensures .0);
+      unmarked = λ e. c .if2 .left (c .before .mark-of .ensures .0 ∙ e);
+    })
 
 pub stands-before-spec : {M : Type 1} → statement M
 stands-before-spec =

@@ -16,7 +16,15 @@ slice-aggregate-explore-states : tie.Need-slice-aggregate-explore-states
 slice-aggregate-explore-states c = search needs
 
 explore-states-requires : tie.Need-explore-states-requires
-explore-states-requires c κs = let p = c .before .before .before .before .before .before .before .before .before .before .before .before .before .before .before .before .before .pre in (p .0, ((p .1 .0 .0, p .1 .0 .1, search needs, search needs), (c .before .before .before .before .before .before .before .before .seed-entries .ensures, (p .1 .1 .0, p .1 .1 .1))))
+explore-states-requires c κs =
+    let at-seed-entries = c .before .before .before .before .before .before .before .before in
+    let p = at-seed-entries .before .before .before .before .before .before .before .before .before .pre in (
+      p .0,
+      (
+        (p .1 .0 .0, p .1 .0 .1, search needs, search needs),
+        (at-seed-entries .seed-entries .ensures, (p .1 .1 .0, p .1 .1 .1)),
+      ),
+    )
 
 same-length : tie.Need-same-length
 same-length c = search needs
@@ -31,7 +39,13 @@ same-length-4 : tie.Need-same-length-4
 same-length-4 c = search needs
 
 returns : tie.Need-returns
-returns c = (tt, λ g H. too-many (c .before .before .before .before .before .before .before .before .before .before .explore-states .ensures) g H (inl (c .if1 .taken)))
+returns c = (
+  tt,
+  λ g H.
+      too-many
+      (c .before .before .before .before .before .before .before .before .before .before .explore-states .ensures) g
+      H (inl (c .if1 .taken)),
+)
 
 same-length-5 : tie.Need-same-length-5
 same-length-5 c = search needs
@@ -46,13 +60,26 @@ same-length-8 : tie.Need-same-length-8
 same-length-8 c = search needs
 
 returns-2 : tie.Need-returns-2
-returns-2 c = (tt, λ g H. too-many (c .before .before .before .before .before .before .before .before .before .before .before .explore-states .ensures) g H (inr (c .if2 .taken)))
+returns-2 c =
+    let at-explore-states = c .before .before .before .before .before .before .before .before .before .before .before in
+    (tt, λ g H. too-many (at-explore-states .explore-states .ensures) g H (inr (c .if2 .taken)))
 
 slice-aggregate-write-lines : tie.Need-slice-aggregate-write-lines
 slice-aggregate-write-lines c = search needs
 
 write-lines-requires : tie.Need-write-lines-requires
-write-lines-requires c κs = let p = c .before .before .before .before .before .before .before .before .before .before .before .before .before .before .before .before .before .before .before .before .before .before .before .before .before .before .before .before .before .before .before .before .pre in let e = c .before .before .before .before .before .before .before .before .before .before .before .before .before .before .explore-states .ensures in (e .bounds, ((c .before .before .before .before .if1 .left, omega (arith, c .before .before .before .if2 .left, p .1 .0 .2)), number-low _ _ _ (e .bounds .room) (omega (arith, p .1 .0 .0, p .1 .0 .1)) (e .numbered)))
+write-lines-requires c κs =
+    let at-if2 = c .before .before .before in
+    let at-explore-states = at-if2 .before .before .before .before .before .before .before .before .before .before .before in
+    let p = at-explore-states .before .before .before .before .before .before .before .before .before .before .before .before .before .before .before .before
+    .before .before .pre in
+    let e = at-explore-states .explore-states .ensures in (
+      e .bounds,
+      (
+        (at-if2 .before .if1 .left, omega (arith, at-if2 .if2 .left, p .1 .0 .2)),
+        number-low _ _ _ (e .bounds .room) (omega (arith, p .1 .0 .0, p .1 .0 .1)) (e .numbered),
+      ),
+    )
 
 same-length-9 : tie.Need-same-length-9
 same-length-9 c = search needs
@@ -70,7 +97,16 @@ same-length-13 : tie.Need-same-length-13
 same-length-13 c = search needs
 
 returns-3 : tie.Need-returns-3
-returns-3 c = let e = c .before .before .before .before .before .before .before .before .before .before .before .before .before .before .before .before .before .explore-states .ensures in let s = c .before .before .before .before .before .before .before .if1 .left in let l = c .before .before .before .before .before .before .if2 .left in let w = c .before .before .write-lines .ensures in (safe-states (e .bounds) w (c .before .before .before .before .before .before .before .before .before .before .before .before .before .before .before .before .before .before .before .before .before .before .before .before .before .before .before .before .before .before .before .before .before .before .before .pre .1 .0 .2) (search needs) s l (e .numbered), λ g H. holds-states e g H s l w)
+returns-3 c =
+    let at-if2 = c .before .before .before .before .before .before in
+    let at-explore-states = at-if2 .before .before .before .before .before .before .before .before .before .before .before in
+    let start = at-explore-states .before .before .before .before .before .before .before .before .before .before .before .before .before .before .before
+    .before .before .before in
+    let e = at-explore-states .explore-states .ensures in
+    let s = at-if2 .before .if1 .left in
+    let l = at-if2 .if2 .left in
+    let w = c .before .before .write-lines .ensures in
+    (safe-states (e .bounds) w (start .pre .1 .0 .2) (search needs) s l (e .numbered), λ g H. holds-states e g H s l w)
 
 pub find-states-spec : {M : Type 1} → statement M
 find-states-spec =

@@ -9,7 +9,8 @@ use Rattle.state_kernels.proofs.seed_entries.Statement.{statement}
 use Rattle.state_kernels.proofs.seed_entries.Tie as tie
 
 abbrev Inv-loop : tie.InvT-loop
-Inv-loop rules strings sets₀ starts₀ j₀ sets starts j = (j ≤ strings) × (length sets ≡ length sets₀) × (length starts ≡ length starts₀) × Seeding rules sets starts j
+Inv-loop rules strings sets₀ starts₀ j₀ sets starts j =
+    (j ≤ strings) × (length sets ≡ length sets₀) × (length starts ≡ length starts₀) × Seeding rules sets starts j
 
 abbrev μ-loop : tie.MeasureT-loop
 μ-loop rules strings sets₀ starts₀ j₀ sets starts j = strings - j
@@ -45,7 +46,14 @@ loop-less : tie.Need-loop-less Inv-loop μ-loop
 loop-less c = search needs
 
 loop-again : tie.Need-loop-again Inv-loop μ-loop
-loop-again c = let o = c .before .loop in let p = c .before .before .pre in (omega arith, search needs, search needs, seeding-more (o .inv .3) (omega (arith, o .inv .1, p .2, p .1)) (omega (arith, o .inv .2, p .3, p .1)))
+loop-again c =
+    let o = c .before .loop in
+    let p = c .before .before .pre in (
+      omega arith,
+      search needs,
+      search needs,
+      seeding-more (o .inv .3) (omega (arith, o .inv .1, p .2, p .1)) (omega (arith, o .inv .2, p .3, p .1)),
+    )
 
 mul-starts-2 : tie.Need-mul-starts-2 Inv-loop μ-loop
 mul-starts-2 c = search needs
@@ -60,7 +68,11 @@ same-length-2 : tie.Need-same-length-2 Inv-loop μ-loop
 same-length-2 c = search needs
 
 returns : tie.Need-returns Inv-loop μ-loop
-returns c = let o = c .before .loop in let p = c .before .before .pre in seeded (o .inv .0) (c .loop-test .left) (o .inv .3) (omega (arith, o .inv .1, p .2, p .1)) (omega (arith, o .inv .2, p .3, p .1))
+returns c =
+    let o = c .before .loop in
+    let p = c .before .before .pre in
+    seeded (o .inv .0) (c .loop-test .left) (o .inv .3) (omega (arith, o .inv .1, p .2, p .1))
+    (omega (arith, o .inv .2, p .3, p .1))
 
 pub seed-entries-spec : {M : Type 1} → statement M
 seed-entries-spec =

@@ -38,7 +38,14 @@ add-kernels-2 : tie.Need-add-kernels-2
 add-kernels-2 c = search needs
 
 slice-write-kernels-3 : tie.Need-slice-write-kernels-3
-slice-write-kernels-3 c = let a = c .args in omega (arith, c .pre .0, length-set (a .kernels .now) (a .l * 4) (a .q), length-set (set (a .kernels .now) (a .l * 4) (a .q)) (a .l * 4 + 1) (a .x / 16))
+slice-write-kernels-3 c =
+    let a = c .args in
+    omega (
+      arith,
+      c .pre .0,
+      length-set (a .kernels .now) (a .l * 4) (a .q),
+      length-set (set (a .kernels .now) (a .l * 4) (a .q)) (a .l * 4 + 1) (a .x / 16),
+    )
 
 same-length : tie.Need-same-length
 same-length c = search needs

@@ -38,7 +38,20 @@ add-write-set : tie.Need-add-write-set Inv-loop μ-loop
 add-write-set c = search needs
 
 write-set-requires : tie.Need-write-set-requires Inv-loop μ-loop
-write-set-requires c κs = let p = c .before .before .before .before .before .before .before .before .pre in let o = c .before .before .before .before .loop in let l = c .before .before .before .loop-test .taken in let s = start-low (p .0) (o .p + 1) (omega (arith, l)) in ((p .0 .rise (o .p) l, omega (arith, s, p .0 .room), omega (arith, s, p .1 .0 .1, o .inv .1), omega (arith, l, p .1 .0 .0)), λ n h. p .1 .1 n (omega (arith, h, s)))
+write-set-requires c κs =
+    let at-loop-test = c .before .before .before in
+    let p = at-loop-test .before .before .before .before .before .pre in
+    let o = at-loop-test .before .loop in
+    let l = at-loop-test .loop-test .taken in
+    let s = start-low (p .0) (o .p + 1) (omega (arith, l)) in (
+      (
+        p .0 .rise (o .p) l,
+        omega (arith, s, p .0 .room),
+        omega (arith, s, p .1 .0 .1, o .inv .1),
+        omega (arith, l, p .1 .0 .0),
+      ),
+      λ n h. p .1 .1 n (omega (arith, h, s)),
+    )
 
 add-p : tie.Need-add-p Inv-loop μ-loop
 add-p c = search needs
@@ -47,7 +60,14 @@ loop-less : tie.Need-loop-less Inv-loop μ-loop
 loop-less c = search needs
 
 loop-again : tie.Need-loop-again Inv-loop μ-loop
-loop-again c = let o = c .before .before .before .before .before .before .before .loop in let l = c .before .before .before .before .before .before .loop-test .taken in (omega (arith, l), search needs, lines-more _ _ (c .before .before .before .before .before .before .before .before .before .before .before .pre .0) l (o .inv .2) (c .before .before .write-set .ensures))
+loop-again c =
+    let at-loop-test = c .before .before .before .before .before .before in
+    let o = at-loop-test .before .loop in
+    let l = at-loop-test .loop-test .taken in (
+      omega (arith, l),
+      search needs,
+      lines-more _ _ (at-loop-test .before .before .before .before .before .pre .0) l (o .inv .2) (c .before .before .write-set .ensures),
+    )
 
 same-length : tie.Need-same-length Inv-loop μ-loop
 same-length c = search needs

@@ -25,7 +25,14 @@ shared-slice-read-write-line : tie.Need-shared-slice-read-write-line Inv-loop μ
 shared-slice-read-write-line c = search needs
 
 write-line-requires : tie.Need-write-line-requires Inv-loop μ-loop
-write-line-requires c κs = let p = c .before .before .before .before .before .before .pre in let o = c .before .before .before .loop in (omega (arith, p .0 .2, c .before .before .loop-test .taken, o .inv .2), p .0 .3, p .1 (o .l) (c .before .before .loop-test .taken))
+write-line-requires c κs =
+    let at-loop-test = c .before .before in
+    let p = at-loop-test .before .before .before .before .pre in
+    let o = at-loop-test .before .loop in (
+      omega (arith, p .0 .2, at-loop-test .loop-test .taken, o .inv .2),
+      p .0 .3,
+      p .1 (o .l) (at-loop-test .loop-test .taken),
+    )
 
 add-l : tie.Need-add-l Inv-loop μ-loop
 add-l c = search needs
@@ -34,7 +41,14 @@ loop-less : tie.Need-loop-less Inv-loop μ-loop
 loop-less c = search needs
 
 loop-again : tie.Need-loop-again Inv-loop μ-loop
-loop-again c = let o = c .before .before .before .before .before .before .loop in (omega arith, omega (arith, c .before .before .before .before .before .loop-test .taken), search needs, set-more _ _ _ (o .inv .3) (o .inv .0) (c .before .before .write-line .ensures))
+loop-again c =
+    let at-loop-test = c .before .before .before .before .before in
+    let o = at-loop-test .before .loop in (
+      omega arith,
+      omega (arith, at-loop-test .loop-test .taken),
+      search needs,
+      set-more _ _ _ (o .inv .3) (o .inv .0) (c .before .before .write-line .ensures),
+    )
 
 same-length : tie.Need-same-length Inv-loop μ-loop
 same-length c = search needs
