@@ -16,7 +16,7 @@ use Rattle.moves.specs.Flags.{HoldsPresent, HoldsMoves}
 use Rattle.targets.specs.declared.ItemFault.{ItemFault}
 use Rattle.fixpoint.specs.Misses.{Misses}
 use Rattle.targets.specs.Targets.{Arrives, TargetOnly, MovesMeet}
-use Rattle.targets.specs.Faults.{ExtraLine, FindsExtra, LostItem, MoveNamedIs, MoveFaultIs, noFault}
+use Rattle.targets.specs.Faults.{FindsExtra, LostItem, MoveNamedIs, MoveFaultIs, noFault}
 use Rattle.fixpoint.proofs.MissLaws.{not-nothing}
 use Rattle.targets.proofs.ArriveLaws.{arrives-to, target-moved}
 use Rattle.targets.proofs.MeetLaws.{meets, meets-item, meets-only}

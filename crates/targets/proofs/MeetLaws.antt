@@ -1,21 +1,21 @@
 -- Items that arrive, and targets with nothing else, are what the construction asks of moves.
-use Prim.Native.Nat.{ℕ, suc, _+_, _≤_, _<_}
+use Prim.Native.Nat.{ℕ, suc, _+_, _<_}
 use mathlib.Core.Path.{_≡_, refl, sym, ap, subst, _∙_}
 use mathlib.Core.List.{List}
 use native.Mathlib.Omega.{arith}
 use Rattle.language.specs.Grammar.{Grammar}
 use Rattle.leftcorner.specs.Table.{Table}
 use Rattle.leftcorner.specs.Construction.{KernelAt, MovedBy}
-use Rattle.memory.specs.Memory.{stateAt, itemAt, dotAt}
+use Rattle.memory.specs.Memory.{itemAt, dotAt}
 use Rattle.memory.specs.Held.{Held}
 use Rattle.kernel_lines.specs.Lines.{LineAt}
 use Rattle.kernel_lines.proofs.HeldLaws.{line-of, kernel-of}
-use Rattle.moves.specs.Moves.{symbolAfter, nextAt, Present, HasAt, by-line, by-rule, MovedAt, moved}
+use Rattle.moves.specs.Moves.{symbolAfter, nextAt, HasAt, by-line, by-rule, MovedAt, moved}
 use Rattle.moves.specs.Flags.{HoldsPresent, HoldsMoves}
 use Rattle.moves.proofs.MoveLaws.{moved-to}
 use Rattle.moves.proofs.HeldLaws.{moved-at, moved-of, moved-low}
 use Rattle.moves.proofs.NextLaws.{Next, next-line, line-next}
-use Rattle.targets.specs.Targets.{Arrives, TargetOnly, LinesArrive, RulesArrive, TargetsOnly, MovesMeet}
+use Rattle.targets.specs.Targets.{Arrives, LinesArrive, RulesArrive, TargetsOnly, MovesMeet}
 use Rattle.targets.proofs.ArriveLaws.{arrives-to}
 
 one-more : (k : ℕ) → k + 1 ≡ suc k

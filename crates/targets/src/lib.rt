@@ -3,8 +3,7 @@
 use fixpoint::Found;
 use symbol::SYMBOLS;
 ghost use mathlib.Core.Path.{_≡_};
-ghost use mathlib.Core.Bool.{Bool};
-ghost use Prim.Native.Nat.{ℕ, _+_, _<_, _≤_};
+ghost use Prim.Native.Nat.{_+_, _<_, _≤_};
 ghost use lib.ListN.{length};
 ghost use Rattle.fixpoint.specs.Flags.{Decides};
 ghost use Rattle.fixpoint.specs.Misses.{Misses};

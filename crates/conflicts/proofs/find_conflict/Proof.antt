@@ -19,20 +19,25 @@ loop-holds : tie.Need-loop-holds Inv-loop μ-loop
 loop-holds c = (omega arith, below-none _)
 
 cell-demand-requires : tie.Need-cell-demand-requires Inv-loop μ-loop
-cell-demand-requires c κs = (c .before .before .before .before .before .before .before .before .before .before .before .pre .0, (c .before .before .before .before .before .before .before .before .before .before .before .pre .1 .0, ((c .before .before .before .before .before .before .before .before .before .before .before .pre .1 .1 .0 .0, c .before .before .before .before .before .before .before .before .before .before .before .pre .1 .1 .0 .1, c .before .before .before .before .before .before .before .before .before .before .before .pre .1 .1 .0 .2, c .loop-test .taken), c .before .before .before .before .before .before .before .before .before .before .before .pre .1 .1 .1)))
+cell-demand-requires c κs =
+    let start = c .before .before .before .before .before .before .before .before .before .before .before in
+    (start .pre .0, (start .pre .1 .0, ((start .pre .1 .1 .0 .0, start .pre .1 .1 .0 .1, start .pre .1 .1 .0 .2, c .loop-test .taken), start .pre .1 .1 .1)))
 
 cell-demand-requires-2 : tie.Need-cell-demand-requires-2 Inv-loop μ-loop
-cell-demand-requires-2 c κs = (c .before .before .before .before .before .before .before .before .before .before .before .before .pre .0, (c .before .before .before .before .before .before .before .before .before .before .before .before .pre .1 .0, ((c .before .before .before .before .before .before .before .before .before .before .before .before .pre .1 .1 .0 .0, c .before .before .before .before .before .before .before .before .before .before .before .before .pre .1 .1 .0 .1, c .before .before .before .before .before .before .before .before .before .before .before .before .pre .1 .1 .0 .2, c .before .loop-test .taken), c .before .before .before .before .before .before .before .before .before .before .before .before .pre .1 .1 .1)))
+cell-demand-requires-2 c κs =
+    let start = c .before .before .before .before .before .before .before .before .before .before .before .before in
+    (start .pre .0, (start .pre .1 .0, ((start .pre .1 .1 .0 .0, start .pre .1 .1 .0 .1, start .pre .1 .1 .0 .2, c .before .loop-test .taken), start .pre .1 .1 .1)))
 
 returns : tie.Need-returns Inv-loop μ-loop
-returns c = (
-  c .before .before .before .loop-test .taken,
-  λ g t entries kinds values gotos strings H e C M. (
-    asked-as g t H e C M (first-asked (c .before .before .cell-demand .ensures) (c .before .cell-demand2 .ensures) (c .if1 .taken)),
-    asked-as g t H e C M (c .before .cell-demand2 .ensures .asked (c .if1 .taken)),
-    c .before .cell-demand2 .ensures .differs (c .if1 .taken),
-  ),
-)
+returns c =
+    let at-cell-demand2 = c .before in (
+      c .before .before .before .loop-test .taken,
+      λ g t entries kinds values gotos strings H e C M. (
+        asked-as g t H e C M (first-asked (c .before .before .cell-demand .ensures) (at-cell-demand2 .cell-demand2 .ensures) (c .if1 .taken)),
+        asked-as g t H e C M (at-cell-demand2 .cell-demand2 .ensures .asked (c .if1 .taken)),
+        at-cell-demand2 .cell-demand2 .ensures .differs (c .if1 .taken),
+      ),
+    )
 
 add-c : tie.Need-add-c Inv-loop μ-loop
 add-c c = search needs
@@ -41,7 +46,9 @@ loop-less : tie.Need-loop-less Inv-loop μ-loop
 loop-less c = search needs
 
 loop-again : tie.Need-loop-again Inv-loop μ-loop
-loop-again c = (omega arith, below-more _ (c .before .before .before .before .loop .c) (c .before .before .before .before .loop .inv .1) (one-asked (c .before .before .cell-demand .ensures) (c .before .cell-demand2 .ensures) (c .if1 .left)))
+loop-again c =
+    let at-loop = c .before .before .before .before in
+    (omega arith, below-more _ (at-loop .loop .c) (at-loop .loop .inv .1) (one-asked (c .before .before .cell-demand .ensures) (c .before .cell-demand2 .ensures) (c .if1 .left)))
 
 returns-2 : tie.Need-returns-2 Inv-loop μ-loop
 returns-2 c = (tt, λ g t entries kinds values gotos strings H e C M. all-agree g t H e C M (λ d l. c .before .loop .inv .1 d (omega (arith, l))))

@@ -34,25 +34,34 @@ mul-item-demand : tie.Need-mul-item-demand Inv-loop μ-loop
 mul-item-demand c = search needs
 
 item-demand-requires : tie.Need-item-demand-requires Inv-loop μ-loop
-item-demand-requires c κs = (c .before .before .before .before .before .before .before .before .before .before .before .pre .1 .0, (c .before .item-of .ensures .1, omega (arith, c .before .item-of .ensures .1, c .before .before .before .before .before .before .before .before .before .before .before .pre .1 .1 .0), c .dot-of .ensures .1, omega (arith, c .before .before .before .loop .inv .low, c .before .before .before .before .before .before .before .before .before .before .before .pre .1 .1 .2), c .before .before .before .before .before .before .before .before .before .before .before .pre .1 .1 .3))
+item-demand-requires c κs =
+    let start = c .before .before .before .before .before .before .before .before .before .before .before in
+    (start .pre .1 .0, (c .before .item-of .ensures .1, omega (arith, c .before .item-of .ensures .1, start .pre .1 .1 .0), c .dot-of .ensures .1, omega (arith, c .before .before .before .loop .inv .low, start .pre .1 .1 .2), start .pre .1 .1 .3))
 
 is-other-requires : tie.Need-is-other-requires Inv-loop μ-loop
 is-other-requires c κs = search needs
 
 returns : tie.Need-returns Inv-loop μ-loop
-returns c = let o = c .before .before .before .before .before .before .loop .inv in
-    let s = line-sole (c .before .before .before .before .before .before .before .before .before .before .before .before .before .before .args .kernels .now) (c .before .before .before .before .before .before .loop .p - 1) (c .before .before .before .before .item-of .ensures .0) (c .before .before .before .dot-of .ensures .0) (c .before .before .item-demand .ensures) in
+returns c =
+    let at-loop = c .before .before .before .before .before .before in
+    let o = at-loop .loop .inv in
+    let s = line-sole (c .before .before .before .before .before .before .before .before .before .before .before .before .before .before .args .kernels .now) (at-loop .loop .p - 1) (c .before .before .before .before .item-of .ensures .0) (c .before .before .before .dot-of .ensures .0) (c .before .before .item-demand .ensures) in
     other-sole (of-line _ _ (omega (arith, o .low)) (o .here (λ e. omega (arith, e))) _) s (c .before .is-other .ensures) (c .if1 .taken)
 
 line-before-requires : tie.Need-line-before-requires Inv-loop μ-loop
-line-before-requires c κs = (c .before .before .before .before .before .before .before .before .before .before .before .before .before .before .pre .0 .linked, (omega (arith, c .before .before .before .before .before .before .loop .inv .low), c .before .before .before .before .before .before .before .before .before .before .before .before .before .before .pre .0 .some-lines .few))
+line-before-requires c κs =
+    let start = c .before .before .before .before .before .before .before .before .before .before .before .before .before .before in
+    (start .pre .0 .linked, (omega (arith, c .before .before .before .before .before .before .loop .inv .low), start .pre .0 .some-lines .few))
 
 loop-less : tie.Need-loop-less Inv-loop μ-loop
 loop-less c = search needs
 
 loop-again : tie.Need-loop-again Inv-loop μ-loop
-loop-again c = let s = line-sole (c .before .before .before .before .before .before .before .before .before .before .before .before .before .before .before .args .kernels .now) (c .before .before .before .before .before .before .before .loop .p - 1) (c .before .before .before .before .before .item-of .ensures .0) (c .before .before .before .before .dot-of .ensures .0) (c .before .before .before .item-demand .ensures) in
-    passed-more (c .before .before .before .before .before .before .before .loop .inv) (λ e. omega (arith, e)) (sole-known s (c .before .before .is-other .ensures) (c .before .if1 .left)) (c .line-before .ensures .0)
+loop-again c =
+    let at-loop = c .before .before .before .before .before .before .before in
+    let at-args = at-loop .before .before .before .before .before .before .before .before in
+    let s = line-sole (at-args .args .kernels .now) (at-loop .loop .p - 1) (c .before .before .before .before .before .item-of .ensures .0) (c .before .before .before .before .dot-of .ensures .0) (c .before .before .before .item-demand .ensures) in
+    passed-more (at-loop .loop .inv) (λ e. omega (arith, e)) (sole-known s (c .before .before .is-other .ensures) (c .before .if1 .left)) (c .line-before .ensures .0)
 
 returns-2 : tie.Need-returns-2 Inv-loop μ-loop
 returns-2 c = other-none (λ w d. passed-all (c .before .loop .inv) (omega arith) (d .line) (d .low) (d .state) w (d .asks))

@@ -14,7 +14,9 @@ mul-item-demand : tie.Need-mul-item-demand
 mul-item-demand c = search needs
 
 item-demand-requires : tie.Need-item-demand-requires
-item-demand-requires c κs = (c .before .before .before .before .before .pre .0, (c .before .before .before .before .before .pre .1 .0, c .before .before .before .before .before .pre .1 .1, omega arith, omega (arith, c .before .before .before .before .before .pre .1 .3, c .left-of .ensures .1), c .before .before .before .before .before .pre .1 .4))
+item-demand-requires c κs =
+    let start = c .before .before .before .before .before in
+    (start .pre .0, (start .pre .1 .0, start .pre .1 .1, omega arith, omega (arith, start .pre .1 .3, c .left-of .ensures .1), start .pre .1 .4))
 
 returns : tie.Need-returns
 returns c = rule-sole (c .before .left-of .ensures .0) (c .item-demand .ensures)

@@ -33,13 +33,17 @@ loop-again : tie.Need-loop-again Inv-loop μ-loop
 loop-again c = (omega arith, from-more _ 1 (c .before .before .before .loop .i) (c .before .before .before .loop .inv .1) (λ p. absurd (c .before .is-present .ensures .no (not-true _ (c .if1 .taken)) p)))
 
 rule-demand-requires : tie.Need-rule-demand-requires Inv-loop μ-loop
-rule-demand-requires c κs = (c .before .before .before .before .before .before .before .before .before .pre .0, (omega (arith, c .before .before .before .before .before .before .before .before .before .pre .1 .0 .0), omega (arith, c .before .before .before .before .before .before .before .before .before .pre .1 .0 .0, c .before .before .before .before .before .before .before .before .before .pre .1 .0 .1), c .before .is-present .ensures .yes (not-false _ (c .if1 .left)) .nonterminal, c .before .before .before .before .before .before .before .before .before .pre .1 .1 .1, c .before .before .before .before .before .before .before .before .before .pre .1 .0 .2))
+rule-demand-requires c κs =
+    let start = c .before .before .before .before .before .before .before .before .before in
+    (start .pre .0, (omega (arith, start .pre .1 .0 .0), omega (arith, start .pre .1 .0 .0, start .pre .1 .0 .1), c .before .is-present .ensures .yes (not-false _ (c .if1 .left)) .nonterminal, start .pre .1 .1 .1, start .pre .1 .0 .2))
 
 is-other-requires : tie.Need-is-other-requires Inv-loop μ-loop
 is-other-requires c κs = search needs
 
 returns : tie.Need-returns Inv-loop μ-loop
-returns c = other-sole (λ w d. record { rule = c .before .before .before .before .before .before .loop .i; above = c .before .before .before .before .before .before .loop .inv .0; below = omega arith; present-rule = c .before .before .before .before .is-present .ensures .yes (not-false _ (c .before .before .before .if1 .left)); asks = d }) (c .before .before .rule-demand .ensures) (c .before .is-other .ensures) (c .if2 .taken)
+returns c =
+    let at-loop = c .before .before .before .before .before .before in
+    other-sole (λ w d. record { rule = at-loop .loop .i; above = at-loop .loop .inv .0; below = omega arith; present-rule = c .before .before .before .before .is-present .ensures .yes (not-false _ (c .before .before .before .if1 .left)); asks = d }) (c .before .before .rule-demand .ensures) (c .before .is-other .ensures) (c .if2 .taken)
 
 add-i-2 : tie.Need-add-i-2 Inv-loop μ-loop
 add-i-2 c = search needs
@@ -48,7 +52,9 @@ loop-less-2 : tie.Need-loop-less-2 Inv-loop μ-loop
 loop-less-2 c = search needs
 
 loop-again-2 : tie.Need-loop-again-2 Inv-loop μ-loop
-loop-again-2 c = (omega arith, from-more _ 1 (c .before .before .before .before .before .before .loop .i) (c .before .before .before .before .before .before .loop .inv .1) (λ p. sole-known (c .before .before .rule-demand .ensures) (c .before .is-other .ensures) (c .if2 .left)))
+loop-again-2 c =
+    let at-loop = c .before .before .before .before .before .before in
+    (omega arith, from-more _ 1 (at-loop .loop .i) (at-loop .loop .inv .1) (λ p. sole-known (c .before .before .rule-demand .ensures) (c .before .is-other .ensures) (c .if2 .left)))
 
 returns-2 : tie.Need-returns-2 Inv-loop μ-loop
 returns-2 c = other-none (λ w d. c .before .loop .inv .1 (d .rule) (d .above) (omega (arith, d .below)) (d .present-rule) w (d .asks))

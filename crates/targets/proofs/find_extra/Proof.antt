@@ -19,13 +19,16 @@ loop-holds c = (omega arith, omega arith, λ j a b. absurd (no-gap a b))
 find-extra-at-requires : tie.Need-find-extra-at-requires Inv-loop μ-loop
 find-extra-at-requires c κs =
     let start = c .before .before .before .before .before .before .before .before .before .before in
-    (start .pre .0, (start .pre .1 .0, (start .pre .1 .1 .0, start .pre .1 .1 .1, c .loop-test .taken)))
+    (start .pre .0, (start .pre .1 .0, (start .pre .1 .1 .0, start .pre .1 .1 .1, omega (arith, c .loop-test .taken))))
 
 enum-known-found : tie.Need-enum-known-found Inv-loop μ-loop
 enum-known-found c = search needs
 
 returns : tie.Need-returns Inv-loop μ-loop
-returns c = λ lines rules. record { is = (c .before .before .before .before .before .loop .inv .0, c .before .before .before .before .loop-test .taken, c .before .before .before .find-extra-at .ensures .found _ (c .before .found .given .1)) }
+returns c = λ lines rules.
+    let finding = c .before .before .before in
+    let testing = finding .before in
+    record { is = (testing .before .loop .inv .0, omega (arith, testing .loop-test .taken), finding .find-extra-at .ensures .found _ (c .before .found .given .1)) }
 
 enum-told : tie.Need-enum-told Inv-loop μ-loop
 enum-told c = search needs
