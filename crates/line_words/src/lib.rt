@@ -46,6 +46,24 @@ fn wide(b: u8) -> usize {
     b as usize
 }
 
+// Prints a text in which each # stands for a number: a, then b, then c.
+fn print_words(out: &mut [u8; OUTPUT], text: &[u8], a: usize, b: usize, c: usize) {
+    let mut first = a;
+    let mut second = b;
+    let mut i = 0;
+    while i < text.len() {
+        let x = text[i];
+        i += 1;
+        if x != b'#' {
+            print_byte(out, x);
+            continue;
+        }
+        print_count(out, b"", first);
+        first = second;
+        second = c;
+    }
+}
+
 fn read_part(s: &[u8], c: Cursor) -> Part {
     match text::read_field(s, c) {
         Field::Number(v, d) => Part {
@@ -143,7 +161,7 @@ fn print_part(out: &mut [u8; OUTPUT], book: &[u8], at: usize)
     requires { ⌜ length (now book) ≤ 65536 ⌝ }
 {
     let mut i = at;
-    print_text(out, b"'");
+    print_byte(out, b'\'');
     while i < book.len() {
         let b = book[i];
         if b == b',' {
@@ -155,7 +173,7 @@ fn print_part(out: &mut [u8; OUTPUT], book: &[u8], at: usize)
         print_byte(out, b);
         i += 1;
     }
-    print_text(out, b"'");
+    print_byte(out, b'\'');
 }
 
 // The first byte of the field at `at` that no field has, or that ends the field, or the book's end.
@@ -179,8 +197,11 @@ fn odd_byte(book: &[u8], at: usize) -> usize
     i
 }
 
-// Whether the book begins with the three bytes of a byte order mark.
-fn has_order_mark(book: &[u8]) -> bool {
+// Whether i is the first of the three bytes of a byte order mark, with which the book begins.
+fn is_order_mark(book: &[u8], i: usize) -> bool {
+    if i != 0 {
+        return false;
+    }
     if book.len() < 3 {
         return false;
     }
@@ -193,36 +214,50 @@ fn has_order_mark(book: &[u8]) -> bool {
     book[2] == 191
 }
 
+// Whether CR LF stands at i.
+fn is_cr_lf(book: &[u8], i: usize) -> bool
+    requires { ⌜ i < length (now book) ⌝ }
+{
+    if book[i] != b'\r' {
+        return false;
+    }
+    if book.len() <= i + 1 {
+        return false;
+    }
+    book[i + 1] == b'\n'
+}
+
 // A byte that no field has, at i.
 fn explain_byte(out: &mut [u8; OUTPUT], book: &[u8], i: usize, k: usize)
     requires { ⌜ i < length (now book) ⌝ }
 {
-    if i == 0 {
-        if has_order_mark(book) {
-            print_text(out, b"the book begins with a byte order mark\n");
-            return;
-        }
-    }
-    let b = book[i];
-    if b == b'\r' {
-        if i + 1 < book.len() {
-            if book[i + 1] == b'\n' {
-                print_text(out, b"the line ends in CR LF, not in LF alone\n");
-                return;
-            }
-        }
-    }
-    print_count(out, b"field ", k);
-    if b == b' ' {
-        print_text(out, b" has a space in it\n");
+    if is_order_mark(book, i) {
+        print_text(out, b"the book begins with a byte order mark\n");
         return;
     }
-    print_count(
+    if is_cr_lf(book, i) {
+        print_text(out, b"the line ends in CR LF, not in LF alone\n");
+        return;
+    }
+    if book[i] == b' ' {
+        print_words(out, b"field # has a space in it\n", k, 0, 0);
+        return;
+    }
+    print_words(
         out,
-        b" has a byte in it that no field has, of value ",
-        wide(b),
+        b"field # has a byte in it that no field has, of value #\n",
+        k,
+        wide(book[i]),
+        0,
     );
-    print_text(out, b"\n");
+}
+
+// Whether a byte ends a field.
+fn is_end(b: u8) -> bool {
+    if b == b'\n' {
+        return true;
+    }
+    b == b','
 }
 
 // A field, number k, at `at`, that is no number, mark or letter with its end.
@@ -234,19 +269,15 @@ fn explain_broken(out: &mut [u8; OUTPUT], book: &[u8], at: usize, k: usize)
         print_text(out, b"the line has no LF at its end\n");
         return;
     }
-    let b = book[i];
-    if b != b'\n' {
-        if b != b',' {
-            explain_byte(out, book, i, k);
-            return;
-        }
-    }
-    print_count(out, b"field ", k);
-    if i <= at {
-        print_text(out, b" is empty\n");
+    if !is_end(book[i]) {
+        explain_byte(out, book, i, k);
         return;
     }
-    print_text(out, b", ");
+    if i <= at {
+        print_words(out, b"field # is empty\n", k, 0, 0);
+        return;
+    }
+    print_words(out, b"field #, ", k, 0, 0);
     print_part(out, book, at);
     print_text(out, b", is no number, mark or letter\n");
 }
@@ -283,15 +314,13 @@ fn is_due(due: u8, letter: usize) -> bool {
     have == b'S'
 }
 
+// The letters that are due.
 fn print_due(out: &mut [u8; OUTPUT], due: u8) {
     match due {
-        b'G' => print_text(out, b"the letter G"),
-        b'R' => print_text(out, b"the letter R or U"),
-        b'T' => print_text(out, b"the letter T"),
-        b'E' => print_text(out, b"the letter E"),
-        b'K' => print_text(out, b"the letter K"),
-        b'k' => print_text(out, b"the letter K, S, N, A or P"),
-        _ => print_text(out, b"the letter S, N, A or P"),
+        b'R' => print_text(out, b"R or U"),
+        b'k' => print_text(out, b"K, S, N, A or P"),
+        b'S' => print_text(out, b"S, N, A or P"),
+        _ => print_byte(out, due),
     }
 }
 
@@ -335,8 +364,7 @@ fn takes(line: u8, k: usize, kind: u8) -> bool {
 fn explain_kind(out: &mut [u8; OUTPUT], book: &[u8], at: usize, line: u8, k: usize)
     requires { ⌜ length (now book) ≤ 65536 ⌝ }
 {
-    print_count(out, b"field ", k);
-    print_text(out, b" is ");
+    print_words(out, b"field # is ", k, 0, 0);
     print_part(out, book, at);
     if takes(line, k, b'^') {
         print_text(out, b", and a number or a mark is due\n");
@@ -350,13 +378,17 @@ fn explain_short(out: &mut [u8; OUTPUT], line: u8, n: usize) -> bool {
     if fewest(line) <= n {
         return false;
     }
-    print_count(out, b"number of fields: ", n);
-    print_text(out, b"; due: ");
     if is_open(line) {
-        print_text(out, b"at least ");
+        print_words(
+            out,
+            b"number of fields: #; due: at least #\n",
+            n,
+            fewest(line),
+            0,
+        );
+        return true;
     }
-    print_count(out, b"", fewest(line));
-    print_text(out, b"\n");
+    print_words(out, b"number of fields: #; due: #\n", n, fewest(line), 0);
     true
 }
 
@@ -382,8 +414,7 @@ fn explain_fields(out: &mut [u8; OUTPUT], book: &[u8], second: Cursor, line: u8)
             return explain_short(out, line, k - 1);
         }
         if is_beyond(line, k) {
-            print_count(out, b"the line has more than ", k - 1);
-            print_text(out, b" fields\n");
+            print_words(out, b"the line has more than # fields\n", k - 1, 0, 0);
             return true;
         }
         let at = c.at;
@@ -425,31 +456,48 @@ fn explain_form(out: &mut [u8; OUTPUT], book: &[u8], place: usize, due: u8) -> b
     }
     print_text(out, b"field 1 is ");
     print_part(out, book, place);
-    print_text(out, b", and ");
+    print_text(out, b", and the letter ");
     print_due(out, due);
     print_text(out, b" is due\n");
     true
 }
 
-// The first code of a kernel line that does not rise; false where all do, as far as they are kept.
-fn explain_codes(out: &mut [u8; OUTPUT], numbers: &[usize; 67], count: usize) -> bool {
+// Whether a code is not above the one before it.
+fn falls(before: usize, code: usize) -> bool {
+    if 65536 <= code {
+        return false;
+    }
+    code <= before
+}
+
+// The first code of a kernel line that does not rise, as far as they are kept; 67 where all do.
+fn find_fall(numbers: &[usize; 67], count: usize) -> usize {
     let mut k = 4;
     while k < 67 {
         if count <= k {
-            return false;
+            return 67;
         }
-        let v = numbers[k];
-        if v < 65536 {
-            if v <= numbers[k - 1] {
-                print_count(out, b"field ", k + 2);
-                print_count(out, b", code ", v);
-                print_text(out, b", is not above the code before it\n");
-                return true;
-            }
+        if falls(numbers[k - 1], numbers[k]) {
+            return k;
         }
         k += 1;
     }
-    false
+    67
+}
+
+fn explain_codes(out: &mut [u8; OUTPUT], numbers: &[usize; 67], count: usize) -> bool {
+    let k = find_fall(numbers, count);
+    if 67 <= k {
+        return false;
+    }
+    print_words(
+        out,
+        b"field #, code #, is not above the code before it\n",
+        k + 2,
+        numbers[k],
+        0,
+    );
+    true
 }
 
 // Whether two lines have the same numbers from one number up to another.
@@ -467,8 +515,11 @@ fn same_numbers(a: &[usize; 67], b: &[usize; 67], from: usize, to: usize) -> boo
     true
 }
 
-// Whether no second line may stand beside another: the same string, the same triple, the same cell.
-fn is_second(line: u8, a: &[usize; 67], m: usize, b: &[usize; 67], n: usize) -> bool {
+// Whether no line of that family may stand beside another with that letter: the same string, the same triple, the same cell.
+fn is_second(line: u8, letter: u8, a: &[usize; 67], m: usize, b: &[usize; 67], n: usize) -> bool {
+    if family(wide(letter)) != line {
+        return false;
+    }
     match line {
         b'E' => {
             if m != n {
@@ -482,24 +533,8 @@ fn is_second(line: u8, a: &[usize; 67], m: usize, b: &[usize; 67], n: usize) -> 
     }
 }
 
-fn print_second(out: &mut [u8; OUTPUT], line: u8, n: usize) {
-    match line {
-        b'E' => print_count(out, b"the same string as line ", n),
-        b'K' => print_count(out, b"the same state, item and dot as line ", n),
-        _ => print_count(out, b"the same state and symbol as line ", n),
-    }
-    print_text(out, b"\n");
-}
-
-// The line before `place` beside which that with these numbers is a second one; false where there is none.
-fn explain_second(
-    out: &mut [u8; OUTPUT],
-    book: &[u8],
-    place: usize,
-    line: u8,
-    numbers: &[usize; 67],
-    count: usize,
-) -> bool
+// The number of the line before `place` beside which that with these numbers is a second one; 0 where there is none.
+fn find_second(book: &[u8], place: usize, line: u8, numbers: &[usize; 67], count: usize) -> usize
     requires { ⌜ length (now book) ≤ 65536 ⌝ }
 {
     let mut at = 0;
@@ -508,22 +543,39 @@ fn explain_second(
     while 0 < left {
         left -= 1;
         if place <= at {
-            return false;
+            return 0;
         }
         let mut others = [0usize; 67];
         let Line::Whole(letter, p, next) = table_lines::read_line(book, at, &mut others) else {
-            return false;
+            return 0;
         };
-        if family(wide(letter)) == line {
-            if is_second(line, numbers, count, &others, p.count) {
-                print_second(out, line, n);
-                return true;
-            }
+        if is_second(line, letter, numbers, count, &others, p.count) {
+            return n;
         }
         at = next;
         n += 1;
     }
-    false
+    0
+}
+
+fn explain_second(out: &mut [u8; OUTPUT], line: u8, n: usize) -> bool {
+    if n == 0 {
+        return false;
+    }
+    match line {
+        b'E' => print_words(out, b"the same string as line #\n", n, 0, 0),
+        b'K' => print_words(out, b"the same state, item and dot as line #\n", n, 0, 0),
+        _ => print_words(out, b"the same state and symbol as line #\n", n, 0, 0),
+    }
+    true
+}
+
+// Whether a line of a table book has codes, and they do not rise.
+fn has_fall(letter: u8, rising: bool) -> bool {
+    if letter != b'K' {
+        return false;
+    }
+    !rising
 }
 
 // What else breaks a line of a table book whose fields are of their kinds.
@@ -534,13 +586,12 @@ fn explain_numbers(out: &mut [u8; OUTPUT], book: &[u8], place: usize) -> bool
     let Line::Whole(letter, p, _) = table_lines::read_line(book, place, &mut numbers) else {
         return false;
     };
-    let rising = p.rising;
-    if letter == b'K' {
-        if !rising {
-            return explain_codes(out, &numbers, p.count);
-        }
+    if has_fall(letter, p.rising) {
+        return explain_codes(out, &numbers, p.count);
     }
-    explain_second(out, book, place, family(wide(letter)), &numbers, p.count)
+    let line = family(wide(letter));
+    let n = find_second(book, place, line, &numbers, p.count);
+    explain_second(out, line, n)
 }
 
 // What number k, from 2 on, of a line stands for.
@@ -622,82 +673,46 @@ fn is_declared(figure: Figure, v: usize, d: Declared) -> bool {
 // A figure that is not declared, and what is.
 fn print_declared(out: &mut [u8; OUTPUT], figure: Figure, v: usize, d: Declared) {
     match figure {
-        Figure::State => {
-            print_count(out, b"state ", v);
-            print_count(out, b": states are 1 to ", d.states);
-        }
-        Figure::Item => {
-            print_count(out, b"item ", v);
-            print_count(out, b": items are 1 to ", d.items);
-        }
-        Figure::Rule => {
-            print_count(out, b"rule ", v);
-            print_count(out, b": rules are 1 to ", d.rules);
-        }
-        Figure::Code => {
-            print_count(out, b"code ", v);
-            print_count(out, b": codes are 0 to ", d.terminals);
-        }
-        Figure::Symbol => {
-            print_count(out, b"symbol ", v);
-            print_count(out, b": terminals are 1 to ", d.terminals);
-            print_count(out, b", nonterminals 64 to ", d.last_nonterminal);
-        }
-        Figure::Terminal => {
-            print_count(out, b"symbol ", v);
-            print_count(out, b": terminals are 1 to ", d.terminals);
-        }
-        Figure::Nonterminal => {
-            print_count(out, b"symbol ", v);
-            print_count(out, b": nonterminals are 64 to ", d.last_nonterminal);
-        }
-        Figure::Lookahead => {
-            print_count(out, b"symbol ", v);
-            print_count(out, b": terminals are 1 to ", d.terminals);
-            print_text(out, b", and 0 is the end");
-        }
-        Figure::Free => {}
+        Figure::State => print_words(out, b"state #: states are 1 to #\n", v, d.states, 0),
+        Figure::Item => print_words(out, b"item #: items are 1 to #\n", v, d.items, 0),
+        Figure::Rule => print_words(out, b"rule #: rules are 1 to #\n", v, d.rules, 0),
+        Figure::Code => print_words(out, b"code #: codes are 0 to #\n", v, d.terminals, 0),
+        _ => print_symbol(out, figure, v, d.terminals, d.last_nonterminal),
     }
-    print_text(out, b"\n");
 }
 
-// The first number of a line that is not declared; a dot, where all others are.
-fn explain_undeclared(out: &mut [u8; OUTPUT], book: &[u8], place: usize, d: Declared)
-    requires { ⌜ length (now book) ≤ 65536 ⌝ }
-{
-    let first = read_part(
-        book,
-        Cursor {
-            at: place,
-            ended: false,
-        },
-    );
-    let letter = first.value;
-    let mut c = first.next;
-    let mut k = 2;
-    let mut left = book.len();
-    while 0 < left {
-        left -= 1;
-        let part = read_part(book, c);
-        if part.kind == 0 {
-            break;
-        }
-        if part.kind == b'0' {
-            if !is_declared(figure_of(letter, k), part.value, d) {
-                print_count(out, b"field ", k);
-                print_text(out, b", ");
-                print_declared(out, figure_of(letter, k), part.value, d);
-                return;
-            }
-        }
-        c = part.next;
-        k += 1;
+// A symbol that is not declared where it stands, and what may stand there.
+fn print_symbol(
+    out: &mut [u8; OUTPUT],
+    figure: Figure,
+    v: usize,
+    terminals: usize,
+    last_nonterminal: usize,
+) {
+    match figure {
+        Figure::Terminal => print_words(out, b"symbol #: terminals are 1 to #\n", v, terminals, 0),
+        Figure::Nonterminal => print_words(
+            out,
+            b"symbol #: nonterminals are 64 to #\n",
+            v,
+            last_nonterminal,
+            0,
+        ),
+        Figure::Lookahead => print_words(
+            out,
+            b"symbol #: terminals are 1 to #, and 0 is the end\n",
+            v,
+            terminals,
+            0,
+        ),
+        _ => print_words(
+            out,
+            b"symbol #: terminals are 1 to #, nonterminals 64 to #\n",
+            v,
+            terminals,
+            last_nonterminal,
+        ),
     }
-    if letter == wide(b'K') {
-        print_text(out, b"field 4, the dot, is past the end of the item\n");
-        return;
-    }
-    print_text(out, b"a figure is undeclared\n");
 }
 
 // The least figure that number k of a line may be.
@@ -736,64 +751,7 @@ fn most_of_tables(k: usize) -> usize {
     }
 }
 
-// The first number of a line that is out of its limits; that there are too many symbols or lines, where none is.
-fn explain_limit(out: &mut [u8; OUTPUT], book: &[u8], place: usize)
-    requires { ⌜ length (now book) ≤ 65536 ⌝ }
-{
-    let first = read_part(
-        book,
-        Cursor {
-            at: place,
-            ended: false,
-        },
-    );
-    let letter = first.value;
-    let mut c = first.next;
-    let mut k = 2;
-    let mut left = book.len();
-    while 0 < left {
-        left -= 1;
-        let at = c.at;
-        let part = read_part(book, c);
-        if part.kind == 0 {
-            break;
-        }
-        if part.kind == b'0' {
-            if !in_range(least(letter, k), part.value, most(letter, k)) {
-                print_count(out, b"field ", k);
-                print_text(out, b" is ");
-                print_part(out, book, at);
-                print_count(out, b", and it may be ", least(letter, k));
-                print_count(out, b" to ", most(letter, k));
-                print_text(out, b"\n");
-                return;
-            }
-        }
-        c = part.next;
-        k += 1;
-    }
-    if letter == wide(b'K') {
-        print_text(out, b"there are more than 1023 kernel lines\n");
-        return;
-    }
-    print_text(out, b"there are more than 15 symbols\n");
-}
-
-// A mark that stands where it may not, after a part of that kind: b'R' for symbols left of `^`, b'^', b'0', b'/'.
-fn explain_mark(out: &mut [u8; OUTPUT], before: u8, mark: usize, k: usize) {
-    print_count(out, b"field ", k);
-    if mark == wide(b'^') {
-        print_text(out, b" is a second ^\n");
-        return;
-    }
-    if before == b'R' {
-        print_text(out, b" is a / with no ^ left of it\n");
-        return;
-    }
-    print_text(out, b" is a / beside another mark\n");
-}
-
-// Whether a mark may stand there.
+// Whether a mark may stand there, after a part of that kind: b'R' for symbols left of `^`, b'^', b'0', b'/'.
 fn is_placed(before: u8, mark: usize) -> bool {
     if mark == wide(b'^') {
         return before == b'R';
@@ -815,8 +773,50 @@ fn after(before: u8, part: Part) -> u8 {
     b'/'
 }
 
-// The first mark of a rule's line that stands where it may not; that there is no `^`, or that a cut is last, where none does.
-fn explain_marks(out: &mut [u8; OUTPUT], book: &[u8], place: usize)
+// Whether field k of a line is a number out of its limits.
+fn is_excess(letter: usize, k: usize, part: Part) -> bool {
+    if part.kind != b'0' {
+        return false;
+    }
+    !in_range(least(letter, k), part.value, most(letter, k))
+}
+
+// Whether it is a number that is not declared.
+fn is_undeclared(letter: usize, k: usize, part: Part, d: Declared) -> bool {
+    if part.kind != b'0' {
+        return false;
+    }
+    !is_declared(figure_of(letter, k), part.value, d)
+}
+
+// Whether it is a mark that stands where it may not.
+fn is_misplaced(before: u8, part: Part) -> bool {
+    if part.kind != b'^' {
+        return false;
+    }
+    !is_placed(before, part.value)
+}
+
+// Whether it is what the reply of that number is to.
+fn is_fault(number: u64, letter: usize, before: u8, k: usize, part: Part, d: Declared) -> bool {
+    match number {
+        2 => is_excess(letter, k, part),
+        3 => is_undeclared(letter, k, part, d),
+        _ => is_misplaced(before, part),
+    }
+}
+
+// A field of a line: the line's letter, what stands before the field, its number, 0 for none, its place and its value.
+struct Spot {
+    letter: usize,
+    before: u8,
+    k: usize,
+    at: usize,
+    value: usize,
+}
+
+// The first field of the line at `place` that the reply is to.
+fn find_fault(book: &[u8], number: u64, place: usize, d: Declared) -> Spot
     requires { ⌜ length (now book) ≤ 65536 ⌝ }
 {
     let first = read_part(
@@ -826,6 +826,7 @@ fn explain_marks(out: &mut [u8; OUTPUT], book: &[u8], place: usize)
             ended: false,
         },
     );
+    let letter = first.value;
     let mut before = b'R';
     let mut c = first.next;
     let mut k = 2;
@@ -836,17 +837,92 @@ fn explain_marks(out: &mut [u8; OUTPUT], book: &[u8], place: usize)
         if part.kind == 0 {
             break;
         }
-        if part.kind == b'^' {
-            if !is_placed(before, part.value) {
-                explain_mark(out, before, part.value, k);
-                return;
-            }
+        if is_fault(number, letter, before, k, part, d) {
+            return Spot {
+                letter,
+                before,
+                k,
+                at: c.at,
+                value: part.value,
+            };
         }
         before = after(before, part);
         c = part.next;
         k += 1;
     }
-    if before == b'R' {
+    Spot {
+        letter,
+        before,
+        k: 0,
+        at: place,
+        value: 0,
+    }
+}
+
+// A number that is out of its limits; that there are too many symbols or lines, where none is.
+fn explain_limit(out: &mut [u8; OUTPUT], book: &[u8], f: Spot)
+    requires { ⌜ length (now book) ≤ 65536 ⌝ }
+{
+    if f.k == 0 {
+        explain_excess(out, f.letter);
+        return;
+    }
+    print_words(out, b"field # is ", f.k, 0, 0);
+    print_part(out, book, f.at);
+    print_words(
+        out,
+        b", and it may be # to #\n",
+        least(f.letter, f.k),
+        most(f.letter, f.k),
+        0,
+    );
+}
+
+fn explain_excess(out: &mut [u8; OUTPUT], letter: usize) {
+    if letter == wide(b'K') {
+        print_text(out, b"there are more than 1023 kernel lines\n");
+        return;
+    }
+    print_text(out, b"there are more than 15 symbols\n");
+}
+
+// A number that is not declared; a dot, where all others are.
+fn explain_undeclared(out: &mut [u8; OUTPUT], f: Spot, d: Declared) {
+    if f.k == 0 {
+        explain_dot(out, f.letter);
+        return;
+    }
+    print_words(out, b"field #, ", f.k, 0, 0);
+    print_declared(out, figure_of(f.letter, f.k), f.value, d);
+}
+
+fn explain_dot(out: &mut [u8; OUTPUT], letter: usize) {
+    if letter == wide(b'K') {
+        print_text(out, b"field 4, the dot, is past the end of the item\n");
+        return;
+    }
+    print_text(out, b"a figure is undeclared\n");
+}
+
+// A mark that stands where it may not; that there is no `^`, or that a cut is last, where none does.
+fn explain_mark(out: &mut [u8; OUTPUT], f: Spot) {
+    if f.k == 0 {
+        explain_no_mark(out, f.before);
+        return;
+    }
+    if f.value == wide(b'^') {
+        print_words(out, b"field # is a second ^\n", f.k, 0, 0);
+        return;
+    }
+    if f.before == b'R' {
+        print_words(out, b"field # is a / with no ^ left of it\n", f.k, 0, 0);
+        return;
+    }
+    print_words(out, b"field # is a / beside another mark\n", f.k, 0, 0);
+}
+
+fn explain_no_mark(out: &mut [u8; OUTPUT], last: u8) {
+    if last == b'R' {
         print_text(out, b"no ^ stands in the line\n");
         return;
     }
@@ -861,62 +937,91 @@ fn print_meaning(out: &mut [u8; OUTPUT]) {
     );
 }
 
-// How many lines a header says, and how many follow it.
-fn print_counts(out: &mut [u8; OUTPUT], book: &[u8], said: usize, what: &[u8])
-    requires { ⌜ length (now book) ≤ 65536 ⌝ }
-{
-    print_count(out, b"the header says ", said);
-    print_text(out, what);
-    print_count(out, b", and the lines after it are ", lines_after(book));
-    print_text(out, b"\n");
+// A book is known by its header's letter, G or T.
+fn print_name(out: &mut [u8; OUTPUT], header: u8) {
+    if header == b'G' {
+        print_text(out, b"grammar book");
+        return;
+    }
+    print_text(out, b"table book");
 }
 
-fn print_place(out: &mut [u8; OUTPUT], name: &[u8], book: &[u8], place: usize)
+// How many lines a header says, and how many follow it.
+fn print_counts(out: &mut [u8; OUTPUT], header: u8, book: &[u8], said: usize)
+    requires { ⌜ length (now book) ≤ 65536 ⌝ }
+{
+    if header == b'G' {
+        print_words(
+            out,
+            b"the header says # rules, and the lines after it are #\n",
+            said,
+            lines_after(book),
+            0,
+        );
+        return;
+    }
+    print_words(
+        out,
+        b"the header says # entries, and the lines after it are #\n",
+        said,
+        lines_after(book),
+        0,
+    );
+}
+
+fn print_place(out: &mut [u8; OUTPUT], header: u8, book: &[u8], place: usize)
     requires { ⌜ (length (now book) ≤ 65536) × (place ≤ length (now book)) ⌝ }
 {
-    print_text(out, name);
-    print_count(out, b", line ", line_number(book, place));
-    print_text(out, b": ");
+    print_name(out, header);
+    print_words(out, b", line #: ", line_number(book, place), 0, 0);
     print_line(out, book, place);
-    print_text(out, b"\n");
+    print_byte(out, b'\n');
 }
 
 // What is wrong with the line at `place`, whose form is right.
 fn explain_figures(out: &mut [u8; OUTPUT], book: &[u8], number: u64, place: usize, d: Declared)
     requires { ⌜ length (now book) ≤ 65536 ⌝ }
 {
-    if number == 2 {
-        explain_limit(out, book, place);
-        return;
+    let f = find_fault(book, number, place, d);
+    match number {
+        2 => explain_limit(out, book, f),
+        3 => explain_undeclared(out, f, d),
+        _ => explain_mark(out, f),
     }
-    if number == 3 {
-        explain_undeclared(out, book, place, d);
-        return;
-    }
-    explain_marks(out, book, place);
 }
 
 fn explain_nonterminal(out: &mut [u8; OUTPUT], number: u64, place: usize) {
-    print_count(out, b"nonterminal ", place);
     if number == 5 {
-        print_text(out, b" derives no string of terminals\n");
+        print_words(
+            out,
+            b"nonterminal # derives no string of terminals\n",
+            place,
+            0,
+            0,
+        );
         return;
     }
-    print_text(out, b" is not reached from the goal\n");
+    print_words(
+        out,
+        b"nonterminal # is not reached from the goal\n",
+        place,
+        0,
+        0,
+    );
 }
 
 // A book that ends where a line is due.
-fn explain_end(out: &mut [u8; OUTPUT], name: &[u8], book: &[u8], said: usize, what: &[u8])
+fn explain_end(out: &mut [u8; OUTPUT], header: u8, book: &[u8], said: usize)
     requires { ⌜ length (now book) ≤ 65536 ⌝ }
 {
-    print_text(out, name);
+    print_name(out, header);
     if book.len() == 0 {
         print_text(out, b": it is empty\n");
         return;
     }
     print_text(out, b": it ends where a line is due\n");
     if lines_after(book) < said {
-        print_counts(out, book, said, what);
+        print_counts(out, header, book, said);
         return;
     }
     print_text(out, b"no kernel line stands in it\n");
@@ -941,44 +1046,12 @@ fn explain_grammar_form(out: &mut [u8; OUTPUT], book: &[u8], place: usize, rules
             return;
         }
     } else if rules < line_number(book, place) - 1 {
-        print_counts(out, book, rules, b" rules");
+        print_counts(out, b'G', book, rules);
         return;
     } else if explain_form(out, book, place, b'R') {
         return;
     }
     print_meaning(out);
-}
-
-// A refusal of a grammar book as it is read: 1 to 6.
-pub fn explain_grammar_book(out: &mut [u8; OUTPUT], book: &[u8], number: u64, place: usize) {
-    if 65536 < book.len() {
-        print_text(out, b"grammar book: it is longer than 65536 bytes\n");
-        return;
-    }
-    if 4 < number {
-        explain_nonterminal(out, number, place);
-        return;
-    }
-    // t, n, the number of rules, and the goal
-    let mut said = [0usize; 67];
-    table_lines::read_line(book, 0, &mut said);
-    if book.len() <= place {
-        explain_end(out, b"grammar book", book, said[2], b" rules");
-        return;
-    }
-    print_place(out, b"grammar book", book, place);
-    if number == 1 {
-        explain_grammar_form(out, book, place, said[2]);
-        return;
-    }
-    let d = Declared {
-        terminals: said[0],
-        last_nonterminal: Symbol::FIRST_NONTERMINAL - 1 + clipped(said[1]),
-        rules: said[2],
-        items: said[2],
-        states: 0,
-    };
-    explain_figures(out, book, number, place, d);
 }
 
 // The first byte of the line before that at `place`.
@@ -1030,6 +1103,14 @@ fn explain_table_form(out: &mut [u8; OUTPUT], book: &[u8], place: usize, entries
     print_meaning(out);
 }
 
+// Whether the header's number of entries tells that a line of this family is due.
+fn is_counted(due: u8) -> bool {
+    match due {
+        b'E' | b'K' => true,
+        _ => false,
+    }
+}
+
 // Where another letter stands at the end of the entries, how many the header says.
 fn explain_letter(out: &mut [u8; OUTPUT], book: &[u8], place: usize, entries: usize, due: u8)
     requires { ⌜ (length (now book) ≤ 65536) × (place < length (now book)) ⌝ }
@@ -1037,18 +1118,103 @@ fn explain_letter(out: &mut [u8; OUTPUT], book: &[u8], place: usize, entries: us
     if book[place] == due {
         return;
     }
-    match due {
-        b'E' | b'K' => {
-            print_count(out, b"the header says ", entries);
-            print_count(
-                out,
-                b" entries, and this is line ",
-                line_number(book, place) - 1,
-            );
-            print_text(out, b" after it\n");
-        }
-        _ => {}
+    if !is_counted(due) {
+        return;
     }
+    print_words(
+        out,
+        b"the header says # entries, and this is line # after it\n",
+        entries,
+        line_number(book, place) - 1,
+        0,
+    );
+}
+
+// Reply 1 at a line of a book.
+fn explain_line(out: &mut [u8; OUTPUT], header: u8, book: &[u8], place: usize, said: usize)
+    requires { ⌜ (length (now book) ≤ 65536) × (place < length (now book)) ⌝ }
+{
+    if header == b'G' {
+        explain_grammar_form(out, book, place, said);
+        return;
+    }
+    explain_table_form(out, book, place, said);
+}
+
+// A book that is too long.
+fn explain_length(out: &mut [u8; OUTPUT], header: u8) {
+    print_name(out, header);
+    print_text(out, b": it is longer than 65536 bytes\n");
+}
+
+// The first numbers of a book's header, 0 for those that it lacks.
+struct Header {
+    first: usize,
+    second: usize,
+    third: usize,
+}
+
+fn read_header(book: &[u8]) -> Header
+    requires { ⌜ length (now book) ≤ 65536 ⌝ }
+{
+    let mut numbers = [0usize; 67];
+    table_lines::read_line(book, 0, &mut numbers);
+    Header {
+        first: numbers[0],
+        second: numbers[1],
+        third: numbers[2],
+    }
+}
+
+// A refusal of a book with 1 to 4, whose header says that so many lines follow it.
+fn explain_book(
+    out: &mut [u8; OUTPUT],
+    header: u8,
+    book: &[u8],
+    number: u64,
+    place: usize,
+    said: usize,
+    d: Declared,
+)
+    requires { ⌜ length (now book) ≤ 65536 ⌝ }
+{
+    if book.len() <= place {
+        explain_end(out, header, book, said);
+        return;
+    }
+    print_place(out, header, book, place);
+    if number == 1 {
+        explain_line(out, header, book, place, said);
+        return;
+    }
+    explain_figures(out, book, number, place, d);
+}
+
+// The last of so many nonterminals.
+fn last_nonterminal(count: usize) -> usize {
+    Symbol::FIRST_NONTERMINAL - 1 + clipped(count)
+}
+
+// A refusal of a grammar book as it is read: 1 to 6.
+pub fn explain_grammar_book(out: &mut [u8; OUTPUT], book: &[u8], number: u64, place: usize) {
+    if 65536 < book.len() {
+        explain_length(out, b'G');
+        return;
+    }
+    if 4 < number {
+        explain_nonterminal(out, number, place);
+        return;
+    }
+    // t, n and the number of rules
+    let h = read_header(book);
+    let d = Declared {
+        terminals: h.first,
+        last_nonterminal: last_nonterminal(h.second),
+        rules: h.third,
+        items: h.third,
+        states: 0,
+    };
+    explain_book(out, b'G', book, number, place, h.third, d);
 }
 
 // A refusal of a table book as it is read, 1 to 3, by a grammar with these figures.
@@ -1062,27 +1228,17 @@ pub fn explain_table_book(
     place: usize,
 ) {
     if 65536 < book.len() {
-        print_text(out, b"table book: it is longer than 65536 bytes\n");
+        explain_length(out, b'T');
         return;
     }
     // the numbers of states and of entries
-    let mut said = [0usize; 67];
-    table_lines::read_line(book, 0, &mut said);
-    if book.len() <= place {
-        explain_end(out, b"table book", book, said[1], b" entries");
-        return;
-    }
-    print_place(out, b"table book", book, place);
-    if number == 1 {
-        explain_table_form(out, book, place, said[1]);
-        return;
-    }
+    let h = read_header(book);
     let d = Declared {
         terminals,
-        last_nonterminal: Symbol::FIRST_NONTERMINAL - 1 + clipped(nonterminals),
+        last_nonterminal: last_nonterminal(nonterminals),
         rules,
-        items: clipped(rules) + clipped(said[1]),
-        states: said[0],
+        items: clipped(rules) + clipped(h.second),
+        states: h.first,
     };
-    explain_figures(out, book, number, place, d);
+    explain_book(out, b'T', book, number, place, h.second, d);
 }

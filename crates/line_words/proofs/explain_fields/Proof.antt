@@ -5,10 +5,10 @@ use Rattle.line_words.proofs.explain_fields.Statement.{statement}
 use Rattle.line_words.proofs.explain_fields.Tie as tie
 
 abbrev Inv-loop : tie.InvT-loop
-Inv-loop out₀ book line c₀ k₀ left₀ t11 t12 out c k left = (2 ≤ k) × (k + left ≤ 65538)
+Inv-loop out₀ book line c₀ k₀ left₀ t out c k left = (2 ≤ k) × (k + left ≤ 65538)
 
 abbrev μ-loop : tie.MeasureT-loop
-μ-loop out₀ book line c₀ k₀ left₀ t11 t12 out c k left = left
+μ-loop out₀ book line c₀ k₀ left₀ t out c k left = left
 
 loop-holds : tie.Need-loop-holds Inv-loop μ-loop
 loop-holds c = search needs
@@ -28,20 +28,14 @@ returns c = search needs
 is-beyond-requires : tie.Need-is-beyond-requires Inv-loop μ-loop
 is-beyond-requires c κs = search needs
 
-slice-aggregate-print-count : tie.Need-slice-aggregate-print-count Inv-loop μ-loop
-slice-aggregate-print-count c = search needs
+slice-aggregate-print-words : tie.Need-slice-aggregate-print-words Inv-loop μ-loop
+slice-aggregate-print-words c = search needs
 
-sub-print-count : tie.Need-sub-print-count Inv-loop μ-loop
-sub-print-count c = search needs
+sub-print-words : tie.Need-sub-print-words Inv-loop μ-loop
+sub-print-words c = search needs
 
-print-count-requires : tie.Need-print-count-requires Inv-loop μ-loop
-print-count-requires c κs = search needs
-
-slice-aggregate-print-text : tie.Need-slice-aggregate-print-text Inv-loop μ-loop
-slice-aggregate-print-text c = search needs
-
-print-text-requires : tie.Need-print-text-requires Inv-loop μ-loop
-print-text-requires c κs = search needs
+print-words-requires : tie.Need-print-words-requires Inv-loop μ-loop
+print-words-requires c κs = search needs
 
 returns-2 : tie.Need-returns-2 Inv-loop μ-loop
 returns-2 c = search needs
@@ -88,11 +82,9 @@ explain-fields-spec =
     explain-short-requires
     returns
     is-beyond-requires
-    slice-aggregate-print-count
-    sub-print-count
-    print-count-requires
-    slice-aggregate-print-text
-    print-text-requires
+    slice-aggregate-print-words
+    sub-print-words
+    print-words-requires
     returns-2
     read-part-requires
     explain-broken-requires

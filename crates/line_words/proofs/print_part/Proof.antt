@@ -6,16 +6,13 @@ use Rattle.line_words.proofs.print_part.Statement.{statement}
 use Rattle.line_words.proofs.print_part.Tie as tie
 
 abbrev Inv-loop : tie.InvT-loop
-Inv-loop out₀ book at i₀ t7 out i = Unit {0}
+Inv-loop out₀ book at i₀ out i = Unit {0}
 
 abbrev μ-loop : tie.MeasureT-loop
-μ-loop out₀ book at i₀ t7 out i = length book - i
+μ-loop out₀ book at i₀ out i = length book - i
 
-slice-aggregate-print-text : tie.Need-slice-aggregate-print-text Inv-loop μ-loop
-slice-aggregate-print-text c = search needs
-
-print-text-requires : tie.Need-print-text-requires Inv-loop μ-loop
-print-text-requires c κs = search needs
+print-byte-requires : tie.Need-print-byte-requires Inv-loop μ-loop
+print-byte-requires c κs = search needs
 
 loop-holds : tie.Need-loop-holds Inv-loop μ-loop
 loop-holds c = search needs
@@ -26,8 +23,8 @@ shared-slice-read-b c = search needs
 is-shown-requires : tie.Need-is-shown-requires Inv-loop μ-loop
 is-shown-requires c κs = search needs
 
-print-byte-requires : tie.Need-print-byte-requires Inv-loop μ-loop
-print-byte-requires c κs = search needs
+print-byte-requires-2 : tie.Need-print-byte-requires-2 Inv-loop μ-loop
+print-byte-requires-2 c κs = search needs
 
 add-i : tie.Need-add-i Inv-loop μ-loop
 add-i c = search needs
@@ -38,11 +35,8 @@ loop-less c = search needs
 loop-again : tie.Need-loop-again Inv-loop μ-loop
 loop-again c = search needs
 
-slice-aggregate-print-text-2 : tie.Need-slice-aggregate-print-text-2 Inv-loop μ-loop
-slice-aggregate-print-text-2 c = search needs
-
-print-text-requires-2 : tie.Need-print-text-requires-2 Inv-loop μ-loop
-print-text-requires-2 c κs = search needs
+print-byte-requires-3 : tie.Need-print-byte-requires-3 Inv-loop μ-loop
+print-byte-requires-3 c κs = search needs
 
 returns : tie.Need-returns Inv-loop μ-loop
 returns c = search needs
@@ -53,15 +47,13 @@ print-part-spec =
     (tie.spec
     Inv-loop
     μ-loop
-    slice-aggregate-print-text
-    print-text-requires
+    print-byte-requires
     loop-holds
     shared-slice-read-b
     is-shown-requires
-    print-byte-requires
+    print-byte-requires-2
     add-i
     loop-less
     loop-again
-    slice-aggregate-print-text-2
-    print-text-requires-2
+    print-byte-requires-3
     returns)

@@ -1,14 +1,14 @@
--- `line_words::explain_second` is safe and ends. Assumes nothing.
+-- `line_words::find_second` is safe and ends. Assumes nothing.
 use Prim.Native.Nat.{_+_, _≤_}
 use borrow.Author.Needs.{needs}
-use Rattle.line_words.proofs.explain_second.Statement.{statement}
-use Rattle.line_words.proofs.explain_second.Tie as tie
+use Rattle.line_words.proofs.find_second.Statement.{statement}
+use Rattle.line_words.proofs.find_second.Tie as tie
 
 abbrev Inv-loop : tie.InvT-loop
-Inv-loop out₀ book place line numbers count at₀ n₀ left₀ out at n left = n + left ≤ 65537
+Inv-loop book place line numbers count at₀ n₀ left₀ at n left = n + left ≤ 65537
 
 abbrev μ-loop : tie.MeasureT-loop
-μ-loop out₀ book place line numbers count at₀ n₀ left₀ out at n left = left
+μ-loop book place line numbers count at₀ n₀ left₀ at n left = left
 
 loop-holds : tie.Need-loop-holds Inv-loop μ-loop
 loop-holds c = search needs
@@ -34,17 +34,8 @@ enum-told c = search needs
 returns-2 : tie.Need-returns-2 Inv-loop μ-loop
 returns-2 c = search needs
 
-wide-requires : tie.Need-wide-requires Inv-loop μ-loop
-wide-requires c κs = search needs
-
-family-requires : tie.Need-family-requires Inv-loop μ-loop
-family-requires c κs = search needs
-
 is-second-requires : tie.Need-is-second-requires Inv-loop μ-loop
 is-second-requires c κs = search needs
-
-print-second-requires : tie.Need-print-second-requires Inv-loop μ-loop
-print-second-requires c κs = search needs
 
 returns-3 : tie.Need-returns-3 Inv-loop μ-loop
 returns-3 c = search needs
@@ -61,8 +52,8 @@ loop-again c = search needs
 returns-4 : tie.Need-returns-4 Inv-loop μ-loop
 returns-4 c = search needs
 
-pub explain-second-spec : {M : Type 1} → statement M
-explain-second-spec =
+pub find-second-spec : {M : Type 1} → statement M
+find-second-spec =
     tie.close
     (tie.spec
     Inv-loop
@@ -75,10 +66,7 @@ explain-second-spec =
     enum-known-letter
     enum-told
     returns-2
-    wide-requires
-    family-requires
     is-second-requires
-    print-second-requires
     returns-3
     add-n
     loop-less
