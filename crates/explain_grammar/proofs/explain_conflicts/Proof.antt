@@ -18,16 +18,27 @@ room-after-requires : tie.Need-room-after-requires Inv-loop μ-loop
 room-after-requires c κs = search needs
 
 explain-memory-requires : tie.Need-explain-memory-requires Inv-loop μ-loop
-explain-memory-requires c κs = (c .before .before .before .before .before .before .before .before .before .before .before .before .pre .0, (c .before .before .before .before .before .before .before .before .before .before .before .before .pre .1 .0 .0, c .before .before .before .before .before .before .before .before .before .before .before .before .pre .1 .0 .1))
+explain-memory-requires c κs =
+    let start = c .before .before .before .before .before .before .before .before .before .before .before .before in
+    (start .pre .0, (start .pre .1 .0 .0, start .pre .1 .0 .1))
 
 print-way-requires : tie.Need-print-way-requires Inv-loop μ-loop
-print-way-requires c κs = (c .before .before .before .before .before .before .before .before .before .before .before .before .before .before .before .before .pre .1 .1, (omega (arith, c .before .before .before .before .before .before .before .loop .inv .0), omega (arith, c .before .before .before .before .before .before .loop-test .taken, c .before .before .before .before .before .before .before .before .before .before .before .before .before .before .before .before .pre .1 .0 .1)))
+print-way-requires c κs =
+    let turn = c .before .before .before .before .before .before in
+    let start = turn .before .before .before .before .before .before .before .before .before .before in
+    (start .pre .1 .1, (omega (arith, turn .before .loop .inv .0), omega (arith, turn .loop-test .taken, start .pre .1 .0 .1)))
 
 add-found : tie.Need-add-found Inv-loop μ-loop
-add-found c = omega (arith, c .before .before .before .before .before .loop .inv .1, c .before .before .before .before .loop-test .taken, c .before .before .before .before .before .before .before .before .before .before .before .before .before .before .pre .1 .0 .1, c .before .explain-memory .ensures)
+add-found c =
+    let turn = c .before .before .before .before in
+    let start = turn .before .before .before .before .before .before .before .before .before .before in
+    omega (arith, turn .before .loop .inv .1, turn .loop-test .taken, start .pre .1 .0 .1, c .before .explain-memory .ensures)
 
 add-q : tie.Need-add-q Inv-loop μ-loop
-add-q c = omega (arith, c .before .before .before .before .loop-test .taken, c .before .before .before .before .before .before .before .before .before .before .before .before .before .before .pre .1 .0 .1)
+add-q c =
+    let turn = c .before .before .before .before in
+    let start = turn .before .before .before .before .before .before .before .before .before .before in
+    omega (arith, turn .loop-test .taken, start .pre .1 .0 .1)
 
 loop-less : tie.Need-loop-less Inv-loop μ-loop
 loop-less c = search needs
