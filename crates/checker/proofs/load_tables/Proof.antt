@@ -30,29 +30,61 @@ books-of c = read-of (c .before .before .before)
 
 -- ---- the slices
 abbrev lent : tie.Start → Slices
-lent c = slices (now (c .args .items)) (now (c .args .entry-states)) (now (c .args .kernels)) (now (c .args .lookaheads)) (now (c .args .kinds)) (now (c .args .values)) (now (c .args .gotos)) (now (c .args .named))
+lent c =
+    slices (now (c .args .items)) (now (c .args .entry-states)) (now (c .args .kernels)) (now (c .args .lookaheads))
+    (now (c .args .kinds)) (now (c .args .values)) (now (c .args .gotos)) (now (c .args .named))
 
 abbrev filled : tie.After-read-tables → Slices
-filled c = slices (c .read-tables .last .1 .1 .0) (c .read-tables .last .1 .1 .1 .0) (c .read-tables .last .1 .1 .1 .1 .0) (c .read-tables .last .1 .1 .1 .1 .1 .0) (c .read-tables .last .1 .1 .1 .1 .1 .1 .0) (c .read-tables .last .1 .1 .1 .1 .1 .1 .1 .0) (c .read-tables .last .1 .1 .1 .1 .1 .1 .1 .1 .0) (c .read-tables .last .1 .1 .1 .1 .1 .1 .1 .1 .1 .0)
+filled c =
+    slices (c .read-tables .last .1 .1 .0) (c .read-tables .last .1 .1 .1 .0) (c .read-tables .last .1 .1 .1 .1 .0)
+    (c .read-tables .last .1 .1 .1 .1 .1 .0) (c .read-tables .last .1 .1 .1 .1 .1 .1 .0)
+    (c .read-tables .last .1 .1 .1 .1 .1 .1 .1 .0) (c .read-tables .last .1 .1 .1 .1 .1 .1 .1 .1 .0)
+    (c .read-tables .last .1 .1 .1 .1 .1 .1 .1 .1 .1 .0)
 
 abbrev wiped : tie.After-clear-all → Slices
-wiped c = slices (c .clear-all .last .0) (c .clear-all .last .1 .0) (c .clear-all .last .1 .1 .0) (c .clear-all .last .1 .1 .1 .0) (c .clear-all .last .1 .1 .1 .1 .0) (c .clear-all .last .1 .1 .1 .1 .1 .0) (c .clear-all .last .1 .1 .1 .1 .1 .1 .0) (c .clear-all .last .1 .1 .1 .1 .1 .1 .1 .0)
+wiped c =
+    slices (c .clear-all .last .0) (c .clear-all .last .1 .0) (c .clear-all .last .1 .1 .0)
+    (c .clear-all .last .1 .1 .1 .0) (c .clear-all .last .1 .1 .1 .1 .0) (c .clear-all .last .1 .1 .1 .1 .1 .0)
+    (c .clear-all .last .1 .1 .1 .1 .1 .1 .0) (c .clear-all .last .1 .1 .1 .1 .1 .1 .1 .0)
 
 alike : (c : tie.After-read-tables) → Alike (filled c) (lent (start-of c))
-alike c = record { items-same = c .read-tables .kept .1 .1 .0; states-same = c .read-tables .kept .1 .1 .1 .0; kernels-same = c .read-tables .kept .1 .1 .1 .1 .0; lookaheads-same = c .read-tables .kept .1 .1 .1 .1 .1 .0; kinds-same = c .read-tables .kept .1 .1 .1 .1 .1 .1 .0; values-same = c .read-tables .kept .1 .1 .1 .1 .1 .1 .1 .0; gotos-same = c .read-tables .kept .1 .1 .1 .1 .1 .1 .1 .1 .0; named-same = c .read-tables .kept .1 .1 .1 .1 .1 .1 .1 .1 .1 .0 }
+alike c =
+    record {
+      items-same = c .read-tables .kept .1 .1 .0;
+      states-same = c .read-tables .kept .1 .1 .1 .0;
+      kernels-same = c .read-tables .kept .1 .1 .1 .1 .0;
+      lookaheads-same = c .read-tables .kept .1 .1 .1 .1 .1 .0;
+      kinds-same = c .read-tables .kept .1 .1 .1 .1 .1 .1 .0;
+      values-same = c .read-tables .kept .1 .1 .1 .1 .1 .1 .1 .0;
+      gotos-same = c .read-tables .kept .1 .1 .1 .1 .1 .1 .1 .1 .0;
+      named-same = c .read-tables .kept .1 .1 .1 .1 .1 .1 .1 .1 .1 .0;
+    }
 
 zero : (c : tie.After-clear-all) → AllZero (filled (books-of (told-of (judge-of c)))) (wiped c)
-zero c = record { items-zero = c .clear-all .ensures .0; states-zero = c .clear-all .ensures .1 .0; kernels-zero = c .clear-all .ensures .1 .1 .0; lookaheads-zero = c .clear-all .ensures .1 .1 .1 .0; kinds-zero = c .clear-all .ensures .1 .1 .1 .1 .0; values-zero = c .clear-all .ensures .1 .1 .1 .1 .1 .0; gotos-zero = c .clear-all .ensures .1 .1 .1 .1 .1 .1 .0; named-zero = c .clear-all .ensures .1 .1 .1 .1 .1 .1 .1 }
+zero c =
+    record {
+      items-zero = c .clear-all .ensures .0;
+      states-zero = c .clear-all .ensures .1 .0;
+      kernels-zero = c .clear-all .ensures .1 .1 .0;
+      lookaheads-zero = c .clear-all .ensures .1 .1 .1 .0;
+      kinds-zero = c .clear-all .ensures .1 .1 .1 .1 .0;
+      values-zero = c .clear-all .ensures .1 .1 .1 .1 .1 .0;
+      gotos-zero = c .clear-all .ensures .1 .1 .1 .1 .1 .1 .0;
+      named-zero = c .clear-all .ensures .1 .1 .1 .1 .1 .1 .1;
+    }
 
 -- ---- both books were read
 room : (c : tie.Start) → hasRoom (lent c) ≡ true
 room c = has-room (lent c) (c .pre)
 
-load : (c : tie.After-known-told) → BooksRead (now (start-of (books-of c) .args .grammar)) (now (start-of (books-of c) .args .book)) (lent (start-of (books-of c))) (filled (books-of c))
-    (c .before .answer .given .0 .0)
+load :
+    (c : tie.After-known-told)
+    → BooksRead (now (start-of (books-of c) .args .grammar)) (now (start-of (books-of c) .args .book))
+    (lent (start-of (books-of c))) (filled (books-of c)) (c .before .answer .given .0 .0)
 load c =
     let r = books-of c in
-    books-read (now (start-of r .args .grammar)) (now (start-of r .args .book)) {b = lent (start-of r)} {a = filled r} (room (start-of r)) (r .read-tables .ensures) (c .before .answer .given .1)
+    books-read (now (start-of r .args .grammar)) (now (start-of r .args .book)) {b = lent (start-of r)} {a = filled r}
+    (room (start-of r)) (r .read-tables .ensures) (c .before .answer .given .1)
 
 read-tables-requires : tie.Need-read-tables-requires
 read-tables-requires c κs = search needs
@@ -95,7 +127,9 @@ returns c =
     (not-read (now (a .grammar)) (now (a .book)) {b = lent (start-of r)} {a = filled r} (room (start-of r)) (r .read-tables .ensures) (c .enum-told .given .1))
 
 judge-requires : tie.Need-judge-requires
-judge-requires c κs = let k : tie.After-known-told = c .before .before .before .before .before .before .before .before .before in (read-sized (load k) (room (start-of (books-of k))), read-low (load k))
+judge-requires c κs =
+    let k : tie.After-known-told = c .before .before .before .before .before .before .before .before .before in
+    (read-sized (load k) (room (start-of (books-of k))), read-low (load k))
 
 enum-known-verdict : tie.Need-enum-known-verdict
 enum-known-verdict c = search needs

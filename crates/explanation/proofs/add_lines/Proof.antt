@@ -21,17 +21,36 @@ state-of-requires : tie.Need-state-of-requires Inv-loop μ-loop
 state-of-requires c κs = (c .before .before .before .before .before .before .before .pre .0, omega (arith, c .before .loop .inv, c .loop-test .taken))
 
 item-of-requires : tie.Need-item-of-requires Inv-loop μ-loop
-item-of-requires c κs = (c .before .before .before .before .before .before .before .before .before .pre .0, omega (arith, c .before .before .before .loop .inv, c .before .before .loop-test .taken))
+item-of-requires c κs =
+    let at-loop-test = c .before .before in (
+      at-loop-test .before .before .before .before .before .before .before .pre .0,
+      omega (arith, at-loop-test .before .loop .inv, at-loop-test .loop-test .taken),
+    )
 
 dot-of-requires : tie.Need-dot-of-requires Inv-loop μ-loop
-dot-of-requires c κs = (c .before .before .before .before .before .before .before .before .before .before .pre .0, omega (arith, c .before .before .before .before .loop .inv, c .before .before .before .loop-test .taken))
+dot-of-requires c κs =
+    let at-loop-test = c .before .before .before in (
+      at-loop-test .before .before .before .before .before .before .before .pre .0,
+      omega (arith, at-loop-test .before .loop .inv, at-loop-test .loop-test .taken),
+    )
 
 mul-item-demand : tie.Need-mul-item-demand Inv-loop μ-loop
 mul-item-demand c = search needs
 
 item-demand-requires : tie.Need-item-demand-requires Inv-loop μ-loop
-item-demand-requires c κs = let p = c .before .before .before .before .before .before .before .before .before .before .before .pre in let i = c .before .item-of .ensures .1 in
-    (p .1 .0, (i, omega (arith, i, p .1 .1 .0), c .dot-of .ensures .1, omega (arith, c .before .before .before .before .before .loop .inv, c .before .before .before .before .loop-test .taken, p .1 .1 .1), p .1 .1 .2))
+item-demand-requires c κs =
+    let at-loop-test = c .before .before .before .before in
+    let p = at-loop-test .before .before .before .before .before .before .before .pre in
+    let i = c .before .item-of .ensures .1 in (
+      p .1 .0,
+      (
+        i,
+        omega (arith, i, p .1 .1 .0),
+        c .dot-of .ensures .1,
+        omega (arith, at-loop-test .before .loop .inv, at-loop-test .loop-test .taken, p .1 .1 .1),
+        p .1 .1 .2,
+      ),
+    )
 
 add-demand-requires : tie.Need-add-demand-requires Inv-loop μ-loop
 add-demand-requires c κs = search needs

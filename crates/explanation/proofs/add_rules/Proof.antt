@@ -15,10 +15,14 @@ loop-holds : tie.Need-loop-holds Inv-loop μ-loop
 loop-holds c = search needs
 
 is-present-requires : tie.Need-is-present-requires Inv-loop μ-loop
-is-present-requires c κs = let p = c .before .before .before .before .before .before .before .pre in (p .0 .shaped, (omega (arith, c .loop-test .taken, p .1 .0 .0), p .1 .1 .0))
+is-present-requires c κs =
+    let p = c .before .before .before .before .before .before .before .pre in
+    (p .0 .shaped, (omega (arith, c .loop-test .taken, p .1 .0 .0), p .1 .1 .0))
 
 left-of-requires : tie.Need-left-of-requires Inv-loop μ-loop
-left-of-requires c κs = let p = c .before .before .before .before .before .before .before .before .before .pre in (p .0 .shaped, omega (arith, c .before .before .loop-test .taken, p .1 .0 .0))
+left-of-requires c κs =
+    let p = c .before .before .before .before .before .before .before .before .before .pre in
+    (p .0 .shaped, omega (arith, c .before .before .loop-test .taken, p .1 .0 .0))
 
 sub-item-demand : tie.Need-sub-item-demand Inv-loop μ-loop
 sub-item-demand c = let n = c .before .before .is-present .ensures .yes (c .before .if1 .taken) .nonterminal in omega (arith, n, c .left-of .ensures .0)
@@ -27,16 +31,19 @@ mul-item-demand : tie.Need-mul-item-demand Inv-loop μ-loop
 mul-item-demand c = omega (arith, c .left-of .ensures .1)
 
 item-demand-requires : tie.Need-item-demand-requires Inv-loop μ-loop
-item-demand-requires c κs = let p = c .before .before .before .before .before .before .before .before .before .before .pre in let n = c .before .before .is-present .ensures .yes (c .before .if1 .taken) .nonterminal in (
-  p .0,
-  (
-    omega (arith, c .before .before .before .loop-test .taken, p .1 .0 .0),
-    omega (arith, c .before .before .before .loop-test .taken, p .1 .0 .0, p .1 .0 .1),
-    omega arith,
-    omega (arith, n, c .left-of .ensures .0, c .left-of .ensures .1, p .1 .1 .1),
-    p .1 .0 .2,
-  ),
-)
+item-demand-requires c κs =
+    let at-loop-test = c .before .before .before in
+    let p = at-loop-test .before .before .before .before .before .before .before .pre in
+    let n = c .before .before .is-present .ensures .yes (c .before .if1 .taken) .nonterminal in (
+      p .0,
+      (
+        omega (arith, at-loop-test .loop-test .taken, p .1 .0 .0),
+        omega (arith, at-loop-test .loop-test .taken, p .1 .0 .0, p .1 .0 .1),
+        omega arith,
+        omega (arith, n, c .left-of .ensures .0, c .left-of .ensures .1, p .1 .1 .1),
+        p .1 .0 .2,
+      ),
+    )
 
 add-demand-requires : tie.Need-add-demand-requires Inv-loop μ-loop
 add-demand-requires c κs = search needs

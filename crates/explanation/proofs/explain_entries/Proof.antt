@@ -14,7 +14,9 @@ enum-told : tie.Need-enum-told
 enum-told c = search needs
 
 print-entry-requires : tie.Need-print-entry-requires
-print-entry-requires c κs = let s = c .before .before .before .before .before .before .before in (s .pre .0, (s .pre .1 .0, s .pre .1 .2))
+print-entry-requires c κs =
+    let start = c .before .before .before .before .before .before .before in
+    (start .pre .0, (start .pre .1 .0, start .pre .1 .2))
 
 slice-aggregate-print-count : tie.Need-slice-aggregate-print-count
 slice-aggregate-print-count c = search needs
@@ -45,9 +47,9 @@ slice-aggregate-print-count-3 c = search needs
 
 group-number-requires : tie.Need-group-number-requires
 group-number-requires c κs =
-    let s = c .before .before .before .before .before .before in
-    let b = s .before .before .before .find-entry-fault .ensures .0 .1 .group _ _ _ (s .fault .given .1) in
-    (s .before .before .before .before .before .before .pre .0, omega (arith, b .1))
+    let at-fault = c .before .before .before .before .before .before in
+    let b = at-fault .before .before .before .find-entry-fault .ensures .0 .1 .group _ _ _ (at-fault .fault .given .1) in
+    (at-fault .before .before .before .before .before .before .pre .0, omega (arith, b .1))
 
 print-count-requires-3 : tie.Need-print-count-requires-3
 print-count-requires-3 c κs = search needs
@@ -60,9 +62,9 @@ print-text-requires-2 c κs = search needs
 
 print-symbols-requires : tie.Need-print-symbols-requires
 print-symbols-requires c κs =
-    let s = c .before .before .before .before .before .before .before .before .before .before .before .before in
-    let b = s .before .before .before .find-entry-fault .ensures .0 .1 .group _ _ _ (s .fault .given .1) in
-    (s .before .before .before .before .before .before .pre .0, (omega (arith, b .1), b .3))
+    let at-fault = c .before .before .before .before .before .before .before .before .before .before .before .before in
+    let b = at-fault .before .before .before .find-entry-fault .ensures .0 .1 .group _ _ _ (at-fault .fault .given .1) in
+    (at-fault .before .before .before .before .before .before .pre .0, (omega (arith, b .1), b .3))
 
 slice-aggregate-print-text-3 : tie.Need-slice-aggregate-print-text-3
 slice-aggregate-print-text-3 c = search needs
@@ -74,7 +76,9 @@ enum-known-fault-2 : tie.Need-enum-known-fault-2
 enum-known-fault-2 c = search needs
 
 print-entry-requires-2 : tie.Need-print-entry-requires-2
-print-entry-requires-2 c κs = let s = c .before .before .before .before .before .before .before .before in (s .pre .0, (s .pre .1 .0, s .pre .1 .2))
+print-entry-requires-2 c κs =
+    let start = c .before .before .before .before .before .before .before .before in
+    (start .pre .0, (start .pre .1 .0, start .pre .1 .2))
 
 slice-aggregate-print-text-4 : tie.Need-slice-aggregate-print-text-4
 slice-aggregate-print-text-4 c = search needs

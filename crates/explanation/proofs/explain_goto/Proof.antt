@@ -19,7 +19,9 @@ slice-aggregate-print-count : tie.Need-slice-aggregate-print-count
 slice-aggregate-print-count c = search needs
 
 add-print-count : tie.Need-add-print-count
-add-print-count c = omega (arith, c .before .before .before .before .before .find-goto .ensures .found _ (c .before .before .before .goto .given .1) .1)
+add-print-count c =
+    let at-goto = c .before .before .before in
+    omega (arith, at-goto .before .before .find-goto .ensures .found _ (at-goto .goto .given .1) .1)
 
 print-count-requires : tie.Need-print-count-requires
 print-count-requires c κs = search needs
@@ -28,10 +30,24 @@ mul-if1 : tie.Need-mul-if1
 mul-if1 c = omega (arith, c .before .before .before .before .before .before .before .before .before .pre .2)
 
 add-if1 : tie.Need-add-if1
-add-if1 c = omega (arith, c .before .before .before .before .before .before .find-goto .ensures .found _ (c .before .before .before .before .goto .given .1) .1, c .before .before .before .before .before .before .before .before .before .pre .2)
+add-if1 c =
+    let at-goto = c .before .before .before .before in
+    omega (
+      arith,
+      at-goto .before .before .find-goto .ensures .found _ (at-goto .goto .given .1) .1,
+      at-goto .before .before .before .before .before .pre .2,
+    )
 
 shared-slice-read-if1 : tie.Need-shared-slice-read-if1
-shared-slice-read-if1 c = omega (arith, c .before .before .before .before .before .before .before .find-goto .ensures .found _ (c .before .before .before .before .before .goto .given .1) .1, c .before .before .before .before .before .before .before .before .before .before .pre .2, c .before .before .before .before .before .before .before .before .before .before .pre .1)
+shared-slice-read-if1 c =
+    let at-goto = c .before .before .before .before .before in
+    let start = at-goto .before .before .before .before .before in
+    omega (
+      arith,
+      at-goto .before .before .find-goto .ensures .found _ (at-goto .goto .given .1) .1,
+      start .pre .2,
+      start .pre .1,
+    )
 
 slice-aggregate-print-text : tie.Need-slice-aggregate-print-text
 slice-aggregate-print-text c = search needs

@@ -7,7 +7,9 @@ add-count : tie.Need-add-count
 add-count c = search needs
 
 find-item-fault-requires : tie.Need-find-item-fault-requires
-find-item-fault-requires c κs = c .before .before .before .before .before .before .before .before .before .before .before .pre
+find-item-fault-requires c κs =
+    let start = c .before .before .before .before .before .before .before .before .before .before .before in
+    start .pre
 
 enum-told : tie.Need-enum-told
 enum-told c = search needs
@@ -43,10 +45,22 @@ slice-aggregate-print-item : tie.Need-slice-aggregate-print-item
 slice-aggregate-print-item c = search needs
 
 add-print-item : tie.Need-add-print-item
-add-print-item c = let f = c .before .before .before .before .before .before .before .before .before .before .before .find-item-fault .ensures .is in let e = c .before .before .before .before .before .before .before .before .before .fault .given .1 in let h = rw e at f in omega (arith, h .1, c .before .before .before .before .before .before .before .before .before .before .before .before .before .before .before .before .before .before .before .before .before .before .before .pre .1 .1 .1 .1, c .before .before .before .before .before .before .before .before .before .before .before .before .before .before .before .before .before .before .before .before .before .before .before .pre .1 .1 .1 .2)
+add-print-item c =
+    let at-fault = c .before .before .before .before .before .before .before .before .before in
+    let start = at-fault .before .before .before .before .before .before .before .before .before .before .before .before .before .before in
+    let f = at-fault .before .before .find-item-fault .ensures .is in
+    let e = at-fault .fault .given .1 in
+    let h = rw e at f in
+    omega (arith, h .1, start .pre .1 .1 .1 .1, start .pre .1 .1 .1 .2)
 
 print-item-requires : tie.Need-print-item-requires
-print-item-requires c κs = let f = c .before .before .before .before .before .before .before .before .before .before .before .find-item-fault .ensures .is in let e = c .before .before .before .before .before .before .before .before .before .fault .given .1 in let h = rw e at f in (c .before .before .before .before .before .before .before .before .before .before .before .before .before .before .before .before .before .before .before .before .before .before .before .pre .0 .lined .shaped, omega (arith, h .1))
+print-item-requires c κs =
+    let at-fault = c .before .before .before .before .before .before .before .before .before in
+    let start = at-fault .before .before .before .before .before .before .before .before .before .before .before .before .before .before in
+    let f = at-fault .before .before .find-item-fault .ensures .is in
+    let e = at-fault .fault .given .1 in
+    let h = rw e at f in
+    (start .pre .0 .lined .shaped, omega (arith, h .1))
 
 print-user-requires : tie.Need-print-user-requires
 print-user-requires c κs = search needs
@@ -61,10 +75,17 @@ enum-known-fault-2 : tie.Need-enum-known-fault-2
 enum-known-fault-2 c = search needs
 
 symbol-after-requires : tie.Need-symbol-after-requires
-symbol-after-requires c κs = let f = c .before .before .before .find-item-fault .ensures .is in let e = c .before .fault2 .given .1 in let h = rw e at f in (c .before .before .before .before .before .before .before .before .before .before .before .before .before .before .before .pre .0 .lined .shaped, h .item-low)
+symbol-after-requires c κs =
+    let start = c .before .before .before .before .before .before .before .before .before .before .before .before .before .before .before in
+    let f = c .before .before .before .find-item-fault .ensures .is in
+    let e = c .before .fault2 .given .1 in
+    let h = rw e at f in
+    (start .pre .0 .lined .shaped, h .item-low)
 
 next-of-requires : tie.Need-next-of-requires
-next-of-requires c κs = (c .before .before .before .before .before .before .before .before .before .before .before .before .before .before .before .before .before .pre .1 .0, (c .before .before .before .before .before .before .before .before .before .before .before .before .before .before .before .before .before .pre .1 .1 .1 .0, c .before .symbol-after .ensures .1))
+next-of-requires c κs =
+    let start = c .before .before .before .before .before .before .before .before .before .before .before .before .before .before .before .before .before in
+    (start .pre .1 .0, (start .pre .1 .1 .1 .0, c .before .symbol-after .ensures .1))
 
 print-goes-requires : tie.Need-print-goes-requires
 print-goes-requires c κs = search needs
@@ -73,10 +94,21 @@ slice-aggregate-print-item-2 : tie.Need-slice-aggregate-print-item-2
 slice-aggregate-print-item-2 c = search needs
 
 add-print-item-2 : tie.Need-add-print-item-2
-add-print-item-2 c = let f = c .before .before .before .before .before .before .before .before .before .find-item-fault .ensures .is in let e = c .before .before .before .before .before .before .before .fault2 .given .1 in let h = rw e at f in omega (arith, h .dot-low)
+add-print-item-2 c =
+    let at-fault2 = c .before .before .before .before .before .before .before in
+    let f = at-fault2 .before .before .find-item-fault .ensures .is in
+    let e = at-fault2 .fault2 .given .1 in
+    let h = rw e at f in
+    omega (arith, h .dot-low)
 
 print-item-requires-2 : tie.Need-print-item-requires-2
-print-item-requires-2 c κs = let f = c .before .before .before .before .before .before .before .before .before .find-item-fault .ensures .is in let e = c .before .before .before .before .before .before .before .fault2 .given .1 in let h = rw e at f in (c .before .before .before .before .before .before .before .before .before .before .before .before .before .before .before .before .before .before .before .before .before .pre .0 .lined .shaped, h .item-low)
+print-item-requires-2 c κs =
+    let at-fault2 = c .before .before .before .before .before .before .before in
+    let start = at-fault2 .before .before .before .before .before .before .before .before .before .before .before .before .before .before in
+    let f = at-fault2 .before .before .find-item-fault .ensures .is in
+    let e = at-fault2 .fault2 .given .1 in
+    let h = rw e at f in
+    (start .pre .0 .lined .shaped, h .item-low)
 
 print-item-user-requires : tie.Need-print-item-user-requires
 print-item-user-requires c κs = search needs
@@ -91,22 +123,44 @@ enum-known-fault-3 : tie.Need-enum-known-fault-3
 enum-known-fault-3 c = search needs
 
 next-of-requires-2 : tie.Need-next-of-requires-2
-next-of-requires-2 c κs = let f = c .before .before .before .before .find-item-fault .ensures .is in let e = c .before .before .fault3 .given .1 in let h = rw e at f in (c .before .before .before .before .before .before .before .before .before .before .before .before .before .before .before .before .pre .1 .0, (c .before .before .before .before .before .before .before .before .before .before .before .before .before .before .before .before .pre .1 .1 .1 .0, h .1))
+next-of-requires-2 c κs =
+    let at-fault3 = c .before .before in
+    let start = at-fault3 .before .before .before .before .before .before .before .before .before .before .before .before .before .before in
+    let f = at-fault3 .before .before .find-item-fault .ensures .is in
+    let e = at-fault3 .fault3 .given .1 in
+    let h = rw e at f in
+    (start .pre .1 .0, (start .pre .1 .1 .1 .0, h .1))
 
 print-goes-requires-2 : tie.Need-print-goes-requires-2
 print-goes-requires-2 c κs = search needs
 
 item-of-requires : tie.Need-item-of-requires
-item-of-requires c κs = let f = c .before .before .before .before .before .before .find-item-fault .ensures .is in let e = c .before .before .before .before .fault3 .given .1 in let h = rw e at f in (c .before .before .before .before .before .before .before .before .before .before .before .before .before .before .before .before .before .before .pre .0 .lined .some-lines, h .2 .low)
+item-of-requires c κs =
+    let at-fault3 = c .before .before .before .before in
+    let start = at-fault3 .before .before .before .before .before .before .before .before .before .before .before .before .before .before in
+    let f = at-fault3 .before .before .find-item-fault .ensures .is in
+    let e = at-fault3 .fault3 .given .1 in
+    let h = rw e at f in
+    (start .pre .0 .lined .some-lines, h .2 .low)
 
 slice-aggregate-print-item-3 : tie.Need-slice-aggregate-print-item-3
 slice-aggregate-print-item-3 c = search needs
 
 dot-of-requires : tie.Need-dot-of-requires
-dot-of-requires c κs = let f = c .before .before .before .before .before .before .before .before .before .find-item-fault .ensures .is in let e = c .before .before .before .before .before .before .before .fault3 .given .1 in let h = rw e at f in (c .before .before .before .before .before .before .before .before .before .before .before .before .before .before .before .before .before .before .before .before .before .pre .0 .lined .some-lines, h .2 .low)
+dot-of-requires c κs =
+    let at-fault3 = c .before .before .before .before .before .before .before in
+    let start = at-fault3 .before .before .before .before .before .before .before .before .before .before .before .before .before .before in
+    let f = at-fault3 .before .before .find-item-fault .ensures .is in
+    let e = at-fault3 .fault3 .given .1 in
+    let h = rw e at f in
+    (start .pre .0 .lined .some-lines, h .2 .low)
 
 print-item-requires-3 : tie.Need-print-item-requires-3
-print-item-requires-3 c κs = (c .before .before .before .before .before .before .before .before .before .before .before .before .before .before .before .before .before .before .before .before .before .before .pre .0 .lined .shaped, c .before .before .before .item-of .ensures .1)
+print-item-requires-3 c κs =
+    let at-item-of = c .before .before .before in
+    let start = at-item-of .before .before .before .before .before .before .before .before .before .before .before .before .before .before .before .before
+    .before .before .before in
+    (start .pre .0 .lined .shaped, at-item-of .item-of .ensures .1)
 
 slice-aggregate-print-text-4 : tie.Need-slice-aggregate-print-text-4
 slice-aggregate-print-text-4 c = search needs

@@ -6,7 +6,9 @@ add-count : tie.Need-add-count
 add-count c = search needs
 
 find-lack-requires : tie.Need-find-lack-requires
-find-lack-requires c κs = c .before .before .before .before .before .before .before .before .before .before .before .before .before .before .pre
+find-lack-requires c κs =
+    let start = c .before .before .before .before .before .before .before .before .before .before .before .before .before .before in
+    start .pre
 
 enum-known-lack : tie.Need-enum-known-lack
 enum-known-lack c = search needs
@@ -18,16 +20,33 @@ returns : tie.Need-returns
 returns c = search needs
 
 item-of-requires : tie.Need-item-of-requires
-item-of-requires c κs = let f = c .before .before .before .find-lack .ensures .0 in let e = c .before .lack .given .1 in let h = rw e at f in (c .before .before .before .before .before .before .before .before .before .before .before .before .before .before .before .before .before .before .pre .0 .some-lines, h .low)
+item-of-requires c κs =
+    let at-find-lack = c .before .before .before in
+    let start = at-find-lack .before .before .before .before .before .before .before .before .before .before .before .before .before .before .before in
+    let f = at-find-lack .find-lack .ensures .0 in
+    let e = c .before .lack .given .1 in
+    let h = rw e at f in
+    (start .pre .0 .some-lines, h .low)
 
 slice-aggregate-print-item : tie.Need-slice-aggregate-print-item
 slice-aggregate-print-item c = search needs
 
 dot-of-requires : tie.Need-dot-of-requires
-dot-of-requires c κs = let f = c .before .before .before .before .before .before .find-lack .ensures .0 in let e = c .before .before .before .before .lack .given .1 in let h = rw e at f in (c .before .before .before .before .before .before .before .before .before .before .before .before .before .before .before .before .before .before .before .before .before .pre .0 .some-lines, h .low)
+dot-of-requires c κs =
+    let at-lack = c .before .before .before .before in
+    let start = at-lack .before .before .before .before .before .before .before .before .before .before .before .before .before .before .before .before
+    .before in
+    let f = at-lack .before .before .find-lack .ensures .0 in
+    let e = at-lack .lack .given .1 in
+    let h = rw e at f in
+    (start .pre .0 .some-lines, h .low)
 
 print-item-requires : tie.Need-print-item-requires
-print-item-requires c κs = (c .before .before .before .before .before .before .before .before .before .before .before .before .before .before .before .before .before .before .before .before .before .before .pre .0 .shaped, c .before .before .before .item-of .ensures .1)
+print-item-requires c κs =
+    let at-item-of = c .before .before .before in
+    let start = at-item-of .before .before .before .before .before .before .before .before .before .before .before .before .before .before .before .before
+    .before .before .before in
+    (start .pre .0 .shaped, at-item-of .item-of .ensures .1)
 
 slice-aggregate-print-count : tie.Need-slice-aggregate-print-count
 slice-aggregate-print-count c = search needs

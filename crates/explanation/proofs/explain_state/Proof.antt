@@ -6,7 +6,9 @@ use Rattle.explanation.proofs.explain_state.Statement.{statement}
 use Rattle.explanation.proofs.explain_state.Tie as tie
 
 explain-lookaheads-requires : tie.Need-explain-lookaheads-requires
-explain-lookaheads-requires c κs = c .before .before .before .before .before .before .before .before .before .before .before .before .before .before .before .before .pre
+explain-lookaheads-requires c κs =
+    let start = c .before .before .before .before .before .before .before .before .before .before .before .before .before .before .before .before in
+    start .pre
 
 returns : tie.Need-returns
 returns c = search needs
@@ -21,7 +23,19 @@ slice-aggregate-close-state-2 : tie.Need-slice-aggregate-close-state-2
 slice-aggregate-close-state-2 c = search needs
 
 close-state-requires : tie.Need-close-state-requires
-close-state-requires c κs = let S = c .before .before .before .before .before .before .before .before .before .before .before .before .before .before .before .before .before .pre .0 in let C = c .before .before .before .before .before .before .before .before .before .before .before .before .before .before .before .before .before .pre .1 .0 in let low = c .before .before .before .before .before .before .before .before .before .before .before .before .before .before .before .before .before .pre .1 .1 .2 in (S .shaped, ((within _ _, S .few-rules, C .few-codes), (S .some-lines, (S .codes-room, ((C .nul-room, C .fst-room, C .starts-room, C .through-room), (C .prepared, (refl, refl)))))))
+close-state-requires c κs =
+    let start = c .before .before .before .before .before .before .before .before .before .before .before .before .before .before .before .before .before in
+    let S = start .pre .0 in
+    let C = start .pre .1 .0 in (
+      S .shaped,
+      (
+        (within _ _, S .few-rules, C .few-codes),
+        (
+          S .some-lines,
+          (S .codes-room, ((C .nul-room, C .fst-room, C .starts-room, C .through-room), (C .prepared, (refl, refl)))),
+        ),
+      ),
+    )
 
 slice-aggregate-flag-moves : tie.Need-slice-aggregate-flag-moves
 slice-aggregate-flag-moves c = search needs
@@ -30,7 +44,14 @@ slice-aggregate-flag-moves-2 : tie.Need-slice-aggregate-flag-moves-2
 slice-aggregate-flag-moves-2 c = search needs
 
 flag-moves-requires : tie.Need-flag-moves-requires
-flag-moves-requires c κs = let S = c .before .before .before .before .before .before .before .before .before .before .before .before .before .before .before .before .before .before .before .before .before .before .pre .0 in let C = c .before .before .before .before .before .before .before .before .before .before .before .before .before .before .before .before .before .before .before .before .before .before .pre .1 .0 in let low = c .before .before .before .before .before .before .before .before .before .before .before .before .before .before .before .before .before .before .before .before .before .before .pre .1 .1 .2 in (readable-of S C (c .before .before .before .before .close-state .kept .1 .1 .1 .1 .1 .1 .1 .1 .1 .1 .1 .1 .0), (low, refl))
+flag-moves-requires c κs =
+    let at-close-state = c .before .before .before .before in
+    let start = at-close-state .before .before .before .before .before .before .before .before .before .before .before .before .before .before .before
+    .before .before .before in
+    let S = start .pre .0 in
+    let C = start .pre .1 .0 in
+    let low = start .pre .1 .1 .2 in
+    (readable-of S C (at-close-state .close-state .kept .1 .1 .1 .1 .1 .1 .1 .1 .1 .1 .1 .1 .0), (low, refl))
 
 slice-aggregate-explain-items : tie.Need-slice-aggregate-explain-items
 slice-aggregate-explain-items c = search needs
@@ -39,7 +60,23 @@ slice-aggregate-explain-items-2 : tie.Need-slice-aggregate-explain-items-2
 slice-aggregate-explain-items-2 c = search needs
 
 explain-items-requires : tie.Need-explain-items-requires
-explain-items-requires c κs = let S = c .before .before .before .before .before .before .before .before .before .before .before .before .before .before .before .before .before .before .before .before .before .before .before .before .before .before .before .before .pre .0 in let C = c .before .before .before .before .before .before .before .before .before .before .before .before .before .before .before .before .before .before .before .before .before .before .before .before .before .before .before .before .pre .1 .0 in let low = c .before .before .before .before .before .before .before .before .before .before .before .before .before .before .before .before .before .before .before .before .before .before .before .before .before .before .before .before .pre .1 .1 .2 in (readable-of S C (c .before .before .before .before .before .before .before .before .before .before .close-state .kept .1 .1 .1 .1 .1 .1 .1 .1 .1 .1 .1 .1 .0), (S .cells-room, ((in-room low (S .named-room), c .before .before .before .before .before .flag-moves .ensures .0), (low, S .few-rules, S .few-strings, in-room (omega (arith, S .few-strings)) (S .entries-room)))))
+explain-items-requires c κs =
+    let at-flag-moves = c .before .before .before .before .before in
+    let at-close-state = at-flag-moves .before .before .before .before .before in
+    let start = at-close-state .before .before .before .before .before .before .before .before .before .before .before .before .before .before .before
+    .before .before .before in
+    let S = start .pre .0 in
+    let C = start .pre .1 .0 in
+    let low = start .pre .1 .1 .2 in (
+      readable-of S C (at-close-state .close-state .kept .1 .1 .1 .1 .1 .1 .1 .1 .1 .1 .1 .1 .0),
+      (
+        S .cells-room,
+        (
+          (in-room low (S .named-room), at-flag-moves .flag-moves .ensures .0),
+          (low, S .few-rules, S .few-strings, in-room (omega (arith, S .few-strings)) (S .entries-room)),
+        ),
+      ),
+    )
 
 returns-2 : tie.Need-returns-2
 returns-2 c = search needs
@@ -55,13 +92,20 @@ slice-aggregate-explain-conflicts-3 c = search needs
 
 explain-conflicts-requires : tie.Need-explain-conflicts-requires
 explain-conflicts-requires c κs =
-    let S = c .before .before .before .before .before .before .before .before .before .before .before .before .before .before .before .before .before .before .before .before .before .before .before .before .before .before .before .before .before .before .pre .0 in
-    let C = c .before .before .before .before .before .before .before .before .before .before .before .before .before .before .before .before .before .before .before .before .before .before .before .before .before .before .before .before .before .before .pre .1 .0 in
-    let k = c .before .before .before .before .before .before .before .before .before .before .before .before .close-state .kept .1 .1 .1 .1 .1 .1 .1 .1 .1 .1 .1 .1 in (
+    let at-flag-moves = c .before .before .before .before .before .before .before in
+    let at-close-state = at-flag-moves .before .before .before .before .before in
+    let start = at-close-state .before .before .before .before .before .before .before .before .before .before .before .before .before .before .before
+    .before .before .before in
+    let S = start .pre .0 in
+    let C = start .pre .1 .0 in
+    let k = at-close-state .close-state .kept .1 .1 .1 .1 .1 .1 .1 .1 .1 .1 .1 .1 in (
       S .some-lines,
       (
         ready-of S C,
-        ((within _ _, few-items (S .few-rules) (S .few-strings), S .codes-room), (k .0, k .1 .0, c .before .before .before .before .before .before .before .flag-moves .ensures .0)),
+        (
+          (within _ _, few-items (S .few-rules) (S .few-strings), S .codes-room),
+          (k .0, k .1 .0, at-flag-moves .flag-moves .ensures .0),
+        ),
       ),
     )
 
@@ -78,7 +122,29 @@ slice-aggregate-explain-cells-3 : tie.Need-slice-aggregate-explain-cells-3
 slice-aggregate-explain-cells-3 c = search needs
 
 explain-cells-requires : tie.Need-explain-cells-requires
-explain-cells-requires c κs = let S = c .before .before .before .before .before .before .before .before .before .before .before .before .before .before .before .before .before .before .before .before .before .before .before .before .before .before .before .before .before .before .pre .0 in let C = c .before .before .before .before .before .before .before .before .before .before .before .before .before .before .before .before .before .before .before .before .before .before .before .before .before .before .before .before .before .before .pre .1 .0 in let low = c .before .before .before .before .before .before .before .before .before .before .before .before .before .before .before .before .before .before .before .before .before .before .before .before .before .before .before .before .before .before .pre .1 .1 .2 in (readable-of S C (c .before .before .before .before .before .before .before .before .before .before .before .before .close-state .kept .1 .1 .1 .1 .1 .1 .1 .1 .1 .1 .1 .1 .0), (ready-of S C, (S .cells-room, ((few-items (S .few-rules) (S .few-strings), low, S .codes-room), (c .before .before .before .before .before .before .before .before .before .before .before .before .close-state .kept .1 .1 .1 .1 .1 .1 .1 .1 .1 .1 .1 .1 .1 .0, c .before .before .before .before .before .before .before .flag-moves .ensures .0)))))
+explain-cells-requires c κs =
+    let at-flag-moves = c .before .before .before .before .before .before .before in
+    let at-close-state = at-flag-moves .before .before .before .before .before in
+    let start = at-close-state .before .before .before .before .before .before .before .before .before .before .before .before .before .before .before
+    .before .before .before in
+    let S = start .pre .0 in
+    let C = start .pre .1 .0 in
+    let low = start .pre .1 .1 .2 in (
+      readable-of S C (at-close-state .close-state .kept .1 .1 .1 .1 .1 .1 .1 .1 .1 .1 .1 .1 .0),
+      (
+        ready-of S C,
+        (
+          S .cells-room,
+          (
+            (few-items (S .few-rules) (S .few-strings), low, S .codes-room),
+            (
+              at-close-state .close-state .kept .1 .1 .1 .1 .1 .1 .1 .1 .1 .1 .1 .1 .1 .0,
+              at-flag-moves .flag-moves .ensures .0,
+            ),
+          ),
+        ),
+      ),
+    )
 
 returns-4 : tie.Need-returns-4
 returns-4 c = search needs

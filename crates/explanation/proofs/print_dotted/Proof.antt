@@ -59,7 +59,15 @@ slice-aggregate-print-count-4 : tie.Need-slice-aggregate-print-count-4 Inv-loop 
 slice-aggregate-print-count-4 c = search needs
 
 symbol-of-requires : tie.Need-symbol-of-requires Inv-loop μ-loop
-symbol-of-requires c κs = (c .before .before .before .before .before .before .before .before .before .pre .0, (c .before .before .before .before .before .before .before .before .before .pre .1, omega (arith, c .before .before .before .before .loop-test .taken, c .before .before .before .before .before .before .length-of .ensures .1)))
+symbol-of-requires c κs =
+    let at-loop-test = c .before .before .before .before in
+    let start = at-loop-test .before .before .before .before .before in (
+      start .pre .0,
+      (
+        start .pre .1,
+        omega (arith, at-loop-test .loop-test .taken, at-loop-test .before .before .length-of .ensures .1),
+      ),
+    )
 
 print-count-requires-4 : tie.Need-print-count-requires-4 Inv-loop μ-loop
 print-count-requires-4 c κs = search needs

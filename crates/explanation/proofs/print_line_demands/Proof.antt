@@ -20,13 +20,27 @@ item-of-requires : tie.Need-item-of-requires Inv-loop μ-loop
 item-of-requires c κs = (c .before .before .before .before .before .before .before .before .before .pre .0, c .before .before .loop-test .taken)
 
 dot-of-requires : tie.Need-dot-of-requires Inv-loop μ-loop
-dot-of-requires c κs = (c .before .before .before .before .before .before .before .before .before .before .pre .0, c .before .before .before .loop-test .taken)
+dot-of-requires c κs =
+    let at-loop-test = c .before .before .before in
+    (at-loop-test .before .before .before .before .before .before .before .pre .0, at-loop-test .loop-test .taken)
 
 mul-print-demand : tie.Need-mul-print-demand Inv-loop μ-loop
 mul-print-demand c = search needs
 
 print-demand-requires : tie.Need-print-demand-requires Inv-loop μ-loop
-print-demand-requires c κs = let p = c .before .before .before .before .before .before .before .before .before .before .before .before .pre in let i = c .before .before .item-of .ensures .1 in (p .1 .0, (i, omega (arith, i, p .1 .1 .0), c .before .dot-of .ensures .1, omega (arith, c .before .before .before .before .before .loop-test .taken, p .1 .1 .1), p .1 .1 .2))
+print-demand-requires c κs =
+    let at-loop-test = c .before .before .before .before .before in
+    let p = at-loop-test .before .before .before .before .before .before .before .pre in
+    let i = c .before .before .item-of .ensures .1 in (
+      p .1 .0,
+      (
+        i,
+        omega (arith, i, p .1 .1 .0),
+        c .before .dot-of .ensures .1,
+        omega (arith, at-loop-test .loop-test .taken, p .1 .1 .1),
+        p .1 .1 .2,
+      ),
+    )
 
 add-l : tie.Need-add-l Inv-loop μ-loop
 add-l c = search needs

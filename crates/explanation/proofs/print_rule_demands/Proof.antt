@@ -14,19 +14,38 @@ loop-holds : tie.Need-loop-holds Inv-loop μ-loop
 loop-holds c = search needs
 
 is-present-requires : tie.Need-is-present-requires Inv-loop μ-loop
-is-present-requires c κs = let p = c .before .before .before .before .before .before .before .pre in (p .0 .shaped, (omega (arith, c .loop-test .taken, p .1 .0 .0), p .1 .1 .0))
+is-present-requires c κs =
+    let p = c .before .before .before .before .before .before .before .pre in
+    (p .0 .shaped, (omega (arith, c .loop-test .taken, p .1 .0 .0), p .1 .1 .0))
 
 left-of-requires : tie.Need-left-of-requires Inv-loop μ-loop
-left-of-requires c κs = let p = c .before .before .before .before .before .before .before .before .before .pre in (p .0 .shaped, omega (arith, c .before .before .loop-test .taken, p .1 .0 .0))
+left-of-requires c κs =
+    let p = c .before .before .before .before .before .before .before .before .before .pre in
+    (p .0 .shaped, omega (arith, c .before .before .loop-test .taken, p .1 .0 .0))
 
 sub-print-demand : tie.Need-sub-print-demand Inv-loop μ-loop
-sub-print-demand c = let n = c .before .before .before .is-present .ensures .yes (c .before .before .if1 .taken) .nonterminal in omega (arith, n, c .before .left-of .ensures .0)
+sub-print-demand c =
+    let n = c .before .before .before .is-present .ensures .yes (c .before .before .if1 .taken) .nonterminal in
+    omega (arith, n, c .before .left-of .ensures .0)
 
 mul-print-demand : tie.Need-mul-print-demand Inv-loop μ-loop
 mul-print-demand c = omega (arith, c .before .left-of .ensures .1)
 
 print-demand-requires : tie.Need-print-demand-requires Inv-loop μ-loop
-print-demand-requires c κs = let p = c .before .before .before .before .before .before .before .before .before .before .before .pre in let n = c .before .before .before .is-present .ensures .yes (c .before .before .if1 .taken) .nonterminal in (p .0, (omega (arith, c .before .before .before .before .loop-test .taken, p .1 .0 .0), omega (arith, c .before .before .before .before .loop-test .taken, p .1 .0 .0, p .1 .0 .1), omega arith, omega (arith, n, c .before .left-of .ensures .0, c .before .left-of .ensures .1, p .1 .1 .1), p .1 .0 .2))
+print-demand-requires c κs =
+    let at-if1 = c .before .before in
+    let at-loop-test = at-if1 .before .before in
+    let p = at-loop-test .before .before .before .before .before .before .before .pre in
+    let n = at-if1 .before .is-present .ensures .yes (at-if1 .if1 .taken) .nonterminal in (
+      p .0,
+      (
+        omega (arith, at-loop-test .loop-test .taken, p .1 .0 .0),
+        omega (arith, at-loop-test .loop-test .taken, p .1 .0 .0, p .1 .0 .1),
+        omega arith,
+        omega (arith, n, c .before .left-of .ensures .0, c .before .left-of .ensures .1, p .1 .1 .1),
+        p .1 .0 .2,
+      ),
+    )
 
 add-i : tie.Need-add-i Inv-loop μ-loop
 add-i c = search needs

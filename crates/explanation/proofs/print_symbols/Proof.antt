@@ -17,7 +17,9 @@ slice-aggregate-print-count : tie.Need-slice-aggregate-print-count Inv-loop μ-l
 slice-aggregate-print-count c = search needs
 
 symbol-of-requires : tie.Need-symbol-of-requires Inv-loop μ-loop
-symbol-of-requires c κs = (c .before .before .before .before .before .pre .0, (c .before .before .before .before .before .pre .1 .0, omega (arith, c .before .before .loop-test .taken, c .before .before .before .before .before .pre .1 .1)))
+symbol-of-requires c κs =
+    let start = c .before .before .before .before .before in
+    (start .pre .0, (start .pre .1 .0, omega (arith, c .before .before .loop-test .taken, start .pre .1 .1)))
 
 print-count-requires : tie.Need-print-count-requires Inv-loop μ-loop
 print-count-requires c κs = search needs
