@@ -1,12 +1,11 @@
 -- Counting: a list in which nothing stands twice is no longer, and weighs no more, than one that has all of it.
-use Prim.Native.Nat.{ℕ, suc, _+_, _≤_}
+use Prim.Native.Nat.{ℕ, _+_, _≤_}
 use native.Mathlib.Omega.{arith}
-use mathlib.Core.Path.{_≡_, refl, sym, ap, subst}
-use mathlib.Core.Logic.{_⊎_, inl, inr}
+use mathlib.Core.Path.{_≡_, refl, subst}
 use mathlib.Core.List.{List, [], _∷_, map}
 use lib.ListN.{length}
 use Rattle.language.specs.Sentence.{In, here, there}
-use Rattle.language.proofs.Member.{in-cons, in-map}
+use Rattle.language.proofs.Member.{in-map}
 use Rattle.lalr.proofs.Once.{Once}
 use Rattle.builder_promise.specs.Kernels.{sum}
 

@@ -1,5 +1,5 @@
 -- The builder's kernel sets, lists of numbers, as lists of items: what they hold and what moves from them is what `Kernels` says.
-use Prim.Native.Nat.{ℕ, zero, suc, _+_, _*_, _-_, _≤_, _<_}
+use Prim.Native.Nat.{ℕ, zero, suc, _+_, _*_, _-_, _≤_}
 use native.Mathlib.Omega.{arith}
 use mathlib.Core.Path.{_≡_, refl, sym, ap, ap₂, subst, _∙_}
 use mathlib.Core.Logic.{_⊎_, inl, inr}
@@ -10,12 +10,12 @@ use borrow.Author.Tests.{le-leb, lt-leb}
 use lib.Dec.{leb}
 use lib.ListN.{length, drop}
 use Rattle.language.specs.Grammar.{Grammar, Rule, ruleAt}
-use Rattle.language.specs.Sentence.{In, here, there}
+use Rattle.language.specs.Sentence.{In}
 use Rattle.language.specs.WellFormed as grammar
 use Rattle.language.proofs.Member.{in-map}
 use Rattle.language.proofs.GrammarLaws.{rule-range}
 use Rattle.leftcorner.specs.Table as table
-use Rattle.leftcorner.specs.Table.{EntryLine, E, entryAt, entryFrom, stringOf, rightOf, markOf, symbolsOf, recognitionPoint}
+use Rattle.leftcorner.specs.Table.{EntryLine, entryAt, entryFrom, stringOf, rightOf, markOf, symbolsOf, recognitionPoint}
 use Rattle.leftcorner.specs.Construction as construction
 use Rattle.leftcorner.specs.Construction.{entryItem, EntryAt, MovedBy}
 use Rattle.leftcorner.specs.Claim.{_↔_}

@@ -1,25 +1,23 @@
 -- The builder's states are the kernel sets that are reached: all of them within the limits, and enough of them past the limits to
 -- show that there are too many.
-use Prim.Native.Nat.{ℕ, zero, suc, _+_, _*_, _≤_, _<_}
+use Prim.Native.Nat.{ℕ, zero, suc, _+_, _*_, _≤_}
 use native.Mathlib.Omega.{arith}
 use native.Mathlib.Decide.{decLe}
 use mathlib.Core.Path.{_≡_, refl, sym, ap, subst, _∙_}
 use mathlib.Core.Logic.{_⊎_, inl, inr}
 use mathlib.Core.List.{List, [], _∷_, map}
-use mathlib.Core.Option.{some}
 use lib.ListN.{length, length-map}
 use Rattle.language.specs.Grammar.{Grammar}
 use Rattle.language.specs.Sentence.{In, here, there}
 use Rattle.language.specs.WellFormed as grammar
 use Rattle.language.proofs.Member.{in-cons, in-map}
 use Rattle.language.proofs.GrammarLaws.{at-below}
-use Rattle.leftcorner.specs.Construction.{Wanted, EntryAt, MovedBy}
-use Rattle.leftcorner.specs.Claim.{_↔_}
+use Rattle.leftcorner.specs.Construction.{EntryAt}
 use Rattle.verdict.proofs.Tests.{map-dec, both?}
 use Rattle.lalr_states.specs.Strings.{entryStrings}
 use Rattle.lalr_states.proofs.Distinct.{Distinct, in-at}
 use Rattle.lalr_states.proofs.EntryLaws.{strings-distinct, strings-wanted, wanted-string, entry-at, entry-line}
-use Rattle.lalr_states.specs.States.{Kernel, itemOf, dotOf, find, total, alone, move, states, kernelOf, goto}
+use Rattle.lalr_states.specs.States.{Kernel, itemOf, dotOf, find, total, move, states, kernelOf, goto}
 use Rattle.lalr_states.proofs.Discovery.{find-is, in-getD}
 use Rattle.lalr.proofs.Once.{Once}
 use Rattle.lalr_states.proofs.MoveLaws.{move-only, move-rising}
@@ -27,7 +25,7 @@ use Rattle.lalr_states.proofs.StateLaws as lalr
 use Rattle.lalr_states.specs.Lookaheads.{bare}
 use Rattle.lalr.proofs.BookLaws.{Within, limits}
 use Rattle.builder_promise.specs.Kernels as kernels
-use Rattle.builder_promise.specs.Kernels.{Dotted, dot, rule, entry, Same, sum, Moved, Reached, from-entry, from-move, States, TooMany, WithinLimits}
+use Rattle.builder_promise.specs.Kernels.{Dotted, dot, entry, Same, sum, Reached, from-entry, from-move, States, TooMany, WithinLimits}
 use Rattle.builder_promise.proofs.Counting.{no-longer, no-heavier, once-map}
 use Rattle.builder_promise.proofs.KernelLaws.{source, dotted, items, Known, source-entry, known-entry, Formed, items-once, items-apart, moved-known, moved-to, moved-from, moved-over, move-items}
 

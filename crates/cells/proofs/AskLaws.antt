@@ -11,7 +11,7 @@ use lib.Seq.{getD-set-same, getD-set-other}
 use borrow.Author.Count.{below-more}
 use Rattle.items.specs.Layout.{leftAt, lengthAt, markAt}
 use Rattle.fixpoint.specs.Flags.{On, Off}
-use Rattle.fixpoint.proofs.PassLaws.{all-off, off-at, no-gap}
+use Rattle.fixpoint.proofs.PassLaws.{all-off}
 use Rattle.memory.specs.Memory.{stateAt, itemAt, dotAt}
 use Rattle.analysis.specs.FirstBy.{first-low}
 use Rattle.analysis.specs.Adds.{Adds}

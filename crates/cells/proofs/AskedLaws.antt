@@ -1,27 +1,26 @@
 -- What the items of a state ask in memory is what the construction asks.
-use Prim.Native.Nat.{ℕ, zero, suc, _+_, _*_, _-_, _≤_, _<_}
+use Prim.Native.Nat.{ℕ, suc, _-_, _≤_, _<_}
 use mathlib.Core.Path.{_≡_, refl, sym, ap, subst, subst₂, _∙_}
 use mathlib.Core.Logic.{_⊎_, inl, inr}
 use mathlib.Core.Bool.{Bool, true, false, cond, _&&_}
-use mathlib.Core.List.{List, [], _∷_, _++_}
+use mathlib.Core.List.{List}
 use mathlib.Core.Option.{some}
-use native.Mathlib.Decide.{decLt}
 use native.Mathlib.Omega.{arith}
 use borrow.Author.Tests.{le-leb}
 use lib.Dec.{leb}
 use lib.ListN.{length, getD, drop, replicate}
 use lib.Seq.{drop-append-seam}
-use Rattle.language.specs.Grammar.{Grammar, Rule, ruleAt, right, concat, IsTerminal, IsNonterminal}
+use Rattle.language.specs.Grammar.{Grammar, Rule, ruleAt, concat, IsTerminal, IsNonterminal}
 use Rattle.language.proofs.GrammarLaws.{rule-range}
 use Rattle.language.specs.Sentence.{In, here}
 use Rattle.language.proofs.Member.{in-drop}
-use Rattle.leftcorner.specs.Table.{Table, Action, S, N, A, P, symbolsOf, stringOf, Goes}
+use Rattle.leftcorner.specs.Table.{Table, Action, S, A, P, symbolsOf, stringOf, Goes}
 use Rattle.leftcorner.specs.Construction.{entryItem, EntryAt, Has, MovedBy, moved, Carries, Asked, to-move, to-announce, to-pop, CellsAgree}
 use Rattle.leftcorner.proofs.Sources.{symbols-rule, symbols-entry, entry-high}
-use Rattle.items.specs.Layout.{leftAt, lengthAt, markAt}
+use Rattle.items.specs.Layout.{lengthAt, markAt}
 use Rattle.fixpoint.specs.Flags.{On, Decides}
-use Rattle.fixpoint.proofs.PassLaws.{set-on, none-on, is-yes, is-no}
-use Rattle.memory.specs.Memory.{stateAt, itemAt, dotAt, popValue}
+use Rattle.fixpoint.proofs.PassLaws.{none-on}
+use Rattle.memory.specs.Memory.{itemAt, dotAt, popValue}
 use Rattle.memory.specs.Held.{Held}
 use Rattle.analysis.specs.FirstBy.{FirstBy, first-low}
 use Rattle.analysis.specs.Rests.{restAt}
@@ -30,11 +29,11 @@ use Rattle.closure.specs.InMemory.{DeclaredItem}
 use Rattle.closure.proofs.ItemLaws.{item-held, line-at}
 use Rattle.moves.specs.Flags.{HoldsMoves}
 use Rattle.moves.proofs.RowLaws.{row-of}
-use Rattle.carried.specs.Rows.{FirstsAt, RowOf}
+use Rattle.carried.specs.Rows.{RowOf}
 use Rattle.carried.specs.Rows as rows
 use Rattle.carried.proofs.FirstLaws.{at-zero}
-use Rattle.carried.proofs.CarryLaws.{Carried, row-declared, code-low, row-carries, carries-row}
-use Rattle.cells.specs.Demands.{Demand, Clash, Asks, CodeAsks, ItemAsks, announces, pops, LinesAsk, RulesAsk, demandOf, HoldsAsked}
+use Rattle.carried.proofs.CarryLaws.{row-declared, code-low, row-carries, carries-row}
+use Rattle.cells.specs.Demands.{Demand, Asks, CodeAsks, ItemAsks, announces, pops, LinesAsk, RulesAsk, demandOf, HoldsAsked}
 
 -- a count that is right
 pub pop-value : (n : ℕ) → n ≤ 15 → popValue (suc n) ≡ n

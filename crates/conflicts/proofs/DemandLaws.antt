@@ -1,5 +1,5 @@
 -- How what is asked of one cell adds up.
-use Prim.Native.Nat.{ℕ, suc, _+_, _*_, _-_, _≤_, _<_}
+use Prim.Native.Nat.{ℕ, suc, _*_, _-_, _<_}
 use mathlib.Core.Path.{_≡_, refl, sym, subst, subst₂, _∙_}
 use mathlib.Core.Logic.{_⊎_, inl, inr}
 use mathlib.Core.Bool.{Bool, true, false}
@@ -19,7 +19,7 @@ use Rattle.analysis.specs.FirstBy.{FirstBy}
 use Rattle.closure.specs.Expansion.{HoldsClosure}
 use Rattle.moves.specs.Flags.{HoldsMoves}
 use Rattle.carried.proofs.FirstLaws.{at-zero}
-use Rattle.cells.specs.Demands.{Demand, Asks, CodeAsks, ItemAsks, announces, pops, LinesAsk, RuleAsks, RulesAsk}
+use Rattle.cells.specs.Demands.{Demand, Asks, CodeAsks, ItemAsks, announces, pops, RuleAsks}
 use Rattle.cells.proofs.AskLaws.{LineAsks}
 use Rattle.cells.proofs.AskedLaws.{state-asked, asked-state, agree-below}
 use Rattle.conflicts.specs.Conflicts.{Sole, Other, CellAsks, AskedAs}

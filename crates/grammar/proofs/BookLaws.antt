@@ -1,12 +1,11 @@
 -- The lines of a book, by its header and its rule lines.
 use Prim.Native.Nat.{ℕ, _<_, _≤_}
-use mathlib.Core.Path.{_≡_, refl, sym, ap, subst, _∙_}
-use mathlib.Core.List.{List, []}
+use mathlib.Core.Path.{_≡_, sym, ap, subst, _∙_}
+use mathlib.Core.List.{List}
 use native.Mathlib.Omega.{arith}
 use borrow.Author.Tests.{lt-ltb, le-ltb, eq-eqb, ne-eqb}
 use lib.ListN.{length}
-use Rattle.language.specs.Grammar.{Grammar, Rule}
-use Rattle.items.specs.Layout.{itemTable}
+use Rattle.language.specs.Grammar.{Rule}
 use Rattle.reply.specs.declared.Kind.the-variants as kind
 use Rattle.reply.specs.declared.Refusal.{Refusal}
 use Rattle.header.specs.declared.Heading.{Heading}
@@ -17,7 +16,7 @@ use Rattle.grammar.specs.declared.RuleLines.the-variants as lines
 use Rattle.grammar.specs.declared.GrammarReply.{GrammarReply}
 use Rattle.grammar.specs.declared.GrammarReply.the-variants as reply
 use Rattle.grammar.specs.Book.{Rules, listed, broken-off, rulesFrom, Book, accepted, rejected, rejectedAt, grammarWith, endOf, linesOf, bookOf}
-use Rattle.grammar.specs.Memory.{headingOf, replyOf, linesReply, ListedBy, Listed, LaidBy, Laid}
+use Rattle.grammar.specs.Memory.{replyOf, linesReply, ListedBy, Listed, Laid}
 use Rattle.grammar.proofs.FormLaws.{rules-count}
 
 -- the answer that a refusal gives, and memory that is to be cleared

@@ -1,6 +1,6 @@
 -- What the meaning of a grammar book says, in the terms of derivations and rules.
-use Prim.Native.Nat.{ℕ, _+_, _≤_, _<_}
-use mathlib.Core.Path.{_≡_, refl, sym, ap, subst, _∙_}
+use Prim.Native.Nat.{ℕ, _+_, _<_}
+use mathlib.Core.Path.{_≡_, refl, sym, subst}
 use mathlib.Core.Logic.{_⊎_, inl, inr}
 use mathlib.Core.List.{List}
 use native.Mathlib.Omega.{arith}
@@ -11,7 +11,6 @@ use Rattle.fixpoint.specs.declared.Found.{Found}
 use Rattle.fixpoint.specs.Lowest.{Lowest, lowest-one}
 use Rattle.reduction.specs.Reduced.{AllReachable, lowestUnproductive, lowestUnreachable, lowest-unproductive, lowest-unreachable, none-unproductive, none-unreachable, all-productive, all-reachable}
 use Rattle.reply.specs.declared.Kind.the-variants as kind
-use Rattle.reply.specs.declared.Refusal.{Refusal}
 use Rattle.grammar.specs.Book.{Book, accepted, rejected, rejectedAt, onFound, onAccepted, bookOf, reducedOf, grammarOf}
 use Rattle.grammar.proofs.FormLaws.{accepted-formed}
 use Rattle.grammar.proofs.ReducedLaws.{reduced-unproductive, reduced-unreachable, reduced-accepted}

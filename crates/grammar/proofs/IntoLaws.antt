@@ -15,8 +15,8 @@ use Rattle.reply.specs.declared.Refusal.{Refusal}
 use Rattle.header.specs.declared.Heading.{Heading}
 use Rattle.grammar.specs.declared.GrammarReply.{GrammarReply}
 use Rattle.grammar.specs.declared.GrammarReply.the-variants as reply
-use Rattle.grammar.specs.Book.{Book, accepted, rejected, rejectedAt, onFound, onAccepted, bookOf, reducedOf, grammarOf}
-use Rattle.grammar.specs.Memory.{headingOf, replyOf, within, readOf, memoryOf, LaidBy, Laid, Ready, Held}
+use Rattle.grammar.specs.Book.{Book, accepted, rejected, rejectedAt, onFound, bookOf, reducedOf, grammarOf}
+use Rattle.grammar.specs.Memory.{headingOf, replyOf, within, readOf, memoryOf, LaidBy, Laid, Ready}
 use Rattle.grammar.proofs.FormLaws.{accepted-formed}
 
 pub is-accepted : (b : Book) {h : Heading} → replyOf b ≡ reply.Read h → (g : Grammar) × (b ≡ accepted g) × (h ≡ headingOf g)

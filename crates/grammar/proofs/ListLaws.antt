@@ -3,7 +3,7 @@ use Prim.Native.Nat.{ℕ, zero, suc, _+_, _*_, _≤_, _<_}
 use mathlib.Core.Path.{_≡_, refl, sym, ap, subst, _∙_}
 use mathlib.Core.List.{List, [], _∷_, _++_, append-nil}
 use native.Mathlib.Omega.{arith}
-use lib.ListN.{length, getD, replicate, length-append}
+use lib.ListN.{length, replicate, length-append}
 use lib.Seq.{sets, append-snoc}
 use Rattle.language.specs.Grammar.{Rule}
 use Rattle.items.specs.Layout.{itemTable, rowOf}
@@ -14,10 +14,9 @@ use Rattle.rule.specs.declared.RuleLine.the-variants as line
 use Rattle.rule.specs.RuleLine.{Line, read, refused, ruleAt}
 use Rattle.rule.specs.Progress.{lineOf}
 use Rattle.rule.specs.Memory.{EmptyRow, StoredBy, Stored}
-use Rattle.grammar.specs.declared.RuleLines.{RuleLines}
 use Rattle.grammar.specs.declared.RuleLines.the-variants as lines
 use Rattle.grammar.specs.Book.{Rules, listed, broken-off, after, rulesFrom}
-use Rattle.grammar.specs.Memory.{linesReply, ListedBy, Listed}
+use Rattle.grammar.specs.Memory.{linesReply, Listed}
 
 -- ---- what an answer tells of the line
 pub is-read : (l : Line) {next : ℕ} → lineOf l ≡ line.Read next → (r : Rule) × (l ≡ read r next)

@@ -1,23 +1,18 @@
 -- Replies 5 and 6, and what they say of the grammar.
-use Prim.Native.Nat.{ℕ, suc, _+_, _*_, _≤_, _<_}
-use mathlib.Core.Path.{_≡_, refl, sym, ap, subst, _∙_}
+use Prim.Native.Nat.{ℕ, suc, _*_, _≤_, _<_}
+use mathlib.Core.Path.{_≡_, sym, ap, subst}
 use mathlib.Core.List.{List}
 use native.Mathlib.Omega.{arith}
 use lib.ListN.{length}
-use Rattle.language.specs.Grammar.{Grammar, IsNonterminal}
-use Rattle.language.specs.Sentence.{Productive, Reachable, AllProductive}
-use Rattle.items.specs.Layout.{layout, Holds, Shaped}
+use Rattle.language.specs.Grammar.{Grammar}
+use Rattle.items.specs.Layout.{Holds, Shaped}
 use Rattle.items.proofs.LayoutLaws.{layout-holds, layout-shaped}
 use Rattle.fixpoint.specs.declared.Found.{Found}
-use Rattle.fixpoint.specs.Lowest.{Lowest}
-use Rattle.reduction.specs.Reduced.{lowestUnproductive, lowestUnreachable, lowest-unproductive, lowest-unreachable, none-unproductive, none-unreachable, all-productive, all-reachable, AllReachable}
+use Rattle.reduction.specs.Reduced.{lowestUnproductive, lowestUnreachable}
 use Rattle.reply.specs.declared.Kind.the-variants as kind
-use Rattle.reply.specs.declared.Refusal.{Refusal}
 use Rattle.header.specs.declared.Heading.{Heading}
-use Rattle.grammar.specs.declared.GrammarReply.{GrammarReply}
-use Rattle.grammar.specs.declared.GrammarReply.the-variants as reply
-use Rattle.grammar.specs.Book.{Book, accepted, rejected, rejectedAt, onFound, reducedOf}
-use Rattle.grammar.specs.Memory.{headingOf, replyOf, Ready}
+use Rattle.grammar.specs.Book.{accepted, rejectedAt, reducedOf}
+use Rattle.grammar.specs.Memory.{Ready}
 
 module _ (g : Grammar) where
   pub reduced-unproductive : {X : ℕ} → lowestUnproductive g ≡ Found.At X → reducedOf g ≡ rejectedAt kind.Unproductive X

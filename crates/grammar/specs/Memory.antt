@@ -1,15 +1,14 @@
 -- What the reader of grammar books answers, and what it leaves in the slice that is lent for the item table.
-use Prim.Native.Nat.{ℕ, suc, _*_, _≤_}
+use Prim.Native.Nat.{ℕ, _≤_}
 use mathlib.Core.Path.{_≡_}
 use mathlib.Core.List.{List, []}
 use mathlib.Core.Bool.{cond}
 use lib.Dec.{ltb}
 use lib.ListN.{length, replicate}
-use Rattle.language.specs.Grammar.{Grammar, Rule}
+use Rattle.language.specs.Grammar.{Grammar}
 use Rattle.language.specs.WellFormed.{WellFormed}
-use Rattle.items.specs.Layout.{itemTable, layout, Holds, Shaped}
+use Rattle.items.specs.Layout.{itemTable, layout}
 use Rattle.reply.specs.declared.Kind.the-variants as kind
-use Rattle.reply.specs.declared.Refusal.{Refusal}
 use Rattle.reply.specs.declared.Reply.{Reply}
 use Rattle.reply.specs.declared.Reply.the-variants.{Accepted, Refused}
 use Rattle.header.specs.declared.Heading.{Heading}
@@ -17,7 +16,7 @@ use Rattle.grammar.specs.declared.RuleLines.{RuleLines}
 use Rattle.grammar.specs.declared.RuleLines.the-variants as lines
 use Rattle.grammar.specs.declared.GrammarReply.{GrammarReply}
 use Rattle.grammar.specs.declared.GrammarReply.the-variants as reply
-use Rattle.grammar.specs.Book.{Rules, listed, broken-off, Book, accepted, rejected, rejectedAt, onAccepted, grammarOf}
+use Rattle.grammar.specs.Book.{Rules, listed, broken-off, Book, accepted, rejected, rejectedAt, grammarOf}
 
 -- ---- the answer
 abbrev pub headingOf : Grammar → Heading

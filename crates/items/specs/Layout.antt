@@ -1,6 +1,6 @@
 -- The item table in memory: one flat slice of bytes, a row of 64 for each item, by item number. Row 0 is unused. Rules come
 -- first, then entry strings: "Item i up to r is rule i; item r+k is the string of entry line k."
-use Prim.Native.Nat.{ℕ, _+_, _*_, _-_, _≤_, _<_}
+use Prim.Native.Nat.{ℕ, _+_, _*_, _≤_, _<_}
 use mathlib.Core.Path.{_≡_}
 use mathlib.Core.List.{List, [], _∷_, _++_}
 use mathlib.Core.Option.{some}

@@ -1,5 +1,5 @@
 -- What the parts of the checker need of memory.
-use Prim.Native.Nat.{ℕ, zero, suc, _+_, _*_, _≤_, _<_}
+use Prim.Native.Nat.{ℕ, zero, suc, _+_, _≤_, _<_}
 use native.Mathlib.Omega.{arith}
 use native.Mathlib.Decide.{decLt}
 use mathlib.Core.Path.{_≡_, refl, subst}
@@ -8,10 +8,7 @@ use mathlib.Core.List.{List}
 use lib.ListN.{length}
 use Rattle.language.specs.Grammar.{Grammar}
 use Rattle.leftcorner.specs.Table.{Table}
-use Rattle.leftcorner.specs.Construction.{ItemsMeet, CellsAgree, CellsMeet}
-use Rattle.memory.specs.Held.{Held}
-use Rattle.fixpoint.specs.Flags.{On, Off, Decides}
-use Rattle.analysis.specs.FirstBy.{FirstBy}
+use Rattle.fixpoint.specs.Flags.{On, Off}
 use Rattle.closure.specs.InMemory.{InMemory}
 use Rattle.closure.proofs.UseLaws.{in-memory}
 use Rattle.moves.specs.Moves.{Readable, Lined}
@@ -20,7 +17,6 @@ use Rattle.conformance.specs.Items.{HeldAt}
 use Rattle.carried.specs.Rows.{Ready}
 use Rattle.inclusions.specs.Asks.{Sourced}
 use Rattle.reply.specs.declared.Kind.the-variants.{ItemMismatch, MissingLookahead, Conflict, CellMismatch}
-use Rattle.reply.specs.declared.Reply.{Reply}
 use Rattle.reply.specs.declared.Reply.the-variants.{Accepted}
 use Rattle.verdict.specs.Verdict.{refused}
 use Rattle.judge.specs.Faults.{Fault, noted, answerOf}

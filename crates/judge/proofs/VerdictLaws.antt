@@ -1,5 +1,5 @@
 -- The reply to the lowest faults is the verdict.
-use Prim.Native.Nat.{ℕ, zero, suc, _≤_, _<_}
+use Prim.Native.Nat.{ℕ, zero, suc, _<_}
 use native.Mathlib.Omega.{arith}
 use mathlib.Core.Path.{_≡_, refl, sym}
 use mathlib.Core.List.{List}
@@ -12,21 +12,15 @@ use Rattle.leftcorner.specs.Construction.{WellFormed, EntriesMeet, ItemsMeet, L
 use Rattle.leftcorner.specs.Claim.{_↔_}
 use Rattle.leftcorner.proofs.Swap.{flip, lookaheads-over, agree-over, cells-over}
 use Rattle.analysis.specs.ByRules.{FirstByRules}
-use Rattle.analysis.proofs.Decided.{first?}
 use Rattle.analysis.specs.InMemory.{SetsOf}
 use Rattle.analysis.specs.FirstBy.{FirstBy}
-use Rattle.reply.specs.declared.Reply.{Reply}
 use Rattle.reply.specs.declared.Kind.the-variants.{ItemMismatch}
-use Rattle.verdict.proofs.ItemsDecided.{items?}
-use Rattle.verdict.proofs.EntriesDecided.{entries?}
-use Rattle.verdict.proofs.LookaheadsDecided.{lookaheads?}
-use Rattle.verdict.proofs.CellsDecided.{agree?, cells?}
 use Rattle.verdict.specs.Verdict.{refused, verdict}
 use Rattle.verdict.proofs.VerdictLaws.{Outside, off-items, off-lookaheads, off-agree, off-cells, All, Fails, is-list, is-seven, is-eight, is-nine, is-ten, is-zero}
-use Rattle.judge.specs.Accepts.{codes, code-in, tableVerdict}
+use Rattle.judge.specs.Accepts.{tableVerdict}
 use Rattle.judge.specs.Faults.{Fault, answerOf, Found}
 use Rattle.analysis.proofs.FirstLaws.{first-flags}
-use Rattle.judge.proofs.FaultLaws.{fault-map, Flags}
+use Rattle.judge.proofs.FaultLaws.{fault-map}
 
 module _ (g : Grammar) (t : Table) (F : List ℕ → ℕ → ℕ → Type 0) (e? : Dec (EntriesMeet g t)) (i? : (q : ℕ) → Dec (ItemsMeet g t q))
     (l? : (q : ℕ) → Dec (LookaheadsMeet g t F q)) (a? : (q : ℕ) → Dec (CellsAgree g t F q)) (c? : (q : ℕ) → Dec (CellsMeet g t F q))

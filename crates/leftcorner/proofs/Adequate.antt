@@ -8,7 +8,7 @@ use lib.ListN.{length, drop}
 use Rattle.language.specs.Grammar.{Grammar, Rule, ruleAt, right, concat, IsTerminal}
 use Rattle.language.specs.Derivation.{Forest, IsForest}
 use Rattle.language.specs.First.{First}
-use Rattle.leftcorner.specs.Machine.{Cell, shift, announce, pop, empty, Automaton}
+use Rattle.leftcorner.specs.Machine.{shift, announce, pop, Automaton}
 
 -- what an item comes from: a rule or an entry, by number
 pub data Source : Type 0 where

@@ -1,11 +1,5 @@
 -- Demand 3 of the walk (specs/Demand3.antt), proved.
-use Prim.Native.Nat.{ℕ}
-use mathlib.Core.List.{List}
-use Rattle.language.specs.Grammar.{Grammar, IsTerminal}
-use Rattle.language.specs.Sentence.{In, Declared, AllProductive}
-use Rattle.leftcorner.specs.Table.{Table, automaton}
-use Rattle.leftcorner.specs.Construction.{Meets}
-use Rattle.leftcorner.specs.Claim.{Claim}
+use Rattle.leftcorner.specs.Table.{automaton}
 use Rattle.leftcorner.specs.Demand3.{Demand3}
 use Rattle.leftcorner.proofs.Bridge.{complete, exact}
 use Rattle.leftcorner.proofs.Bounded.{enough, short}

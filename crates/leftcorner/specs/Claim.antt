@@ -10,7 +10,7 @@ use Rattle.language.specs.Derivation.{Tree, yield, IsTree}
 use Rattle.language.specs.Listing.{listing, units, unitsIn}
 use Rattle.language.specs.Sentence.{Sentence, BeginsSentence}
 use Rattle.language.specs.First.{next}
-use Rattle.leftcorner.specs.Machine.{Automaton, announce, pop, Event, Outcome, on, rulesOf, toCome, taken, step, start, Ending, accepted, failed, Walk, Verdict, whole-at, wrong-at, short-at, walk}
+use Rattle.leftcorner.specs.Machine.{Automaton, announce, pop, Event, on, rulesOf, toCome, taken, step, start, Ending, accepted, failed, Walk, Verdict, whole-at, wrong-at, short-at, walk}
 
 -- one holds exactly when the other does
 infix 20 _↔_

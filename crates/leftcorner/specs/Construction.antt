@@ -3,12 +3,12 @@ use Prim.Native.Nat.{ℕ, zero, suc, _+_, _≤_}
 use mathlib.Core.Path.{_≡_}
 use mathlib.Core.Logic.{_⊎_}
 use mathlib.Core.List.{List, [], _∷_, _++_}
-use mathlib.Core.Option.{Option, some, none}
+use mathlib.Core.Option.{some}
 use lib.ListN.{length}
 use Rattle.language.specs.Grammar.{Grammar, Rule, ruleAt, concat, IsTerminal, IsNonterminal}
 use Rattle.language.specs.Sentence.{In}
 use Rattle.language.specs.First.{First}
-use Rattle.leftcorner.specs.Table.{EntryLine, E, KernelLine, K, Action, S, N, A, P, ActionLine, L, Table, entryAt, nextState, ruleCount, Goes}
+use Rattle.leftcorner.specs.Table.{E, K, Action, S, N, A, P, L, Table, entryAt, nextState, ruleCount, Goes}
 
 -- the strings that have an entry: "the goal alone, then every other distinct group once"
 pub data Wanted (g : Grammar) (γ : List ℕ) : Type 0 where

@@ -1,5 +1,5 @@
 -- Reply 8 by the state that an inclusion comes from: document 01 asks them of the state whose lookaheads are too few ("narrow").
-use Prim.Native.Nat.{ℕ, zero, suc, _≤_, _<_, _+_}
+use Prim.Native.Nat.{ℕ, zero, suc, _≤_, _<_}
 use mathlib.Core.Path.{_≡_}
 use native.Mathlib.Omega.{arith}
 use mathlib.Core.List.{List, _∷_, _++_}

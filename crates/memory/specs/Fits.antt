@@ -1,5 +1,5 @@
 -- A table within the limits of a table book, with every field declared and of its kind. Document 01, 'Books'.
-use Prim.Native.Nat.{ℕ, zero, suc, _≤_}
+use Prim.Native.Nat.{ℕ, _≤_}
 use mathlib.Core.Path.{_≡_}
 use mathlib.Core.Logic.{_⊎_}
 use mathlib.Core.List.{List}
@@ -7,7 +7,7 @@ use mathlib.Core.Option.{some}
 use lib.ListN.{length}
 use Rattle.language.specs.Grammar.{Grammar, Rule, ruleAt, IsTerminal, IsNonterminal}
 use Rattle.language.specs.Sentence.{In}
-use Rattle.leftcorner.specs.Table.{Table, Action, S, N, A, P, symbolsOf, nextState}
+use Rattle.leftcorner.specs.Table.{Table, Action, A, P, symbolsOf, nextState}
 use Rattle.leftcorner.specs.Construction.{EntryAt, KernelAt, ActionAt, WellFormed}
 
 pub record Fits (g : Grammar) (t : Table) : Type 0 where

@@ -1,14 +1,14 @@
 -- What the slices that hold a grammar and its table say, cell by cell.
-use Prim.Native.Nat.{ℕ, zero, suc, _+_, _*_, _-_, _≤_, _<_}
+use Prim.Native.Nat.{ℕ, _+_, _*_, _-_, _<_}
 use mathlib.Core.Path.{_≡_}
 use mathlib.Core.Bool.{cond, _&&_}
-use mathlib.Core.List.{List, [], _∷_}
+use mathlib.Core.List.{List}
 use mathlib.Core.Option.{Option, some, none}
 use lib.Dec.{leb}
-use lib.ListN.{length, getD}
+use lib.ListN.{getD}
 use Rattle.language.specs.Grammar.{Grammar, Rule, ruleAt, at}
 use Rattle.language.specs.Sentence.{In}
-use Rattle.leftcorner.specs.Table.{EntryLine, E, KernelLine, K, Action, S, N, A, P, Table, entryAt, actionFor, gotoState}
+use Rattle.leftcorner.specs.Table.{E, K, Action, S, N, A, P, Table, entryAt, actionFor, gotoState}
 use Rattle.leftcorner.specs.Construction.{entryItem}
 use Rattle.items.specs.Layout.{RuleIn, EntryIn}
 use Rattle.fixpoint.specs.Flags.{On}

@@ -11,7 +11,7 @@ use Rattle.text.specs.declared.Field.{Field}
 use Rattle.text.specs.declared.Field.the-variants as field
 use Rattle.text.specs.Field.{fieldAt}
 use Rattle.text.proofs.OnwardLaws.{onward}
-use Rattle.rule.specs.Parts.{symbol, markOf, Rest, parts, broken, after, onPart, partsFrom, partsAt}
+use Rattle.rule.specs.Parts.{symbol, markOf, parts, broken, after, onPart, partsFrom, partsAt}
 
 module _ (s : List ℕ) where
   -- two budgets that reach past the book's end from c on

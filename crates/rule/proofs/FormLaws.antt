@@ -1,14 +1,13 @@
 -- What a rule that was read keeps to: declared symbols, at most 15 of them, and no empty group.
-use Prim.Native.Nat.{ℕ, _+_, _≤_}
-use mathlib.Core.Path.{_≡_, refl, sym, ap, subst, _∙_}
-use mathlib.Core.Logic.{_⊎_}
+use Prim.Native.Nat.{ℕ, _≤_}
+use mathlib.Core.Path.{_≡_, sym, subst}
 use mathlib.Core.List.{List, [], _∷_, _++_}
-use mathlib.Core.Bool.{Bool, true, false, cond, not}
+use mathlib.Core.Bool.{Bool, false}
 use native.Mathlib.Omega.{arith}
 use borrow.Author.Tests.{not-false}
 use lib.Dec.{eqb}
 use lib.ListN.{length}
-use Rattle.language.specs.Grammar.{Grammar, Rule, right, concat, IsTerminal, IsNonterminal}
+use Rattle.language.specs.Grammar.{Grammar, Rule, concat}
 use Rattle.language.specs.Sentence.{In, here, there}
 use Rattle.language.specs.WellFormed.{RuleFormed}
 use Rattle.range.proofs.TestLaws.{all-cond}
@@ -20,7 +19,6 @@ use Rattle.text.proofs.ElseLaws.{all-number, all-letter}
 use Rattle.rule.specs.Parts.{Part, Rest, parts, broken, symbol, caret, cut, partsAt, symbolsOf}
 use Rattle.rule.specs.Marks.{Shape, before, at-caret, in-group, at-cut, misplaced, withPart, shapeFrom, shapeOf, onMarked}
 use Rattle.rule.specs.RuleLine.{Line, read, refused, refusedAt, any, undeclared, overLimits, someUndeclared, ruleOf, isRule, ruleAt}
-use Rattle.rule.specs.Memory.{beforeSeen, groupsSeen}
 use Rattle.rule.proofs.SeenLaws.{Seen, seen}
 use Rattle.rule.proofs.KeepLaws.{either-false}
 use Rattle.rule.proofs.LineLaws.{few, left-declared, all-declared}

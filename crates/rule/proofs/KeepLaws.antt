@@ -1,18 +1,17 @@
 -- How a rule's row fills with each part of the right side.
 use Prim.Native.Nat.{ℕ, _+_, _%_, _≤_, _<_}
 use mathlib.Core.Path.{_≡_, refl, sym, ap, subst, _∙_}
-use mathlib.Core.Logic.{_⊎_, ⊎-elim}
+use mathlib.Core.Logic.{⊎-elim}
 use mathlib.Core.List.{List, [], _∷_, _++_, append-nil, append-assoc}
-use mathlib.Core.Bool.{Bool, true, false, cond, not, _||_}
+use mathlib.Core.Bool.{Bool, true, false, cond, _||_}
 use native.Mathlib.Omega.{arith}
 use borrow.Author.Tests.{lt-ltb, not-false}
 use lib.Dec.{eqb}
 use lib.ListN.{length, set, replicate, length-append}
-use lib.Seq.{sets}
 use Rattle.language.specs.Grammar.{Grammar}
 use Rattle.symbol.specs.Symbol.{isDeclared}
 use Rattle.symbol.proofs.KindLaws.{is-declared}
-use Rattle.items.specs.Layout.{body, groupStarts}
+use Rattle.items.specs.Layout.{groupStarts}
 use Rattle.items.proofs.BuildLaws.{building, build-start, build-symbol, build-start-flag, build-inside}
 use Rattle.items.proofs.GrowLaws.{before-starts, group-starts, last-starts, rule-starts-length}
 use Rattle.rule.specs.declared.Progress.{Progress}

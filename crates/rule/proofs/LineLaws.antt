@@ -8,9 +8,9 @@ use borrow.Author.Tests.{ltb-false, not-false}
 use types.Run.{OneOf}
 use denote.Enum.Declared.{tagOf}
 use lib.Dec.{ltb, eqb}
-use lib.ListN.{length, set, replicate, length-append}
+use lib.ListN.{length, replicate, length-append}
 use lib.Seq.{sets}
-use Rattle.language.specs.Grammar.{Rule, concat}
+use Rattle.language.specs.Grammar.{concat}
 use Rattle.language.specs.Listing.{unitOf}
 use Rattle.range.proofs.RangeLaws.{within-true}
 use Rattle.symbol.specs.Symbol.{isNonterminal}
@@ -29,11 +29,11 @@ use Rattle.rule.specs.declared.Parts.{Parts}
 use Rattle.rule.specs.declared.Parts.the-variants as out
 use Rattle.rule.specs.declared.RuleLine.{RuleLine}
 use Rattle.rule.specs.declared.RuleLine.the-variants as line
-use Rattle.rule.specs.Parts.{Part, Rest, parts, broken, partsAt, symbolsOf}
+use Rattle.rule.specs.Parts.{Rest, parts, broken, partsAt, symbolsOf}
 use Rattle.rule.specs.Marks.{Shape, before, at-caret, in-group, at-cut, misplaced, shapeOf, onMarked}
 use Rattle.rule.specs.RuleLine.{Line, read, refused, refusedAt, any, large, undeclared, overLimits, someUndeclared, ruleOf, isRule, ruleAt}
-use Rattle.rule.specs.Progress.{Tracks, Pointed, Answers, stageOf, placed, judged, refusedLine, lineOf}
-use Rattle.rule.specs.Memory.{withFigures, beforeSeen, groupsSeen, startsSeen, Placed, Kept, Filled, StoredBy, Stored}
+use Rattle.rule.specs.Progress.{Pointed, Answers, stageOf, placed, judged, refusedLine, lineOf}
+use Rattle.rule.specs.Memory.{withFigures, startsSeen, Placed, Filled, StoredBy, Stored}
 use Rattle.rule.proofs.SeenLaws.{Seen, seen}
 use Rattle.rule.proofs.KeepLaws.{either-false}
 

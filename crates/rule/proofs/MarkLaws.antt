@@ -1,12 +1,10 @@
 -- The rule for marks, both ways: a right side is taken with these groups exactly when it is written so, each group with a symbol.
 use Prim.Native.Nat.{ℕ}
-use mathlib.Core.Path.{_≡_, refl, sym, ap, subst, _∙_}
-use mathlib.Core.List.{List, [], _∷_, _++_, append-nil, append-assoc}
-use mathlib.Core.Option.{Option, some, none}
-use native.Mathlib.Omega.{arith}
+use mathlib.Core.Path.{_≡_, refl, sym, ap, _∙_}
+use mathlib.Core.List.{List, [], _∷_, _++_, append-nil}
 use lib.Seq.{append-snoc}
 use Rattle.rule.specs.Parts.{Part, symbol, caret, cut}
-use Rattle.rule.specs.Marks.{Shape, before, at-caret, in-group, at-cut, misplaced, withPart, shapeFrom, shapeOf, onMarked}
+use Rattle.rule.specs.Marks.{Shape, before, at-caret, in-group, withPart, shapeFrom, shapeOf, onMarked}
 
 -- ---- how marks are written: the symbols left of `^`, `^`, then the groups with a cut between two of them
 abbrev pub symbols : List ℕ → List Part

@@ -3,7 +3,7 @@ use Prim.Native.Nat.{ℕ, zero, suc, _+_, _≤_, _<_}
 use mathlib.Core.Path.{_≡_, refl, sym, ap, subst, _∙_}
 use mathlib.Core.Logic.{⊎-elim}
 use mathlib.Core.List.{List, [], _∷_, _++_, append-nil}
-use mathlib.Core.Bool.{true, false, cond}
+use mathlib.Core.Bool.{true, false}
 use native.Mathlib.Omega.{arith}
 use types.Run.{OneOf}
 use denote.Enum.Declared.{tagOf}
@@ -16,7 +16,6 @@ use Rattle.text.specs.Field.{fieldAt}
 use Rattle.text.proofs.Field.{the-type}
 use Rattle.text.proofs.OnwardLaws.{Between, onward}
 use Rattle.rule.specs.declared.Progress.{Progress}
-use Rattle.rule.specs.declared.Parts.{Parts}
 use Rattle.rule.specs.declared.Parts.the-variants as out
 use Rattle.rule.specs.Parts.{Part, symbol, markOf, Rest, parts, broken, after, partsFrom, partsAt, symbolsOf}
 use Rattle.rule.specs.Marks.{before}

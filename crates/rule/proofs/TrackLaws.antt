@@ -1,5 +1,5 @@
 -- How the progress of a right side goes on with each part.
-use Prim.Native.Nat.{ℕ, _+_}
+use Prim.Native.Nat.{ℕ}
 use mathlib.Core.Path.{_≡_, refl, sym, ap, subst, _∙_}
 use mathlib.Core.List.{List, [], _∷_, _++_, append-nil}
 use mathlib.Core.Bool.{Bool, true, false, cond, _||_}
@@ -9,7 +9,7 @@ use lib.ListN.{length, length-append}
 use Rattle.rule.specs.declared.Stage.{Stage}
 use Rattle.rule.specs.declared.Progress.{Progress}
 use Rattle.rule.specs.Parts.{Part, symbol, caret, cut, markOf, symbolsOf}
-use Rattle.rule.specs.Marks.{Shape, before, at-caret, in-group, at-cut, misplaced, withPart, shapeFrom, shapeOf}
+use Rattle.rule.specs.Marks.{Shape, before, at-caret, in-group, at-cut, misplaced, withPart, shapeOf}
 use Rattle.rule.specs.RuleLine.{any, large, undeclared}
 use Rattle.rule.specs.Progress.{Tracks, Pointed, stageOf, afterSymbol, afterCaret, afterCut, afterMark, pointAt, addSymbol, addMark}
 use Rattle.rule.proofs.SeenLaws.{Seen, seen, symbols-symbol, symbols-mark, shape-more}

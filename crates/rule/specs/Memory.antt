@@ -9,7 +9,6 @@ use lib.Seq.{sets}
 use Rattle.items.specs.Layout.{body, groupStarts, rowOf}
 use Rattle.rule.specs.declared.Stage.{Stage}
 use Rattle.rule.specs.declared.Stage.the-variants as stage
-use Rattle.rule.specs.declared.Progress.{Progress}
 use Rattle.rule.specs.Parts.{Part, Rest, parts, broken, symbolsOf}
 use Rattle.rule.specs.Marks.{Shape, before, at-caret, in-group, at-cut, misplaced, shapeOf}
 use Rattle.rule.specs.RuleLine.{Line, read, refused, any, undeclared}

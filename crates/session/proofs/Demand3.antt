@@ -1,14 +1,13 @@
 -- Demand 3 of the call, proved: the claim about the walk, told of a session.
-use Prim.Native.Nat.{ℕ, _-_, _≤_}
+use Prim.Native.Nat.{ℕ, _-_}
 use native.Mathlib.Omega.{arith}
 use mathlib.Core.Path.{_≡_, refl, sym, ap, ap₂, _∙_}
 use mathlib.Core.Logic.{inl, inr}
 use mathlib.Core.List.{List, _++_}
 use lib.ListN.{length, replicate}
-use Rattle.language.specs.Grammar.{Grammar, IsTerminal}
+use Rattle.language.specs.Grammar.{Grammar}
 use Rattle.language.specs.Derivation.{Tree, yield, IsTree}
 use Rattle.language.specs.Listing.{listing, units}
-use Rattle.language.specs.Sentence.{In}
 use Rattle.language.specs.WellFormed.{declared-of}
 use Rattle.leftcorner.specs.Machine.{Ending, accepted, failed, walk}
 use Rattle.leftcorner.specs.Table.{Table, automaton}
@@ -16,8 +15,6 @@ use Rattle.leftcorner.specs.Claim.{WrongAt, Claim, comesBack}
 use Rattle.leftcorner.proofs.Demand3 as machine
 use Rattle.reply.specs.Reply.{numberOf}
 use Rattle.reply.specs.declared.Kind.the-variants.{SyntaxError}
-use Rattle.reply.specs.declared.Reply.the-variants as reply
-use Rattle.checker.specs.Checked.{verdictOf, Accepts}
 use Rattle.checker.proofs.Exactly.{accepts, accepted-sound, exactly}
 use Rattle.walker.specs.declared.Walked.the-variants.{Accepted}
 use Rattle.walker.specs.Walked.{asReply, padded}

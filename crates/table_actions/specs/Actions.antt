@@ -2,7 +2,7 @@
 -- announce; `P,state,terminal,count` pop. In A and P the terminal may be 0. [..] A second line for [..] the same state and symbol
 -- is torn."
 use Prim.Native.Nat.{ℕ}
-use mathlib.Core.List.{List, [], _∷_}
+use mathlib.Core.List.{List, []}
 use mathlib.Core.Bool.{Bool, true, false, cond, _&&_, _||_}
 use mathlib.Core.Option.{Option, some, none}
 use lib.Dec.{leb, eqb}

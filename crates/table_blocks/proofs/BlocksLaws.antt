@@ -1,6 +1,6 @@
 -- Memory between the blocks, by the heading that the code has.
-use Prim.Native.Nat.{ℕ, zero, suc, _+_, _*_, _≤_, _<_}
-use mathlib.Core.Path.{_≡_, refl, sym, ap, subst, _∙_}
+use Prim.Native.Nat.{ℕ, _+_, _≤_}
+use mathlib.Core.Path.{_≡_, sym, ap, subst}
 use mathlib.Core.List.{List, []}
 use mathlib.Core.Bool.{Bool}
 use native.Mathlib.Omega.{arith}
@@ -9,7 +9,7 @@ use Rattle.language.specs.Grammar.{Grammar}
 use Rattle.header.specs.declared.Heading.{Heading}
 use Rattle.grammar.specs.Memory.{headingOf}
 use Rattle.leftcorner.specs.Table.{EntryLine, KernelLine, ActionLine}
-use Rattle.items.specs.Layout.{lengthAt, layout}
+use Rattle.items.specs.Layout.{lengthAt}
 use Rattle.table_entries.specs.Memory.{EntryMemory}
 use Rattle.table_kernels.specs.Kernels.{kernelsFrom}
 use Rattle.table_actions.specs.Memory.{ActionMemory}

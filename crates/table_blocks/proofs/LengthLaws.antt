@@ -1,9 +1,9 @@
 -- The lengths of the items' strings, as memory has them and as the grammar and the entries give them.
-use Prim.Native.Nat.{ℕ, zero, suc, _+_, _-_, _*_, _≤_, _<_}
-use mathlib.Core.Path.{_≡_, refl, sym, ap, subst, _∙_}
+use Prim.Native.Nat.{ℕ, zero, suc, _+_, _-_, _*_, _≤_}
+use mathlib.Core.Path.{_≡_, refl, sym, ap, _∙_}
 use mathlib.Core.List.{List, [], _∷_, _++_}
 use mathlib.Core.Bool.{Bool, true, false, cond, not, _&&_}
-use mathlib.Core.Option.{Option, some, none}
+use mathlib.Core.Option.{Option, some}
 use native.Mathlib.Decide.{decLe}
 use native.Mathlib.Omega.{arith}
 use borrow.Author.Tests.{le-leb, lt-leb}
@@ -19,7 +19,7 @@ use Rattle.items.specs.Layout.{layout, lengthAt, entryRows}
 use Rattle.items.proofs.LayoutLaws.{layout-holds}
 use Rattle.table_lines.specs.declared.Judgement.{Judgement}
 use Rattle.table_lines.specs.Line.{TextLine, whole, broken, lineAt, onLine, allAtMost, rising}
-use Rattle.table_lines.specs.Block.{Outcome, takes, stops, refuses, judge, judged, onOutcome, Lines, read, refused, linesFrom}
+use Rattle.table_lines.specs.Block.{Outcome, takes, stops, refuses, judge, judged, onOutcome, read, refused, linesFrom}
 use Rattle.table_entries.specs.Memory.{stringsOf, withEntries, EntryMemory}
 use Rattle.table_entries.proofs.MemoryLaws.{length-kept}
 use Rattle.table_kernels.specs.Kernels.{hasTriple, judgeKernel, noKernel, kernelNext, kernelsFrom}

@@ -8,7 +8,6 @@ use lib.ListN.{length, getD, drop}
 use Rattle.range.specs.Range.{within}
 use Rattle.reply.specs.declared.Kind.the-variants as kind
 use Rattle.leftcorner.specs.Table.{EntryLine, entryFrom}
-use Rattle.table_lines.specs.declared.Judgement.{Judgement}
 use Rattle.table_lines.specs.declared.Judgement.the-variants.{Fine, Faulty}
 use Rattle.table_lines.specs.Line.{allAtMost}
 use Rattle.table_entries.specs.Entries.{allDeclared, judgeEntry}

@@ -1,10 +1,10 @@
 -- One more entry line in memory.
 use Prim.Native.Nat.{ℕ, zero, suc, _+_, _*_, _≤_, _<_}
-use mathlib.Core.Path.{_≡_, refl, sym, ap, subst, _∙_}
+use mathlib.Core.Path.{_≡_, refl, sym, ap, _∙_}
 use mathlib.Core.List.{List, [], _∷_, _++_, append-nil, append-assoc}
 use mathlib.Core.Bool.{Bool, true, false, _||_}
-use mathlib.Core.Option.{Option, some, none}
-use native.Mathlib.Decide.{ℕ-discrete, decLt, decLe}
+use mathlib.Core.Option.{some, none}
+use native.Mathlib.Decide.{decLt, decLe}
 use native.Mathlib.Omega.{arith}
 use borrow.Author.Tests.{eq-eqb, ne-eqb}
 use lib.Dec.{eqb}
@@ -12,14 +12,14 @@ use lib.ListN.{length, getD, set, length-append}
 use lib.Seq.{sets, length-sets}
 use Rattle.language.specs.Grammar.{at, concat}
 use Rattle.leftcorner.specs.Table.{EntryLine, E}
-use Rattle.items.specs.Layout.{row, entryRow, entryRows, RowIs, EntryIn, Shaped, lengthAt, leftAt, symbolAt}
+use Rattle.items.specs.Layout.{entryRow, entryRows, RowIs, EntryIn, Shaped, lengthAt, leftAt, symbolAt}
 use Rattle.items.proofs.StoreLaws.{sets-join, read-below, read-above, read-inside}
 use Rattle.items.proofs.BuildLaws.{row-length}
 use Rattle.items.proofs.LayoutLaws.{row-is, Fits}
-use Rattle.table_lines.specs.Image.{image, flag}
+use Rattle.table_lines.specs.Image.{flag}
 use Rattle.table_lines.proofs.ImageLaws.{image-set}
 use Rattle.table_lines.proofs.ListLaws.{at-last, at-front, at-behind}
-use Rattle.table_entries.specs.Memory.{stringsOf, stateAt, isEntryState, withEntries, Rows, Empty, EntryMemory}
+use Rattle.table_entries.specs.Memory.{stringsOf, stateAt, isEntryState, withEntries, EntryMemory}
 
 -- ---- the rows of the entries, one after the other
 entries-snoc : (l : List EntryLine) (s : ℕ) (γ : List ℕ)

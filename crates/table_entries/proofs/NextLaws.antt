@@ -1,8 +1,7 @@
 -- What comes of an entry line, by how it is read and judged; and what a line that is taken tells.
 use Prim.Native.Nat.{ℕ, zero, suc, _+_, _≤_, _<_}
-use mathlib.Core.Path.{_≡_, refl, sym, ap, _∙_}
+use mathlib.Core.Path.{_≡_, refl, ap, _∙_}
 use mathlib.Core.List.{List, [], _∷_}
-use mathlib.Core.Logic.{_⊎_, inl, inr, ⊎-elim}
 use mathlib.Core.Bool.{Bool, true, false, _&&_, _||_}
 use native.Mathlib.Numerals.{add-one}
 use native.Mathlib.Omega.{arith}
@@ -17,8 +16,8 @@ use Rattle.symbol.specs.Symbol.{isTerminal, isNonterminal, isDeclared}
 use Rattle.leftcorner.specs.Table.{EntryLine, E, entryFrom}
 use Rattle.items.proofs.LayoutLaws.{Fits}
 use Rattle.table_lines.specs.declared.Judgement.the-variants.{Fine, Faulty}
-use Rattle.table_lines.specs.Line.{TextLine, whole, broken, lineAt, allAtMost, capped}
-use Rattle.table_lines.specs.Block.{Outcome, takes, fault}
+use Rattle.table_lines.specs.Line.{whole, broken, lineAt, allAtMost, capped}
+use Rattle.table_lines.specs.Block.{takes, fault}
 use Rattle.table_lines.proofs.BlockLaws.{judge-fine}
 use Rattle.table_lines.proofs.ListLaws.{both-true}
 use Rattle.table_entries.specs.Entries.{allDeclared, judgeEntry, entryNext}

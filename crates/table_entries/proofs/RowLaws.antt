@@ -2,13 +2,13 @@
 use Prim.Native.Nat.{ℕ, zero, suc, _+_, _≤_, _<_}
 use mathlib.Core.Path.{_≡_, refl, sym, ap, _∙_}
 use mathlib.Core.List.{List, [], _∷_, _++_}
-use mathlib.Core.Bool.{Bool, true, false, _&&_}
+use mathlib.Core.Bool.{true, false}
 use native.Mathlib.Numerals.{add-one}
 use native.Mathlib.Omega.{arith}
 use lib.ListN.{length, getD, take, drop, set, length-take, length-drop, drop-of-length-le}
-use lib.Seq.{sets, take-suc, getD-drop, getD-take}
+use lib.Seq.{sets, take-suc, getD-take}
 use Rattle.items.specs.Layout.{entryRow, row}
-use Rattle.items.proofs.BuildLaws.{building, build-start, build-symbol, build-end}
+use Rattle.items.proofs.BuildLaws.{building, build-symbol, build-end}
 use Rattle.symbol.specs.Symbol.{isDeclared}
 use Rattle.text.proofs.Bytes.{here}
 use Rattle.table_entries.specs.Entries.{allDeclared}

@@ -2,10 +2,10 @@
 use Prim.Native.Nat.{ℕ, zero, suc, _+_, _-_, _≤_, _<_}
 use mathlib.Core.Path.{_≡_, refl, sym, ap, _∙_}
 use mathlib.Core.List.{List, [], _∷_}
-use mathlib.Core.Bool.{Bool, true, false, not, cond, _&&_}
+use mathlib.Core.Bool.{Bool, true, false, not, _&&_}
 use native.Mathlib.Omega.{arith}
 use borrow.Author.Tests.{leb-true, ltb-true, eq-eqb, ne-eqb, not-true}
-use lib.Dec.{leb, ltb, eqb}
+use lib.Dec.{leb, ltb}
 use lib.ListN.{length, getD, drop, length-drop}
 use lib.Seq.{getD-drop}
 use Rattle.range.specs.Range.{within}
@@ -16,9 +16,9 @@ use Rattle.leftcorner.specs.Table.{KernelLine, K}
 use Rattle.table_lines.specs.declared.Judgement.the-variants.{Fine, Faulty}
 use Rattle.table_lines.specs.declared.Step.{Step}
 use Rattle.table_lines.specs.declared.Step.the-variants as step
-use Rattle.table_lines.specs.Line.{TextLine, whole, broken, lineAt, allAtMost, rising, capped}
+use Rattle.table_lines.specs.Line.{whole, broken, lineAt, allAtMost, rising, capped}
 use Rattle.table_lines.specs.declared.Block.{Block}
-use Rattle.table_lines.specs.Block.{Outcome, takes, stops, refuses, fault, stepOf, Comes, stopped, turned, Lines, Reads, all-read, turned-away}
+use Rattle.table_lines.specs.Block.{takes, fault, stepOf, Comes, stopped, turned, Lines, Reads, all-read, turned-away}
 use Rattle.table_lines.proofs.BlockLaws.{judge-fine}
 use Rattle.table_lines.proofs.ListLaws.{both-true}
 use Rattle.table_lines.proofs.TallyLaws.{rising-short}

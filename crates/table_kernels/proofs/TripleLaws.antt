@@ -1,14 +1,14 @@
 -- Triples of state, item and dot, and their marks.
-use Prim.Native.Nat.{ℕ, zero, suc, _+_, _*_, _/_, _%_, _≤_, _<_}
+use Prim.Native.Nat.{ℕ, _+_, _*_, _/_, _%_, _≤_}
 use mathlib.Core.Path.{_≡_, refl, sym, ap, _∙_}
 use mathlib.Core.List.{List, [], _∷_, _++_}
 use mathlib.Core.Bool.{Bool, true, false, _&&_, _||_}
 use native.Mathlib.Omega.{arith}
-use borrow.Author.Tests.{eq-eqb, ne-eqb, eqb-true}
+use borrow.Author.Tests.{eq-eqb, eqb-true}
 use lib.Dec.{eqb}
-use lib.ListN.{length, getD, set, replicate}
+use lib.ListN.{getD, set, replicate}
 use Rattle.leftcorner.specs.Table.{KernelLine, K}
-use Rattle.table_lines.specs.Image.{image, flag}
+use Rattle.table_lines.specs.Image.{flag}
 use Rattle.table_lines.proofs.ImageLaws.{image-at, image-set, image-zeros}
 use Rattle.table_lines.proofs.ListLaws.{both-true}
 use Rattle.table_kernels.specs.Kernels.{hasTriple}

@@ -1,13 +1,12 @@
 -- How a block goes on, and what holds of the lines of a block that was read.
 use Prim.Native.Nat.{ℕ, zero, suc, _+_, _-_, _≤_, _<_}
-use mathlib.Core.Path.{_≡_, refl, sym, ap, subst, _∙_}
+use mathlib.Core.Path.{_≡_, refl, ap, _∙_}
 use mathlib.Core.Bool.{Bool, true, false}
 use mathlib.Core.List.{List, [], _∷_, _++_}
 use native.Mathlib.Omega.{arith}
 use lib.ListN.{length, length-append}
 use Rattle.reply.specs.declared.Refusal.{Refusal}
-use Rattle.table_lines.specs.declared.Judgement.{Judgement}
-use Rattle.table_lines.specs.declared.Judgement.the-variants.{Fine, Faulty}
+use Rattle.table_lines.specs.declared.Judgement.the-variants.{Fine}
 use Rattle.table_lines.specs.declared.Step.{Step}
 use Rattle.table_lines.specs.declared.Step.the-variants as step
 use Rattle.table_lines.specs.declared.Block.{Block}

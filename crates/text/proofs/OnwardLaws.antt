@@ -10,7 +10,6 @@ use lib.ListN.{length, drop, length-drop}
 use Rattle.text.specs.declared.Cursor.{Cursor}
 use Rattle.text.specs.declared.Class.{Class}
 use Rattle.text.specs.declared.Class.the-variants as class
-use Rattle.text.specs.declared.End.{End}
 use Rattle.text.specs.declared.End.the-variants.{Past, Missing}
 use Rattle.text.specs.declared.Field.{Field}
 use Rattle.text.specs.declared.Field.the-variants as field

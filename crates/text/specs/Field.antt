@@ -2,7 +2,7 @@
 -- by commas, no quoting. A field is a number, a mark or a letter, never empty. A number is digits, leading zeros allowed."
 use Prim.Native.Nat.{ℕ, _+_, _-_, _*_, min}
 use mathlib.Core.List.{List, [], _∷_}
-use mathlib.Core.Bool.{Bool, true, false, cond, _||_}
+use mathlib.Core.Bool.{true, false, cond, _||_}
 use lib.ListN.{drop}
 use lib.Dec.{eqb}
 use Rattle.range.specs.Range.{within}

@@ -1,14 +1,13 @@
 -- What is asked of cells, and the cells, are decided.
-use Prim.Native.Nat.{ℕ, zero, suc, _+_, _≤_, _<_}
-use native.Mathlib.Omega.{arith}
+use Prim.Native.Nat.{ℕ, zero, suc}
 use native.Mathlib.Decide.{ℕ-discrete}
-use mathlib.Core.Logic.{_⊎_, inl, inr}
+use mathlib.Core.Logic.{_⊎_}
 use mathlib.Core.Path.{_≡_, refl, sym, ap, ap₂, _∙_, subst}
-use mathlib.Core.List.{List, [], _∷_, _++_}
-use mathlib.Core.Option.{Option, some, none}
+use mathlib.Core.List.{List, [], _∷_}
+use mathlib.Core.Option.{some}
 use lib.ListN.{length}
 use Rattle.language.specs.Grammar.{Grammar, Rule, ruleAt, concat}
-use Rattle.language.specs.Sentence.{In, here, there}
+use Rattle.language.specs.Sentence.{In}
 use Rattle.leftcorner.specs.Table.{Action, S, N, A, P, ActionLine, L, Table}
 use Rattle.leftcorner.specs.Construction.{forget, entryItem, EntryAt, ActionAt, Carries, MovedBy, moved, Asked, to-move, to-announce, to-pop, CellsAgree, CellsMeet}
 use Rattle.verdict.proofs.Tests.{map-dec, both?, implies?, any?, list?}

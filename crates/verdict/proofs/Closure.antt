@@ -1,5 +1,5 @@
 -- The closure of a state as a list, without and with codes.
-use Prim.Native.Nat.{ℕ, zero, suc, _+_, _≤_, _<_}
+use Prim.Native.Nat.{ℕ, zero, suc, _<_}
 use native.Mathlib.Omega.{arith}
 use native.Mathlib.Decide.{ℕ-discrete}
 use mathlib.Core.Logic.{_⊎_, inl, inr}
@@ -13,7 +13,7 @@ use Rattle.language.proofs.Member.{in-cons, in-left, in-right}
 use Rattle.leftcorner.specs.Table.{KernelLine, K, Table, symbolsOf, recognitionPoint, Goes}
 use Rattle.leftcorner.specs.Construction.{KernelAt, Has, in-kernel, in-closure, Carries}
 use Rattle.verdict.proofs.Tests.{map-dec, both?, any?}
-use Rattle.verdict.proofs.Reach.{Reach, seed, step, Members, members}
+use Rattle.verdict.proofs.Reach.{Reach, seed, step, members}
 
 pub data Spot : Type 0 where
   spot : ℕ → ℕ → Spot

@@ -1,16 +1,11 @@
 -- Decisions put together from decisions.
-use Prim.Native.Nat.{ℕ, zero, suc, _<_, _≤_}
-use native.Mathlib.Nat.{not-suc-le-zero}
+use Prim.Native.Nat.{ℕ}
 use native.Mathlib.Omega.{arith}
 use native.Mathlib.Decide.{ℕ-discrete}
 use mathlib.Core.Logic.{_⊎_, inl, inr}
-use mathlib.Core.Path.{_≡_, refl, sym, ap, ap₂, subst}
-use mathlib.Core.Bool.{Bool, true, false}
+use mathlib.Core.Path.{_≡_, refl, ap₂}
 use mathlib.Core.List.{List, [], _∷_}
-use lib.Dec.{T}
-use borrow.Author.Count.{below-more}
 use Rattle.language.specs.Sentence.{In, here, there}
-use Rattle.language.proofs.Member.{in-cons}
 
 -- a decision moved along an equivalence
 unfoldable pub map-dec : {A B : Type 0} → (A → B) → (B → A) → Dec A → Dec B

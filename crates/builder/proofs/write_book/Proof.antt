@@ -1,6 +1,5 @@
 use Prim.Native.Nat.{_+_}
 use denote.Ref.{now}
-use mathlib.Core.Path.{_∙_}
 use lib.ListN.{length}
 use Rattle.table_writer.specs.MemoryTable.{memoryText}
 use Rattle.builder.proofs.BookLaws.{text-long, text-short, text-none, text-written}

@@ -1,5 +1,5 @@
 -- The cells passed are what is asked.
-use Prim.Native.Nat.{ℕ, _+_, _-_, _≤_, _<_}
+use Prim.Native.Nat.{ℕ, _-_, _≤_, _<_}
 use native.Mathlib.Omega.{arith}
 use borrow.Author.Needs.{needs}
 use Rattle.fixpoint.proofs.PassLaws.{no-gap, from-more}

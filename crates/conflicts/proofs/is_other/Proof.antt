@@ -1,4 +1,3 @@
-use borrow.Author.Needs.{needs}
 use Rattle.fixpoint.proofs.PassLaws.{is-yes, is-no}
 use Rattle.conflicts.proofs.is_other.Statement.{statement}
 use Rattle.conflicts.proofs.is_other.Tie as tie

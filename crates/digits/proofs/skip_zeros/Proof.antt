@@ -1,9 +1,7 @@
 -- `digits::skip_zeros` meets its contract. Assumes nothing.
 use mathlib.Core.Path.{_≡_, refl, sym, _∙_}
 use Prim.Native.Nat.{_-_}
-use native.Mathlib.Omega.{arith}
 use borrow.Author.Needs.{needs}
-use denote.Ref.{now}
 use lib.ListN.{length}
 use Rattle.digits.specs.Exact.{exactAt}
 use Rattle.digits.proofs.ExactLaws.{leads-on, leads-here, leads-past}

@@ -1,5 +1,5 @@
 -- `stray_tokens::span_of` meets its contract. The invariant: the tokens before i are from `least` to `most`. Assumes nothing.
-use Prim.Native.Nat.{ℕ, _≤_, _-_}
+use Prim.Native.Nat.{_≤_, _-_}
 use native.Mathlib.Omega.{arith}
 use lib.ListN.{length}
 use borrow.Author.Needs.{needs}

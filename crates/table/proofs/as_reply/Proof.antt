@@ -1,7 +1,6 @@
 -- `table::as_reply` meets its contract. Assumes nothing.
 use Rattle.table.specs.Memory.{asReply}
 use mathlib.Core.Path.{sym, ap}
-use Prim.Native.Nat.{_-_}
 use borrow.Author.Needs.{needs}
 use Rattle.table.proofs.as_reply.Statement.{statement}
 use Rattle.table.proofs.as_reply.Tie as tie

@@ -1,5 +1,4 @@
 -- `table::clear_all` meets its contract. Assumes nothing.
-use Prim.Native.Nat.{_-_}
 use borrow.Author.Needs.{needs}
 use Rattle.table.proofs.clear_all.Statement.{statement}
 use Rattle.table.proofs.clear_all.Tie as tie

@@ -1,7 +1,6 @@
 -- `table::has_room` meets its contract. Assumes nothing.
 use Rattle.table.specs.Memory.{roomFor}
 use borrow.Author.Tests.{le-leb, lt-leb}
-use Prim.Native.Nat.{_-_}
 use Rattle.table.proofs.has_room.Statement.{statement}
 use Rattle.table.proofs.has_room.Tie as tie
 

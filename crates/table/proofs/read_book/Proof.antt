@@ -3,7 +3,6 @@ use Rattle.table_head.proofs.HeadLaws.{head-within}
 use Rattle.table.proofs.ReadLaws.{head-refused, head-read, blocks-deny, blocks-fill}
 use Rattle.table.specs.Memory.{denied}
 use mathlib.Core.Path.{sym, _∙_}
-use Prim.Native.Nat.{_-_}
 use borrow.Author.Needs.{needs}
 use Rattle.table.proofs.read_book.Statement.{statement}
 use Rattle.table.proofs.read_book.Tie as tie

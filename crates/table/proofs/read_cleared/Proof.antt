@@ -2,7 +2,6 @@
 use Rattle.table.proofs.IntoLaws.{too-long, no-grammar, with-grammar, grammar-refused, grammar-read, rules-laid, blank-now, fills-alike}
 use Rattle.table.specs.Memory.{denied}
 use mathlib.Core.Path.{refl, _∙_}
-use Prim.Native.Nat.{_-_}
 use native.Mathlib.Omega.{arith}
 use borrow.Author.Needs.{needs}
 use Rattle.table.proofs.read_cleared.Statement.{statement}

@@ -4,7 +4,6 @@ use Rattle.table.specs.Book.{tablesOf}
 use Rattle.grammar.proofs.IntoLaws.{zeros-again}
 use denote.Ref.{now}
 use mathlib.Core.Path.{refl}
-use Prim.Native.Nat.{_-_}
 use borrow.Author.Needs.{needs}
 use Rattle.table.proofs.read_short.Statement.{statement}
 use Rattle.table.proofs.read_short.Tie as tie

@@ -5,7 +5,6 @@ use Rattle.table.specs.Memory.{slices}
 use borrow.Author.Tests.{not-true, not-false}
 use denote.Ref.{now}
 use mathlib.Core.Path.{sym, _∙_}
-use Prim.Native.Nat.{_-_}
 use borrow.Author.Needs.{needs}
 use Rattle.table.proofs.read_tables.Statement.{statement}
 use Rattle.table.proofs.read_tables.Tie as tie

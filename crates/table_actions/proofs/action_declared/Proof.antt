@@ -4,7 +4,6 @@ use Rattle.table_actions.proofs.LetterLaws.{either-way}
 use Rattle.table_actions.specs.Actions.{actionDeclared}
 use borrow.Author.Tests.{eq-eqb, ne-eqb, not-true, not-false}
 use mathlib.Core.Path.{sym, _∙_}
-use Prim.Native.Nat.{_-_}
 use borrow.Author.Needs.{needs}
 use Rattle.table_actions.proofs.action_declared.Statement.{statement}
 use Rattle.table_actions.proofs.action_declared.Tie as tie

@@ -1,7 +1,6 @@
 -- `table_actions::is_action` meets its contract. Assumes nothing.
 use Rattle.table_actions.specs.Actions.{isAction}
 use borrow.Author.Tests.{eq-eqb, ne-eqb}
-use Prim.Native.Nat.{_-_}
 use Rattle.table_actions.proofs.is_action.Statement.{statement}
 use Rattle.table_actions.proofs.is_action.Tie as tie
 

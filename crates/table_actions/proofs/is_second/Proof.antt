@@ -1,6 +1,5 @@
 -- `table_actions::is_second` meets its contract. Assumes nothing.
 use Rattle.table_actions.proofs.CellLaws.{none-high, cell-free, cell-full, goto-free, goto-full}
-use Prim.Native.Nat.{_-_}
 use native.Mathlib.Omega.{arith}
 use borrow.Author.Needs.{needs}
 use Rattle.table_actions.proofs.is_second.Statement.{statement}

@@ -6,7 +6,6 @@ use Rattle.table_lines.specs.Block.{taken, stopped, turned}
 use Rattle.table_lines.specs.Line.{lineAt}
 use denote.Ref.{now}
 use mathlib.Core.Path.{sym, _∙_}
-use Prim.Native.Nat.{_-_}
 use native.Mathlib.Omega.{arith}
 use lib.ListN.{replicate}
 use borrow.Author.Needs.{needs}

@@ -3,7 +3,7 @@ use Rattle.table_actions.specs.Actions.{actionOf}
 use Rattle.table_actions.proofs.LetterLaws.{is-shift, is-goto, is-announce, is-pop, formed-as}
 use Rattle.table_actions.proofs.CellLaws.{low-state, low-symbol}
 use mathlib.Core.Path.{refl, ap, _∙_}
-use Prim.Native.Nat.{ℕ, _+_, _*_, _-_}
+use Prim.Native.Nat.{ℕ, _+_, _*_}
 use native.Mathlib.Omega.{arith}
 use lib.ListN.{set}
 use borrow.Author.Needs.{needs}

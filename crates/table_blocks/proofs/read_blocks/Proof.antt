@@ -11,7 +11,7 @@ use Rattle.table_lines.specs.Block.{read}
 use Rattle.table_lines.proofs.BlockLaws.{reads-read, reads-refused}
 use mathlib.Core.List.{List, []}
 use mathlib.Core.Path.{_≡_, sym, ap, _∙_}
-use Prim.Native.Nat.{ℕ, _+_, _-_}
+use Prim.Native.Nat.{ℕ, _+_}
 use native.Mathlib.Omega.{arith}
 use lib.ListN.{length}
 use denote.Ref.{now}

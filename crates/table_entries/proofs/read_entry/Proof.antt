@@ -11,7 +11,7 @@ use lib.ListN.{drop, length, getD, set, replicate}
 use mathlib.Core.List.{List}
 use denote.Ref.{now}
 use mathlib.Core.Path.{sym, ap, _∙_}
-use Prim.Native.Nat.{ℕ, _+_, _*_, _-_}
+use Prim.Native.Nat.{ℕ, _+_, _*_}
 use native.Mathlib.Omega.{arith}
 use borrow.Author.Needs.{needs}
 use Rattle.table_entries.proofs.read_entry.Statement.{statement}

@@ -1,7 +1,6 @@
 -- `table_kernels::is_second` meets its contract. Assumes nothing.
 use Rattle.table_kernels.proofs.TripleLaws.{triple-high, mark-off, mark-on}
 use mathlib.Core.Path.{sym}
-use Prim.Native.Nat.{_-_}
 use native.Mathlib.Omega.{arith}
 use borrow.Author.Needs.{needs}
 use Rattle.table_kernels.proofs.is_second.Statement.{statement}

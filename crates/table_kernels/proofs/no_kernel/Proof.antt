@@ -1,7 +1,6 @@
 -- `table_kernels::no_kernel` meets its contract. Assumes nothing.
 use Rattle.table_kernels.proofs.NextLaws.{none-first, none-later}
 use mathlib.Core.Path.{sym, _∙_}
-use Prim.Native.Nat.{_-_}
 use Rattle.table_kernels.proofs.no_kernel.Statement.{statement}
 use Rattle.table_kernels.proofs.no_kernel.Tie as tie
 

@@ -8,7 +8,7 @@ use Rattle.items.specs.Layout.{lengthAt}
 use lib.ListN.{drop, getD, replicate}
 use denote.Ref.{now}
 use mathlib.Core.Path.{sym, ap, _∙_}
-use Prim.Native.Nat.{_≤_, _<_, _-_}
+use Prim.Native.Nat.{_≤_, _<_}
 use native.Mathlib.Omega.{arith}
 use borrow.Author.Needs.{needs}
 use Rattle.table_kernels.proofs.read_kernel.Statement.{statement}

@@ -3,7 +3,7 @@ use Rattle.table_kernels.proofs.NextLaws.{image-reads}
 use Rattle.table_kernels.proofs.TripleLaws.{marks-none}
 use lib.ListN.{length-replicate}
 use mathlib.Core.Path.{refl, sym}
-use Prim.Native.Nat.{ℕ, _-_}
+use Prim.Native.Nat.{ℕ}
 use Rattle.table_kernels.proofs.read_kernels.Statement.{statement}
 use Rattle.table_kernels.proofs.read_kernels.Tie as tie
 

@@ -1,7 +1,7 @@
 -- `table_kernels::store_figures` meets its contract. Assumes nothing.
 use mathlib.Core.List.{List}
 use mathlib.Core.Path.{ap, _∙_}
-use Prim.Native.Nat.{ℕ, _+_, _*_, _-_}
+use Prim.Native.Nat.{ℕ, _+_, _*_}
 use lib.ListN.{set}
 use borrow.Author.Needs.{needs}
 use Rattle.table_kernels.proofs.store_figures.Statement.{statement}

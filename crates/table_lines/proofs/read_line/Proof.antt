@@ -3,7 +3,6 @@ use Rattle.text.proofs.ElseLaws.{else-letter}
 use Rattle.table_lines.proofs.LineLaws.{line-none, line-letter}
 use Rattle.table_lines.specs.Line.{TextLine}
 use mathlib.Core.Path.{sym, _∙_}
-use Prim.Native.Nat.{_-_}
 use borrow.Author.Needs.{needs}
 use Rattle.table_lines.proofs.read_line.Statement.{statement}
 use Rattle.table_lines.proofs.read_line.Tie as tie

@@ -7,7 +7,7 @@ use Rattle.table_lines.proofs.LineLaws.{Going, going-start, going-last,
 use Rattle.table_lines.specs.declared.Tally.{Tally}
 use Rattle.table_lines.specs.Line.{TextLine, numbersFrom}
 use mathlib.Core.Path.{_≡_, sym, ap, _∙_}
-use Prim.Native.Nat.{_+_, _≤_, _-_}
+use Prim.Native.Nat.{_+_, _≤_}
 use native.Mathlib.Omega.{arith}
 use lib.ListN.{length}
 use borrow.Author.Needs.{needs}

@@ -1,7 +1,7 @@
 -- `walk_steps::announce` meets its contract, by the laws of the four ways out and of the one that goes on. Assumes nothing.
 use lib.Seq.{length-take-le}
 use lib.ListN.{take, drop, length-append, length-drop}
-use Prim.Native.Nat.{_%_, ℕ, _-_}
+use Prim.Native.Nat.{_%_, ℕ}
 use mathlib.Core.Logic.{inl, inr}
 use mathlib.Core.List.{_∷_, []}
 use mathlib.Core.Path.{ap, _∙_}

@@ -1,7 +1,6 @@
 -- `walk_steps::code_at` meets its contract. Assumes nothing.
 use lib.ListN.{List·getD-eq-default}
 use mathlib.Core.Path.{sym}
-use Prim.Native.Nat.{_-_}
 use borrow.Author.Needs.{needs}
 use Rattle.walk_steps.proofs.code_at.Statement.{statement}
 use Rattle.walk_steps.proofs.code_at.Tie as tie

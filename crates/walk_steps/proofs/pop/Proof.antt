@@ -1,7 +1,7 @@
 -- `walk_steps::pop` meets its contract, by the laws of the two ways out and of the one that goes on. Assumes nothing.
 use mathlib.Core.Path.{refl}
 use lib.ListN.{drop, length-drop}
-use Prim.Native.Nat.{suc, _+_, _-_}
+use Prim.Native.Nat.{suc, _+_}
 use native.Mathlib.Omega.{arith}
 use borrow.Author.Needs.{needs}
 use Rattle.parse_stack.proofs.StackLaws.{tops-length}

@@ -1,7 +1,6 @@
 -- `walk_steps::shift` meets its contract, by the laws of the two ways out and of the one that goes on. Assumes nothing.
 use mathlib.Core.Logic.{inl}
 use mathlib.Core.Path.{sym, _∙_}
-use Prim.Native.Nat.{_-_}
 use native.Mathlib.Omega.{arith}
 use borrow.Author.Needs.{needs}
 use Rattle.parse_stack.proofs.StackLaws.{tops-length}

@@ -1,5 +1,4 @@
 -- `walk_tables::figure` meets its contract. Assumes nothing.
-use Prim.Native.Nat.{_-_}
 use borrow.Author.Needs.{needs}
 use Rattle.walk_tables.specs.Memory.{figureOf}
 use Rattle.walk_tables.proofs.figure.Statement.{statement}

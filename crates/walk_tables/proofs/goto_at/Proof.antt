@@ -1,5 +1,4 @@
 -- `walk_tables::goto_at` meets its contract. Assumes nothing.
-use Prim.Native.Nat.{_-_}
 use borrow.Author.Needs.{needs}
 use Rattle.walk_tables.specs.Memory.{gotoOf}
 use Rattle.walk_tables.proofs.goto_at.Statement.{statement}

@@ -1,7 +1,6 @@
 -- `walk_tables::step_at` meets its contract. Assumes nothing.
 use borrow.Author.Tests.{eq-eqb, ne-eqb}
 use mathlib.Core.Path.{refl, sym}
-use Prim.Native.Nat.{_-_}
 use borrow.Author.Needs.{needs}
 use Rattle.walk_tables.specs.Memory.{cellAt}
 use Rattle.walk_tables.proofs.step_at.Statement.{statement}

@@ -2,7 +2,6 @@
 use lib.Seq.{length-take-le}
 use lib.ListN.{take, length}
 use mathlib.Core.Path.{refl, sym, _∙_}
-use Prim.Native.Nat.{_-_}
 use native.Mathlib.Omega.{arith}
 use borrow.Author.Needs.{needs}
 use Rattle.walk_tables.specs.Memory.{memoryGrammar, memoryAutomaton}

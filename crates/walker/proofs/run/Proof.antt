@@ -1,7 +1,6 @@
 -- `walker::run` meets its contract. The invariant: the position stands in memory, and the walk of the theory goes on from it. The measure
 -- bounds the steps that are left. Assumes nothing.
 use mathlib.Core.Path.{_≡_, refl, _∙_}
-use Prim.Native.Nat.{_-_}
 use lib.ListN.{length, set, length-set}
 use borrow.Author.Needs.{needs}
 use Rattle.walk_tables.specs.Memory.{memoryGrammar}
