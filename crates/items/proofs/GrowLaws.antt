@@ -1,6 +1,6 @@
 -- How a rule's symbols and group marks grow as its line is read: one more symbol before the recognition point, the first of a
 -- new group, or one more of the last group.
-use Prim.Native.Nat.{ℕ, suc}
+use Prim.Native.Nat.{ℕ, suc, _+_}
 use mathlib.Core.Path.{_≡_, refl, sym, ap, ap₂, _∙_}
 use mathlib.Core.List.{List, [], _∷_, _++_, append-assoc, append-nil}
 use lib.ListN.{length, replicate, length-append, length-replicate, replicate-append-replicate}
