@@ -1,4 +1,4 @@
-// What holds of every grammar and table that the definition of table books reads: theory only, in specs/.
+// What holds of every grammar and table that the definition of table books reads: theory only, in specs/ and proofs/.
 
 // Where the laws stand; the crate has no code of its own.
 pub fn theory() {}
