@@ -109,7 +109,7 @@ pub fn push_rule(
     )
 }
 
-// The top after so many states are popped. None and one are told apart, so that the height after them does not wait for the
+// The top after so many states are popped. None, one and two are told apart, so that the height after them does not wait for the
 // rule's row to be loaded; each way reads the stack by itself, or the compiler would make them one subtraction again.
 pub fn uncovered(stack: &[u8], pops: usize, top: Top) -> Top
     requires { ⌜ (pops < top .height) × (top .height ≤ length (now stack)) × IsTop (now stack) top ⌝ }
@@ -125,6 +125,13 @@ pub fn uncovered(stack: &[u8], pops: usize, top: Top) -> Top
         return Top {
             height: under,
             state: stack[under - 1],
+        };
+    }
+    if pops == 2 {
+        let below = height - 2;
+        return Top {
+            height: below,
+            state: stack[below - 1],
         };
     }
     let lower = height - pops;
