@@ -328,6 +328,7 @@ def check(grammar, book):
 def build(g):
     """A table with the smallest contexts and a state for each kernel set."""
     first, strings, r = First(g), wanted(g), len(g.rules)
+    need(0, 2, len(strings) <= 127)
     string = lambda i: right_of(g.rules[i - 1]) if i <= r else strings[i - r - 1]
     kernels = [frozenset([(r + k, 0)]) for k in range(1, len(strings) + 1)]
     next_state, q = {}, 0
@@ -337,6 +338,7 @@ def build(g):
             target = frozenset(moves[x])
             if target not in kernels:
                 kernels.append(target)
+                need(0, 2, len(kernels) <= 255 and sum(map(len, kernels)) <= 1023)
             next_state[q, x] = kernels.index(target)
         q += 1
     contexts = [{item: set() for item in k} for k in kernels]
@@ -356,6 +358,7 @@ def build(g):
     actions = {}
     for q, context in enumerate(contexts):
         for x, asked in asked_of(g, first, string, close(g, first, string, context), None).items():
+            need(q + 1, 9, len(asked) < 2)
             for a in asked:
                 actions[q + 1, x] = ('S' if x < FIRST else 'N', next_state[q, x] + 1) if a == ('S',) else a
     return Table(len(kernels), [(k, s) for k, s in enumerate(strings, 1)],
@@ -368,3 +371,14 @@ def write(t):
     out += [','.join(map(str, ['K', *key, *sorted(codes)])) for key, codes in sorted(t.kernels.items())]
     out += [f'{letter},{q},{x},{v}' for (q, x), (letter, v) in sorted(t.actions.items())]
     return ''.join(l + '\n' for l in out).encode()
+
+
+def build_book(grammar, room):
+    """The reply to a grammar book, and the table book where it is 0."""
+    try:
+        book = write(build(read_grammar(grammar)))
+        need(0, 2, len(book) <= 65536)
+        need(0, 11, len(book) <= room)
+        return 0, 0, book
+    except Refused as e:
+        return *e.args, b''

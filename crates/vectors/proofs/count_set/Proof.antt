@@ -1,9 +1,9 @@
--- `build_vectors::count_set` is safe and ends. Assumes nothing.
+-- `vectors::count_set` is safe and ends. Assumes nothing.
 use Prim.Native.Nat.{_≤_, _-_}
 use borrow.Author.Needs.{needs}
 use lib.ListN.{length}
-use Rattle.build_vectors.proofs.count_set.Statement.{statement}
-use Rattle.build_vectors.proofs.count_set.Tie as tie
+use Rattle.vectors.proofs.count_set.Statement.{statement}
+use Rattle.vectors.proofs.count_set.Tie as tie
 
 abbrev Inv-loop : tie.InvT-loop
 Inv-loop bytes n₀ i₀ n i = (n ≤ i) × (i ≤ length bytes)

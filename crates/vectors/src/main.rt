@@ -1,0 +1,263 @@
+// Runs cases, each a number with a comma after it and the words of a call:
+//     1, GRAMMAR                                 read_grammar
+//     2, GRAMMAR TABLES                          check_tables
+//     3, GRAMMAR LENGTH,                         build_tables, into a slice of so many bytes
+//     4, SCANS LENGTH,                           read_scans, into a slice of so many bytes
+//     5, GRAMMAR TABLES TOKENS STACK, LISTING,   run_session over tokens, a byte each, with slices of so many bytes
+//     6, GRAMMAR TABLES SCANS STACK, LISTING,    run_scans
+// Prints for each the name of its last file, what the call answers, and what is not 0 in each slice that was lent, which held 7s.
+use program::Input;
+use program::OUTPUT;
+use program::argument_number;
+use program::print_text;
+use reply::Reply;
+use session::SessionReply;
+ghost use Prim.Native.Nat.{_+_, _<_, _≤_};
+ghost use lib.ListN.{length};
+ghost use Rattle.io.specs.Counts.{Counts};
+
+// The file that argument i names.
+fn read(i: usize, buf: &mut [u8]) -> Input
+    ensures { λ r. ⌜ Counts (r .size) (now (buf .exit)) ⌝ }
+{
+    program::read_argument(
+        i,
+        b"a word of a case",
+        b"usage: vectors (CALL, WORD..)..\n",
+        buf,
+    )
+}
+
+// An output that begins with argument i.
+fn named(i: usize) -> [u8; OUTPUT] {
+    let mut out = program::output();
+    program::print_argument(&mut out, i);
+    print_text(&mut out, b"\n");
+    out
+}
+
+fn print_reply(out: &mut [u8; OUTPUT], reply: Reply) {
+    program::print_pair(out, reply::number(reply), reply::place(reply) as u64);
+}
+
+fn show_grammar(out: &mut [u8; OUTPUT], book: &[u8]) {
+    let mut items = [0u8; grammar::TABLE];
+    let answer = grammar::read_grammar(book, &mut items);
+    print_reply(out, grammar::as_reply(answer));
+}
+
+fn run_grammar(i: usize) {
+    let mut book = [0u8; 65537];
+    let input = read(i, &mut book);
+    let n = input.size;
+    let mut out = named(i);
+    show_grammar(&mut out, &book[..n]);
+    program::flush(&mut out);
+}
+
+fn show_check(out: &mut [u8; OUTPUT], grammar: &[u8], tables: &[u8]) {
+    let reply = checker::check_tables(grammar, tables);
+    print_reply(out, reply);
+}
+
+fn run_check(i: usize)
+    requires { ⌜ i + 1 < 18446744073709551616 ⌝ }
+{
+    let mut grammar = [0u8; 65537];
+    let mut tables = [0u8; 65537];
+    let first = read(i, &mut grammar);
+    let second = read(i + 1, &mut tables);
+    let n = first.size;
+    let m = second.size;
+    let mut out = named(i + 1);
+    show_check(&mut out, &grammar[..n], &tables[..m]);
+    program::flush(&mut out);
+}
+
+fn count_set(bytes: &[u8]) -> usize {
+    let mut n = 0;
+    let mut i = 0;
+    while i < bytes.len() {
+        if bytes[i] == 0 {
+            i += 1;
+            continue;
+        }
+        n += 1;
+        i += 1;
+    }
+    n
+}
+
+// Prints the length that is answered and how many bytes are not 0, then the book.
+fn show_build(out: &mut [u8; OUTPUT], grammar: &[u8], book: &mut [u8]) {
+    let built = builder::build_tables(grammar, book);
+    let reply = built.reply;
+    print_reply(out, reply);
+    program::print_pair(out, built.length as u64, count_set(book) as u64);
+    print_text(out, book);
+}
+
+fn show_scans(out: &mut [u8; OUTPUT], file: &[u8], tokens: &mut [u8]) {
+    let reply = scans::read_scans(file, tokens);
+    print_reply(out, reply);
+    program::print_bytes(out, tokens);
+}
+
+// Lends the first bytes of the slice to one of the two.
+fn show_in(out: &mut [u8; OUTPUT], call: usize, input: &[u8], slice: &mut [u8], room: usize)
+    requires { ⌜ room ≤ length (now slice) ⌝ }
+{
+    if call == 3 {
+        show_build(out, input, &mut slice[..room]);
+        return;
+    }
+    show_scans(out, input, &mut slice[..room]);
+}
+
+fn run_one(call: usize, i: usize, room: usize)
+    requires { ⌜ room ≤ 65536 ⌝ }
+{
+    let mut file = [0u8; 65537];
+    let mut slice = [7u8; 65536];
+    let input = read(i, &mut file);
+    let n = input.size;
+    let mut out = named(i);
+    show_in(&mut out, call, &file[..n], &mut slice, room);
+    program::flush(&mut out);
+}
+
+fn walk(
+    call: usize,
+    grammar: &[u8],
+    tables: &[u8],
+    input: &[u8],
+    stack: &mut [u8],
+    listing: &mut [u8],
+) -> SessionReply {
+    if call == 5 {
+        return session::run_session(grammar, tables, input, stack, listing);
+    }
+    scan_session::run_scans(grammar, tables, input, stack, listing)
+}
+
+fn show_session(
+    out: &mut [u8; OUTPUT],
+    call: usize,
+    grammar: &[u8],
+    tables: &[u8],
+    input: &[u8],
+    stack: &mut [u8],
+    listing: &mut [u8],
+) {
+    let answer = walk(call, grammar, tables, input, stack, listing);
+    let reply = walker::as_reply(answer);
+    program::print_session(
+        out,
+        reply::number(reply),
+        reply::place(reply) as u64,
+        walker::rule_count(answer) as u64,
+        walker::unit_count(answer) as u64,
+        listing,
+    );
+    program::print_bytes(out, stack);
+}
+
+// Lends the first n and k bytes of both slices.
+fn show_session_in(
+    out: &mut [u8; OUTPUT],
+    call: usize,
+    grammar: &[u8],
+    tables: &[u8],
+    input: &[u8],
+    stack: &mut [u8],
+    n: usize,
+    listing: &mut [u8],
+    k: usize,
+)
+    requires { ⌜ (n ≤ length (now stack)) × (k ≤ length (now listing)) ⌝ }
+{
+    show_session(
+        out,
+        call,
+        grammar,
+        tables,
+        input,
+        &mut stack[..n],
+        &mut listing[..k],
+    );
+}
+
+fn show_lent(call: usize, i: usize, grammar: &[u8], tables: &[u8], input: &[u8], n: usize, k: usize)
+    requires { ⌜ (n ≤ 65536) × (k ≤ 65536) ⌝ }
+{
+    let mut stack = [7u8; 65536];
+    let mut listing = [7u8; 65536];
+    let mut out = named(i);
+    show_session_in(
+        &mut out,
+        call,
+        grammar,
+        tables,
+        input,
+        &mut stack,
+        n,
+        &mut listing,
+        k,
+    );
+    program::flush(&mut out);
+}
+
+fn run_session(call: usize, i: usize, n: usize, k: usize)
+    requires { ⌜ (i + 2 < 18446744073709551616) × (n ≤ 65536) × (k ≤ 65536) ⌝ }
+{
+    let mut grammar = [0u8; 65537];
+    let mut tables = [0u8; 65537];
+    let mut input = [0u8; 65537];
+    let first = read(i, &mut grammar);
+    let second = read(i + 1, &mut tables);
+    let third = read(i + 2, &mut input);
+    let a = first.size;
+    let b = second.size;
+    let c = third.size;
+    show_lent(call, i + 2, &grammar[..a], &tables[..b], &input[..c], n, k);
+}
+
+// Runs the case that begins at argument i, and answers where the next begins.
+fn run_case(i: usize) -> usize
+    requires { ⌜ i + 6 < 18446744073709551616 ⌝ }
+    ensures { λ r. ⌜ (i < r) × (r ≤ i + 6) ⌝ }
+{
+    let call = argument_number(i);
+    match call {
+        1 => {
+            run_grammar(i + 1);
+            i + 2
+        }
+        2 => {
+            run_check(i + 1);
+            i + 3
+        }
+        3 | 4 => {
+            run_one(call, i + 1, argument_number(i + 2));
+            i + 3
+        }
+        _ => {
+            run_session(call, i + 1, argument_number(i + 4), argument_number(i + 5));
+            i + 6
+        }
+    }
+}
+
+// More words than are ever handed over, so that their numbers stay small.
+const MOST: usize = 1048576;
+
+fn main() {
+    let count = os::arg_count();
+    let mut i = 1;
+    while i < count {
+        if MOST < i {
+            return;
+        }
+        i = run_case(i);
+    }
+}

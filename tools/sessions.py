@@ -1,0 +1,81 @@
+"""Scan files and sessions by document 01's text, apart from the proved code. For the script that makes cases."""
+import functools, re
+import tables
+
+LINE = re.compile(rb'([A-Z]),([!-+\--~]{1,30})')
+HOUSE = {b'D': 1, b'G': 2, b'P': 3, b'E': 5, b'T': 6, b'F': 7}
+check = functools.cache(tables.check)
+
+
+def read_scans(scans, room):
+    """The reply's number, its place and the tokens."""
+    if len(scans) > 65536:
+        return 2, 0, []
+    tokens, place, before = [], 0, None
+    for line in scans.split(b'\n')[:-1]:
+        m = LINE.fullmatch(line)
+        if not m:
+            return 1, place, []
+        if m.group(1) not in HOUSE:
+            return 3, place, []
+        tokens.append(4 if line == before else HOUSE[m.group(1)])
+        before = line
+        place += len(line) + 1
+    if place < len(scans):
+        return 1, place, []
+    if len(tokens) > room:
+        return 11, 0, []
+    return 0, len(tokens), tokens
+
+
+def walk(g, t, tokens, n, k):
+    """The number, the place, the units and the listing."""
+    state_of = {tuple(string): q for q, string in t.entries}
+    stack, listing, taken = [t.entries[0][0]], [], 0
+    if n < 1:
+        return 11, 0, 0, []
+    while True:
+        code = tokens[taken] if taken < len(tokens) else 0
+        letter, value = t.actions.get((stack[-1], code), ('', 0))
+        after = list(stack)
+        if letter == 'S':
+            after.append(value)
+        elif letter == 'A':
+            r = g.rules[value - 1]
+            after = after[:len(after) - len(r.before)]
+            after.append(t.actions[after[-1], r.left][1])
+            after += [state_of[tuple(group)] for group in reversed(r.groups)]
+        elif letter == 'P':
+            after = after[:len(after) - value]
+            if not after:
+                return (12, taken, 0, []) if code else (0, taken, sum(g.rules[i - 1].unit for i in listing), listing)
+        else:
+            return 12, taken, 0, []
+        if len(after) > n or len(listing) + (letter == 'A') > k:
+            return 11, taken, 0, []
+        stack = after
+        listing += [value] * (letter == 'A')
+        taken += letter == 'S'
+
+
+def run_session(grammar, table, tokens, n, k):
+    number, place = check(grammar, table)
+    if len(tokens) > 65535:
+        return 2, 0, 0, []
+    if number:
+        return number, place, 0, []
+    g = tables.read_grammar(grammar)
+    stray = [i for i, a in enumerate(tokens) if not 1 <= a <= g.t]
+    if stray:
+        return 3, stray[0], 0, []
+    return walk(g, tables.read_table(table, g), tokens, n, k)
+
+
+def run_scans(grammar, table, scans, n, k):
+    number, place, tokens = read_scans(scans, 65536)
+    if len(scans) > 65536:
+        return 2, 0, 0, []
+    if number:
+        first = check(grammar, table)
+        return *(first if first[0] else (number, place)), 0, []
+    return run_session(grammar, table, tokens, n, k)

@@ -1,0 +1,147 @@
+#!/usr/bin/env python3
+"""Makes what crates/vectors must write: stdout, for the cases that its args names and data/ holds.
+
+    tools/vectors.py                 works out every case
+    tools/vectors.py KIND FOLDER     adds the cases of FOLDER first, or replaces those of the same name; KIND is grammar, check,
+                                     build, scan or session
+
+FOLDER has a folder for each case: `grammar`, `table`, `tokens` (one a line), `scans`, as its kind asks; `out_len` (the length of the slice
+lent) or `lens` (`STACK,LISTING`) where they are not 65,536 and 65,535 each; and `expected`. A session with `scans` is run both ways.
+What a case must write is worked out by tables.py and sessions.py, from document 01's text and not from the proved code; where a case comes
+with `expected`, the two must agree.
+"""
+import os, sys
+import sessions, tables
+
+CRATE = os.path.join(os.path.dirname(os.path.abspath(__file__)), '..', 'crates', 'vectors')
+WORDS = {'1,': 1, '2,': 2, '3,': 2, '4,': 2, '5,': 5, '6,': 5}
+
+
+def load(*path):
+    path = os.path.join(*path)
+    with open(path, 'rb') as f:
+        return f.read()
+
+
+def data(name):
+    return load(CRATE, 'data', name)
+
+
+def save(content, *path):
+    path = os.path.join(CRATE, *path)
+    os.makedirs(os.path.dirname(path), exist_ok=True)
+    with open(path, 'wb') as f:
+        f.write(content)
+
+
+def lines(*words):
+    return ''.join(f'{x}\n' for x in words)
+
+
+# ---- what each call must write
+
+def read_grammar(book):
+    try:
+        tables.read_grammar(data(book))
+    except tables.Refused as why:
+        return lines('%d,%d' % why.args)
+    return lines('0,0')
+
+
+def check_tables(grammar, book):
+    return lines('%d,%d' % sessions.check(data(grammar), data(book)))
+
+
+def build_tables(grammar, room):
+    number, place, book = tables.build_book(data(grammar), room)
+    return lines(f'{number},{place}', f'{len(book)},{len(book)}') + book.decode()
+
+
+def read_scans(scans, room):
+    number, place, tokens = sessions.read_scans(data(scans), room)
+    return lines(f'{number},{place}', *tokens)
+
+
+def session(run, grammar, table, content, stack, listing):
+    number, place, units, rules = run(data(grammar), data(table), data(content), stack, listing)
+    return lines(f'{number},{place},{len(rules)},{units}', *rules)
+
+
+def written(call, words):
+    words = [int(w[:-1]) if w.endswith(',') else w for w in words]
+    if call in ('5,', '6,'):
+        return session(sessions.run_session if call == '5,' else sessions.run_scans, *words)
+    return {'1,': read_grammar, '2,': check_tables, '3,': build_tables, '4,': read_scans}[call](*words)
+
+
+# ---- cases
+
+def standing():
+    """The cases that args names: the call, and its words."""
+    words = load(CRATE, 'args').decode().split()
+    while words:
+        n = 1 + WORDS[words[0]]
+        yield words[0], words[1:n]
+        words = words[n:]
+
+
+def named(words):
+    return [w for w in words if not w.endswith(',')][-1]
+
+
+def option(path, otherwise):
+    return load(path).decode().strip() if os.path.exists(path) else otherwise
+
+
+def given(kind, root):
+    """The cases of a folder, their files stored: the call, its words, and what is expected."""
+    for name in sorted(os.listdir(root)):
+        at = os.path.join(root, name)
+
+        def put(file, ending=''):
+            content = load(at, file)
+            if file == 'tokens':
+                content = bytes(map(int, content.split()))
+            save(content, 'data', kind, name + ending)
+            return f'{kind}/{name}{ending}'
+
+        room = option(os.path.join(at, 'out_len'), '65536') + ','
+        if kind == 'grammar':
+            cases = [('1,', [put('grammar')])]
+        elif kind == 'check':
+            cases = [('2,', [put('grammar', '.grammar'), put('table')])]
+        elif kind == 'build':
+            cases = [('3,', [put('grammar'), room])]
+        elif kind == 'scan':
+            cases = [('4,', [put('scans'), room])]
+        else:
+            books = [put('grammar', '.grammar'), put('table', '.tables')]
+            lent = [n + ',' for n in option(os.path.join(at, 'lens'), '65535,65535').split(',')]
+            cases = [('5,', [*books, put('tokens', '.tokens'), *lent])]
+            if os.path.exists(os.path.join(at, 'scans')):
+                cases.append(('6,', [*books, put('scans', '.scans'), *lent]))
+        for call, words in cases:
+            yield call, words, load(at, 'expected').decode()
+
+
+def agrees(call, answer, expected):
+    """The program build_tables writes the book alone."""
+    if call == '3,' and answer.startswith('0,0\n'):
+        return answer.split('\n', 2)[2] == expected
+    return answer == expected or (call == '3,' and answer == expected + '0,0\n')
+
+
+def main():
+    cases = {(call, named(words), *words): (call, words) for call, words in standing()}
+    if len(sys.argv) > 1:
+        for call, words, expected in given(*sys.argv[1:]):
+            if not agrees(call, written(call, words), expected):
+                sys.exit(f'{named(words)}: another output is expected')
+            cases[(call, named(words), *words)] = call, words
+    ordered = sorted(cases.values(), key=lambda case: case[0])
+    save(lines(*(w for call, words in ordered for w in [call, *words])).encode(), 'args')
+    save(''.join(lines(named(words)) + written(call, words) for call, words in ordered).encode(), 'stdout')
+    print(len(ordered), 'cases')
+
+
+main()
