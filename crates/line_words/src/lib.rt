@@ -23,7 +23,7 @@ struct Part {
 // The largest figures that the lines before declare.
 struct Declared {
     terminals: usize,
-    last_nonterminal: usize,
+    nonterminals: usize,
     rules: usize,
     items: usize,
     states: usize,
@@ -652,20 +652,15 @@ fn value_figure(letter: usize) -> Figure {
 }
 
 fn is_declared(figure: Figure, v: usize, d: Declared) -> bool {
+    let symbol = Symbol { code: v };
     match figure {
         Figure::State => in_range(1, v, d.states),
         Figure::Item => in_range(1, v, d.items),
         Figure::Rule => in_range(1, v, d.rules),
-        Figure::Code => v <= d.terminals,
-        Figure::Symbol => {
-            if in_range(1, v, d.terminals) {
-                return true;
-            }
-            in_range(Symbol::FIRST_NONTERMINAL, v, d.last_nonterminal)
-        }
-        Figure::Terminal => in_range(1, v, d.terminals),
-        Figure::Nonterminal => in_range(Symbol::FIRST_NONTERMINAL, v, d.last_nonterminal),
-        Figure::Lookahead => v <= d.terminals,
+        Figure::Symbol => symbol.is_declared(d.terminals, d.nonterminals),
+        Figure::Terminal => symbol.is_terminal(d.terminals),
+        Figure::Nonterminal => symbol.is_nonterminal(d.nonterminals),
+        Figure::Code | Figure::Lookahead => symbol.is_lookahead(d.terminals),
         Figure::Free => true,
     }
 }
@@ -677,7 +672,13 @@ fn print_declared(out: &mut [u8; OUTPUT], figure: Figure, v: usize, d: Declared)
         Figure::Item => print_words(out, b"item #: items are 1 to #\n", v, d.items, 0),
         Figure::Rule => print_words(out, b"rule #: rules are 1 to #\n", v, d.rules, 0),
         Figure::Code => print_words(out, b"code #: codes are 0 to #\n", v, d.terminals, 0),
-        _ => print_symbol(out, figure, v, d.terminals, d.last_nonterminal),
+        _ => print_symbol(
+            out,
+            figure,
+            v,
+            d.terminals,
+            last_nonterminal(d.nonterminals),
+        ),
     }
 }
 
@@ -1209,7 +1210,7 @@ pub fn explain_grammar_book(out: &mut [u8; OUTPUT], book: &[u8], number: u64, pl
     let h = read_header(book);
     let d = Declared {
         terminals: h.first,
-        last_nonterminal: last_nonterminal(h.second),
+        nonterminals: h.second,
         rules: h.third,
         items: h.third,
         states: 0,
@@ -1235,7 +1236,7 @@ pub fn explain_table_book(
     let h = read_header(book);
     let d = Declared {
         terminals,
-        last_nonterminal: last_nonterminal(nonterminals),
+        nonterminals: nonterminals,
         rules,
         items: clipped(rules) + clipped(h.second),
         states: h.first,
