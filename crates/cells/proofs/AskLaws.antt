@@ -2,7 +2,6 @@
 use Prim.Native.Nat.{ℕ, _+_, _*_, _-_, _≤_, _<_}
 use mathlib.Core.Path.{_≡_, refl, sym, ap, subst, subst₂, _∙_}
 use mathlib.Core.Logic.{_⊎_, inl, inr}
-use mathlib.Core.Bool.{Bool, true, false, true≢false, false≢true}
 use mathlib.Core.List.{List}
 use native.Mathlib.Decide.{ℕ-discrete}
 use native.Mathlib.Omega.{arith}
@@ -11,69 +10,85 @@ use lib.Seq.{getD-set-same, getD-set-other}
 use borrow.Author.Count.{below-more}
 use Rattle.items.specs.Layout.{leftAt, lengthAt, markAt}
 use Rattle.fixpoint.specs.Flags.{On, Off}
-use Rattle.fixpoint.proofs.PassLaws.{all-off}
+use Rattle.fixpoint.proofs.PassLaws.{all-off, set-on, on-at}
 use Rattle.memory.specs.Memory.{stateAt, itemAt, dotAt}
 use Rattle.analysis.specs.FirstBy.{first-low}
 use Rattle.analysis.specs.Adds.{Adds}
 use Rattle.carried.specs.Rows.{FirstsAt}
 use Rattle.carried.proofs.FirstLaws.{at-zero}
-use Rattle.cells.specs.Demands.{Demand, Asking, Clash, Asks, Wants, CodeAsks, ItemAsks, announces, pops, LinesAsk, RuleAsks}
+use Rattle.cells.specs.Demands.{Demand, Differs, Met, Asking, Asks, Wants, CodeAsks, ItemAsks, announces, pops, LinesAsk, RuleAsks}
 
 module _ {D : ℕ → ℕ → Type 0} where
-  pub asking-none : (s : List ℕ) → Asking D s s
-  asking-none s = record { long = refl; kept = λ c v d. d; only = λ c v d. inl d }
+  pub asking-none : (s o : List ℕ) → Asking D s o s o
+  asking-none s o = record { long = refl; others-long = refl; kept = λ c v d. d; only = λ c v d. inl d; others-kept = λ c on. on; others-only = λ c v d. inl d }
 
   -- nothing is wanted
-  pub asks-none : (s : List ℕ) → ((c v : ℕ) → D c v → ⊥) → Asks D s s true
-  asks-none s f = record { asking = asking-none s; met = λ e c v d. absurd (f c v d); clash = λ e. absurd (true≢false e) }
+  pub asks-none : (s o : List ℕ) → ((c v : ℕ) → D c v → ⊥) → Asks D s o s o
+  asks-none s o f = record { asking = asking-none s o; met = λ c v d. absurd (f c v d) }
 
-  pub asking-map : {E : ℕ → ℕ → Type 0} {s₀ s : List ℕ} → ((c v : ℕ) → D c v → E c v) → Asking D s₀ s → Asking E s₀ s
-  asking-map {E} {s₀} f a = record { long = a .long; kept = a .kept; only = λ c v d. go c v (a .only c v d) }
-    where
-      go : (c v : ℕ) → Demand s₀ c v ⊎ D c v → Demand s₀ c v ⊎ E c v
-      go c v (inl d) = inl d
-      go c v (inr d) = inr (f c v d)
-
-  pub clash-map : {E : ℕ → ℕ → Type 0} {s : List ℕ} → ((c v : ℕ) → D c v → E c v) → Clash D s → Clash E s
-  clash-map f k = record { code = k .code; wanted = k .wanted; other = k .other; wants = f (k .code) (k .wanted) (k .wants); there = k .there; differ = k .differ }
-
-  pub asks-map : {E : ℕ → ℕ → Type 0} {s₀ s : List ℕ} {b : Bool} → ((c v : ℕ) → D c v → E c v) → ((c v : ℕ) → E c v → D c v) → Asks D s₀ s b → Asks E s₀ s b
-  asks-map f g a = record { asking = asking-map f (a .asking); met = λ e c v d. a .met e c v (g c v d); clash = λ e. clash-map f (a .clash e) }
-
-  -- a part of what is wanted clashes
-  pub asks-fail : {E : ℕ → ℕ → Type 0} {s₀ s s′ : List ℕ} {b : Bool} → Asking E s₀ s → ((c v : ℕ) → D c v → E c v) → Asks D s s′ b → b ≡ false → Asks E s₀ s′ false
-  asks-fail {E} {s₀} {s} {s′} old f a e = record { asking = join; met = λ z. absurd (false≢true z); clash = λ z. clash-map f (a .clash e) }
-    where
-      back : (c v : ℕ) → Demand s c v ⊎ D c v → Demand s₀ c v ⊎ E c v
-      back c v (inl d) = old .only c v d
-      back c v (inr d) = inr (f c v d)
-
-      join : Asking E s₀ s′
-      join = record { long = a .asking .long ∙ old .long; kept = λ c v d. a .asking .kept c v (old .kept c v d); only = λ c v d. back c v (a .asking .only c v d) }
+  pub met-kept : {s o s′ o′ : List ℕ} {c v : ℕ} → Asking D s o s′ o′ → Met s o c v → Met s′ o′ c v
+  met-kept {c = c} {v = v} a (inl d) = inl (a .kept c v d)
+  met-kept {c = c} a (inr on) = inr (a .others-kept c on)
 
   -- what a part of it asks is added
-  pub asking-then : {E : ℕ → ℕ → Type 0} {s₀ s s′ : List ℕ} → Asking E s₀ s → ((c v : ℕ) → D c v → E c v) → Asking D s s′ → Asking E s₀ s′
-  asking-then {E} {s₀} {s} old f a = record { long = a .long ∙ old .long; kept = λ c v d. a .kept c v (old .kept c v d); only = λ c v d. back c v (a .only c v d) }
+  pub asking-then : {E : ℕ → ℕ → Type 0} {s₀ o₀ s o s′ o′ : List ℕ} → Asking E s₀ o₀ s o → ((c v : ℕ) → D c v → E c v) → Asking D s o s′ o′ → Asking E s₀ o₀ s′ o′
+  asking-then {E} {s₀} {o₀} {s} {o} {s′} old f a = record {
+    long = a .long ∙ old .long;
+    others-long = a .others-long ∙ old .others-long;
+    kept = λ c v d. a .kept c v (old .kept c v d);
+    only = λ c v d. back c v (a .only c v d);
+    others-kept = λ c on. a .others-kept c (old .others-kept c on);
+    others-only = λ c v d. other c v (a .others-only c v d);
+  }
     where
       back : (c v : ℕ) → Demand s c v ⊎ D c v → Demand s₀ c v ⊎ E c v
       back c v (inl d) = old .only c v d
       back c v (inr d) = inr (f c v d)
 
-  pub asks-done : {s₀ s : List ℕ} → Asking D s₀ s → ((c v : ℕ) → D c v → Demand s c v) → Asks D s₀ s true
-  asks-done a m = record { asking = a; met = λ e. m; clash = λ e. absurd (true≢false e) }
+      still : (c v : ℕ) → Differs s c v → Differs s′ c v
+      still c v w = record { other = w .other; there = a .kept c (w .other) (w .there); differ = w .differ }
+
+      before : (c v : ℕ) → Demand o₀ c v ⊎ (E c v × Differs s c v) → Demand o₀ c v ⊎ (E c v × Differs s′ c v)
+      before c v (inl d) = inl d
+      before c v (inr w) = inr (w .0, still c v (w .1))
+
+      other : (c v : ℕ) → Demand o c v ⊎ (D c v × Differs s′ c v) → Demand o₀ c v ⊎ (E c v × Differs s′ c v)
+      other c v (inl d) = before c v (old .others-only c v d)
+      other c v (inr w) = inr (f c v (w .0), w .1)
+
+module _ {D E : ℕ → ℕ → Type 0} {s₀ o₀ s o : List ℕ} where
+  pub asks-map : ((c v : ℕ) → D c v → E c v) → ((c v : ℕ) → E c v → D c v) → Asks D s₀ o₀ s o → Asks E s₀ o₀ s o
+  asks-map f g a = record { asking = asking-then (asking-none s₀ o₀) f (a .asking); met = λ c v d. a .met c v (g c v d) }
+
+  -- one after the other
+  pub asks-then : {s′ o′ : List ℕ} → Asks D s₀ o₀ s o → Asks E s o s′ o′ → Asks (λ (c v : ℕ). D c v ⊎ E c v) s₀ o₀ s′ o′
+  asks-then {s′} {o′} a b = record { asking = asking-then (asking-then (asking-none s₀ o₀) (λ c v d. inl d) (a .asking)) (λ c v d. inr d) (b .asking); met = met-both }
+    where
+      met-both : (c v : ℕ) → D c v ⊎ E c v → Met s′ o′ c v
+      met-both c v (inl d) = met-kept (b .asking) (a .met c v d)
+      met-both c v (inr d) = b .met c v d
 
 -- ---- one cell
-module _ (s : List ℕ) (c v : ℕ) (l : c < length s) (pos : 1 ≤ v) where
+module _ (s o : List ℕ) (c v : ℕ) (l : c < length s) (m : c < length o) (pos : 1 ≤ v) where
   some-value : v ≡ 0 → ⊥
   some-value e = omega arith
 
+  wanted : {d w : ℕ} → Wants c v d w → (x : List ℕ) → getD x c 0 ≡ v → Demand x d w
+  wanted h x e = record { is = ap (λ (y : ℕ). getD x y 0) (h .code) ∙ (e ∙ sym (h .value)); some = λ n. some-value (sym (h .value) ∙ n) }
+
   -- nothing was asked of it
-  pub ask-new : {s′ : List ℕ} → getD s c 0 ≡ 0 → s′ ≡ set s c v → Asks (Wants c v) s s′ true
-  ask-new z e = subst (λ (x : List ℕ). Asks (Wants c v) s x true) (sym e) (record {
-    asking = record { long = length-set s c v; kept = λ d w h. kept-it d w h (ℕ-discrete d c); only = λ d w h. only-it d w h (ℕ-discrete d c) };
-    met = λ _ d w h. record { is = subst (λ (x : ℕ). getD (set s c v) x 0 ≡ w) (sym (h .code)) (getD-set-same s c v 0 l ∙ sym (h .value)); some = λ n. some-value (sym (h .value) ∙ n) };
-    clash = λ z. absurd (true≢false z);
-  })
+  pub ask-new : getD s c 0 ≡ 0 → Asks (Wants c v) s o (set s c v) o
+  ask-new z = record {
+    asking = record {
+      long = length-set s c v;
+      others-long = refl;
+      kept = λ d w h. kept-it d w h (ℕ-discrete d c);
+      only = λ d w h. only-it d w h (ℕ-discrete d c);
+      others-kept = λ d on. on;
+      others-only = λ d w h. inl h;
+    };
+    met = λ d w h. inl (wanted h (set s c v) (getD-set-same s c v 0 l));
+  }
     where
       kept-it : (d w : ℕ) → Demand s d w → Dec (d ≡ c) → Demand (set s c v) d w
       kept-it d w h (yes q) = absurd (h .some (sym (h .is) ∙ (ap (λ (x : ℕ). getD s x 0) q ∙ z)))
@@ -84,45 +99,66 @@ module _ (s : List ℕ) (c v : ℕ) (l : c < length s) (pos : 1 ≤ v) where
       only-it d w h (no n) = inl (record { is = sym (getD-set-other s c d v 0 n) ∙ h .is; some = h .some })
 
   -- the same was asked
-  pub ask-same : getD s c 0 ≡ v → Asks (Wants c v) s s true
-  ask-same e = asks-done (asking-none s) (λ d w h. record { is = ap (λ (x : ℕ). getD s x 0) (h .code) ∙ (e ∙ sym (h .value)); some = λ n. some-value (sym (h .value) ∙ n) })
+  pub ask-same : getD s c 0 ≡ v → Asks (Wants c v) s o s o
+  ask-same e = record { asking = asking-none s o; met = λ d w h. inl (wanted h s e) }
+
+  -- two things were asked
+  pub ask-third : (getD o c 0 ≡ 0 → ⊥) → Asks (Wants c v) s o s o
+  ask-third n = record { asking = asking-none s o; met = λ d w h. inr (on-at (sym (h .code)) (set-on n)) }
 
   -- something else was
-  pub ask-other : (getD s c 0 ≡ 0 → ⊥) → (getD s c 0 ≡ v → ⊥) → Asks (Wants c v) s s false
-  ask-other n m = record {
-    asking = asking-none s;
-    met = λ z. absurd (false≢true z);
-    clash = λ _. record { code = c; wanted = v; other = getD s c 0; wants = record { code = refl; value = refl }; there = record { is = refl; some = n }; differ = m };
+  pub ask-other : (getD s c 0 ≡ 0 → ⊥) → (getD s c 0 ≡ v → ⊥) → Asks (Wants c v) s o s (set o c v)
+  ask-other n f = record {
+    asking = record {
+      long = refl;
+      others-long = length-set o c v;
+      kept = λ d w h. h;
+      only = λ d w h. inl h;
+      others-kept = λ d on. kept-it d on (ℕ-discrete d c);
+      others-only = λ d w h. only-it d w h (ℕ-discrete d c);
+    };
+    met = λ d w h. inr (there d (h .code));
   }
+    where
+      there : (d : ℕ) → d ≡ c → On (set o c v) d
+      there d q = on-at (sym q) (set-on (λ z. some-value (sym (getD-set-same o c v 0 m) ∙ z)))
 
-pub asks-is : {D : ℕ → ℕ → Type 0} {s₀ s : List ℕ} {b x : Bool} → b ≡ x → Asks D s₀ s b → Asks D s₀ s x
-asks-is {D} {s₀} {s} e a = subst (Asks D s₀ s) e a
+      kept-it : (d : ℕ) → On o d → Dec (d ≡ c) → On (set o c v) d
+      kept-it d on (yes q) = there d q
+      kept-it d on (no k) = set-on (λ z. on .nonzero (sym (getD-set-other o c d v 0 k) ∙ z))
+
+      only-it : (d w : ℕ) → Demand (set o c v) d w → Dec (d ≡ c) → Demand o d w ⊎ (Wants c v d w × Differs s d w)
+      only-it d w h (yes q) =
+          let e : w ≡ v = sym (h .is) ∙ (ap (λ (x : ℕ). getD (set o c v) x 0) q ∙ getD-set-same o c v 0 m) in
+          let k : getD s d 0 ≡ getD s c 0 = ap (λ (x : ℕ). getD s x 0) q in
+          inr (record { code = q; value = e }, record { other = getD s c 0; there = record { is = k; some = n }; differ = λ z. f (z ∙ e) })
+      only-it d w h (no k) = inl (record { is = sym (getD-set-other o c d v 0 k) ∙ h .is; some = h .some })
 
 -- ---- the codes of a row
 
 -- all below c have what they want
-abbrev pub Below : List ℕ → ℕ → ℕ → ℕ → ℕ → List ℕ → ℕ → Type 0
-Below from start low codes demand s c = (d : ℕ) → d < c → (v : ℕ) → CodeAsks from start low codes demand d v → Demand s d v
+abbrev pub Below : List ℕ → ℕ → ℕ → ℕ → ℕ → List ℕ → List ℕ → ℕ → Type 0
+Below from start low codes demand s o c = (d : ℕ) → d < c → (v : ℕ) → CodeAsks from start low codes demand d v → Met s o d v
 
 module _ {from : List ℕ} {start low codes demand : ℕ} where
   pub wants-code : {c : ℕ} → low ≤ c → c < codes → On from (start + c) → (d v : ℕ) → Wants c demand d v → CodeAsks from start low codes demand d v
   wants-code {c} a b on d v w = subst (λ (x : ℕ). CodeAsks from start low codes demand x v) (sym (w .code)) (record { above = a; below = b; on = on; is = w .value })
 
-  pub codes-skip : {s : List ℕ} (c : ℕ) → Off from (start + c) → Below from start low codes demand s c → Below from start low codes demand s (c + 1)
+  pub codes-skip : {s o : List ℕ} (c : ℕ) → Off from (start + c) → Below from start low codes demand s o c → Below from start low codes demand s o (c + 1)
   codes-skip c off h = below-more _ c h (λ v w. absurd (w .on .nonzero off))
 
-  pub codes-more : {s s′ : List ℕ} {b : Bool} (c : ℕ) → Asks (Wants c demand) s s′ b → b ≡ true → Below from start low codes demand s c → Below from start low codes demand s′ (c + 1)
-  codes-more c a e h = below-more _ c (λ d l v w. a .asking .kept d v (h d l v w)) (λ v w. a .met e c v (record { code = refl; value = w .is }))
+  pub codes-more : {s o s′ o′ : List ℕ} (c : ℕ) → Asks (Wants c demand) s o s′ o′ → Below from start low codes demand s o c → Below from start low codes demand s′ o′ (c + 1)
+  codes-more c a h = below-more _ c (λ d l v w. met-kept (a .asking) (h d l v w)) (λ v w. a .met c v (record { code = refl; value = w .is }))
 
-  pub codes-all : {s₀ s : List ℕ} {c : ℕ} → codes ≤ c → Asking (CodeAsks from start low codes demand) s₀ s → Below from start low codes demand s c → Asks (CodeAsks from start low codes demand) s₀ s true
-  codes-all l a h = asks-done a (λ d v w. h d (omega (arith, w .below)) v w)
+  pub codes-all : {s₀ o₀ s o : List ℕ} {c : ℕ} → codes ≤ c → Asking (CodeAsks from start low codes demand) s₀ o₀ s o → Below from start low codes demand s o c → Asks (CodeAsks from start low codes demand) s₀ o₀ s o
+  codes-all l a h = record { asking = a; met = λ d v w. h d (omega (arith, w .below)) v w }
 
 -- ---- an item
 module _ {items nul fst from : List ℕ} {rules codes i k start : ℕ} where
   -- at its recognition point
-  pub announce-asks : {row₀ row : List ℕ} {s₀ s : List ℕ} {b : Bool} → markAt items i ≡ k → row₀ ≡ replicate 64 0
-      → Adds (FirstsAt items codes nul fst from start i k) row₀ row → Asks (CodeAsks row 0 0 codes (512 + i)) s₀ s b
-      → Asks (ItemAsks items nul fst from rules codes i k start) s₀ s b
+  pub announce-asks : {row₀ row : List ℕ} {s₀ o₀ s o : List ℕ} → markAt items i ≡ k → row₀ ≡ replicate 64 0
+      → Adds (FirstsAt items codes nul fst from start i k) row₀ row → Asks (CodeAsks row 0 0 codes (512 + i)) s₀ o₀ s o
+      → Asks (ItemAsks items nul fst from rules codes i k start) s₀ o₀ s o
   announce-asks {row₀} {row} m none r a = asks-map to-item of-item a
     where
       flagged : (c : ℕ) → On row₀ c ⊎ FirstsAt items codes nul fst from start i k c → FirstsAt items codes nul fst from start i k c
@@ -137,22 +173,22 @@ module _ {items nul fst from : List ℕ} {rules codes i k start : ℕ} where
       of-item c v (pops n hi len low on is) = absurd (n m)
 
   module _ (unmarked : markAt items i ≡ k → ⊥) where
-    pub rule-asks : (s : List ℕ) → i ≤ rules → Asks (ItemAsks items nul fst from rules codes i k start) s s true
-    rule-asks s l = asks-none s none
+    pub rule-asks : (s o : List ℕ) → i ≤ rules → Asks (ItemAsks items nul fst from rules codes i k start) s o s o
+    rule-asks s o l = asks-none s o none
       where
         none : (c v : ℕ) → ItemAsks items nul fst from rules codes i k start c v → ⊥
         none c v (announces e f is) = unmarked e
         none c v (pops n hi len low on is) = omega (arith, hi, l)
 
-    pub unfinished-asks : (s : List ℕ) → (lengthAt items i ≡ k → ⊥) → Asks (ItemAsks items nul fst from rules codes i k start) s s true
-    unfinished-asks s f = asks-none s none
+    pub unfinished-asks : (s o : List ℕ) → (lengthAt items i ≡ k → ⊥) → Asks (ItemAsks items nul fst from rules codes i k start) s o s o
+    unfinished-asks s o f = asks-none s o none
       where
         none : (c v : ℕ) → ItemAsks items nul fst from rules codes i k start c v → ⊥
         none c v (announces e w is) = unmarked e
         none c v (pops n hi len low on is) = f len
 
-    pub pop-asks : {s₀ s : List ℕ} {b : Bool} → rules < i → lengthAt items i ≡ k → Asks (CodeAsks from start 0 codes (768 + k)) s₀ s b
-        → Asks (ItemAsks items nul fst from rules codes i k start) s₀ s b
+    pub pop-asks : {s₀ o₀ s o : List ℕ} → rules < i → lengthAt items i ≡ k → Asks (CodeAsks from start 0 codes (768 + k)) s₀ o₀ s o
+        → Asks (ItemAsks items nul fst from rules codes i k start) s₀ o₀ s o
     pop-asks hi len a = asks-map (λ c v w. pops unmarked hi len (w .below) (w .on) (w .is)) of-item a
       where
         of-item : (c v : ℕ) → ItemAsks items nul fst from rules codes i k start c v → CodeAsks from start 0 codes (768 + k) c v
@@ -166,41 +202,19 @@ abbrev pub LineAsks : List ℕ → List ℕ → List ℕ → List ℕ → List �
 LineAsks items nul fst kernels lookaheads rules codes l c v = ItemAsks items nul fst lookaheads rules codes (itemAt kernels l) (dotAt kernels l) (l * 64) c v
 
 module _ {items nul fst : List ℕ} (kernels : List ℕ) {lookaheads : List ℕ} {rules codes : ℕ} (l : ℕ) where
-  pub line-asks : {i k : ℕ} {s s′ : List ℕ} {b : Bool} → i ≡ itemAt kernels l → k ≡ dotAt kernels l
-      → Asks (ItemAsks items nul fst lookaheads rules codes i k (l * 64)) s s′ b → Asks (LineAsks items nul fst kernels lookaheads rules codes l) s s′ b
-  line-asks {s = s} {s′ = s′} {b = b} ei ek a = subst₂ (λ (j n : ℕ). Asks (ItemAsks items nul fst lookaheads rules codes j n (l * 64)) s s′ b) ei ek a
+  pub line-asks : {i k : ℕ} {s o s′ o′ : List ℕ} → i ≡ itemAt kernels l → k ≡ dotAt kernels l
+      → Asks (ItemAsks items nul fst lookaheads rules codes i k (l * 64)) s o s′ o′ → Asks (LineAsks items nul fst kernels lookaheads rules codes l) s o s′ o′
+  line-asks {s = s} {o = o} {s′ = s′} {o′ = o′} ei ek a = subst₂ (λ (j n : ℕ). Asks (ItemAsks items nul fst lookaheads rules codes j n (l * 64)) s o s′ o′) ei ek a
 
   pub of-line : {lines q : ℕ} → l < lines → stateAt kernels l ≡ q
       → (c v : ℕ) → LineAsks items nul fst kernels lookaheads rules codes l c v → LinesAsk items nul fst kernels lookaheads rules lines codes q c v
   of-line low e c v w = record { line = l; low = low; state = e; asks = w }
 
--- ---- three parts, one after the other
-module _ {D E G : ℕ → ℕ → Type 0} {s₀ s : List ℕ} {b₁ : Bool} where
-  pub first-clash : Asks D s₀ s b₁ → b₁ ≡ false → Asks (λ (c v : ℕ). D c v ⊎ (E c v ⊎ G c v)) s₀ s false
-  first-clash a e = asks-fail (asking-none s₀) (λ c v d. inl d) a e
-
-  pub second-clash : {s′ : List ℕ} {b₂ : Bool} → Asks D s₀ s b₁ → Asks E s s′ b₂ → b₂ ≡ false → Asks (λ (c v : ℕ). D c v ⊎ (E c v ⊎ G c v)) s₀ s′ false
-  second-clash a b e = asks-fail (asking-map (λ c v d. inl d) (a .asking)) (λ c v d. inr (inl d)) b e
-
-  third-asking : {s′ : List ℕ} {b₂ : Bool} → Asks D s₀ s b₁ → Asks E s s′ b₂ → Asking (λ (c v : ℕ). D c v ⊎ (E c v ⊎ G c v)) s₀ s′
-  third-asking a b = asking-then (asking-map (λ c v d. inl d) (a .asking)) (λ c v d. inr (inl d)) (b .asking)
-
-  pub third-clash : {s′ s″ : List ℕ} {b₂ b₃ : Bool} → Asks D s₀ s b₁ → Asks E s s′ b₂ → Asks G s′ s″ b₃ → b₃ ≡ false → Asks (λ (c v : ℕ). D c v ⊎ (E c v ⊎ G c v)) s₀ s″ false
-  third-clash a b d e = asks-fail (third-asking a b) (λ c v d. inr (inr d)) d e
-
-  pub all-met : {s′ s″ : List ℕ} {b₂ b₃ : Bool} → Asks D s₀ s b₁ → b₁ ≡ true → Asks E s s′ b₂ → b₂ ≡ true → Asks G s′ s″ b₃ → b₃ ≡ true → Asks (λ (c v : ℕ). D c v ⊎ (E c v ⊎ G c v)) s₀ s″ true
-  all-met {s″ = s″} a e b f d h = asks-done (asking-then (third-asking a b) (λ c v d. inr (inr d)) (d .asking)) met-all
-    where
-      met-all : (c v : ℕ) → D c v ⊎ (E c v ⊎ G c v) → Demand s″ c v
-      met-all c v (inl w) = d .asking .kept c v (b .asking .kept c v (a .met e c v w))
-      met-all c v (inr (inl w)) = d .asking .kept c v (b .met f c v w)
-      met-all c v (inr (inr w)) = d .met h c v w
-
 -- a rule that the closure adds
-pub rule-row : {items nul fst follow : List ℕ} {rules codes i left : ℕ} {s s′ : List ℕ} {b : Bool} → left ≡ leftAt items i
-    → Asks (ItemAsks items nul fst follow rules codes i 0 ((left - 64) * 64)) s s′ b → Asks (RuleAsks items nul fst follow rules codes i) s s′ b
-rule-row {items} {nul} {fst} {follow} {rules} {codes} {i} {s = s} {s′ = s′} {b = b} e a =
-    subst (λ (n : ℕ). Asks (ItemAsks items nul fst follow rules codes i 0 ((n - 64) * 64)) s s′ b) e a
+pub rule-row : {items nul fst follow : List ℕ} {rules codes i left : ℕ} {s o s′ o′ : List ℕ} → left ≡ leftAt items i
+    → Asks (ItemAsks items nul fst follow rules codes i 0 ((left - 64) * 64)) s o s′ o′ → Asks (RuleAsks items nul fst follow rules codes i) s o s′ o′
+rule-row {items} {nul} {fst} {follow} {rules} {codes} {i} {s = s} {o = o} {s′ = s′} {o′ = o′} e a =
+    subst (λ (n : ℕ). Asks (ItemAsks items nul fst follow rules codes i 0 ((n - 64) * 64)) s o s′ o′) e a
 
 pub zero-length : {s : List ℕ} → s ≡ replicate 64 0 → length s ≡ 64
 zero-length e = ap length e ∙ length-replicate {A = ℕ} 64 0

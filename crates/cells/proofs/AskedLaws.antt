@@ -2,9 +2,10 @@
 use Prim.Native.Nat.{ℕ, suc, _-_, _≤_, _<_}
 use mathlib.Core.Path.{_≡_, refl, sym, ap, subst, subst₂, _∙_}
 use mathlib.Core.Logic.{_⊎_, inl, inr}
-use mathlib.Core.Bool.{Bool, true, false, cond, _&&_}
+use mathlib.Core.Bool.{Bool, true, cond, _&&_}
 use mathlib.Core.List.{List}
 use mathlib.Core.Option.{some}
+use native.Mathlib.Decide.{ℕ-discrete}
 use native.Mathlib.Omega.{arith}
 use borrow.Author.Tests.{le-leb}
 use lib.Dec.{leb}
@@ -18,8 +19,8 @@ use Rattle.leftcorner.specs.Table.{Table, Action, S, A, P, symbolsOf, stringOf,
 use Rattle.leftcorner.specs.Construction.{entryItem, EntryAt, Has, MovedBy, moved, Carries, Asked, to-move, to-announce, to-pop, CellsAgree}
 use Rattle.leftcorner.proofs.Sources.{symbols-rule, symbols-entry, entry-high}
 use Rattle.items.specs.Layout.{lengthAt, markAt}
-use Rattle.fixpoint.specs.Flags.{On, Decides}
-use Rattle.fixpoint.proofs.PassLaws.{none-on}
+use Rattle.fixpoint.specs.Flags.{On, Off, Decides}
+use Rattle.fixpoint.proofs.PassLaws.{none-on, set-on}
 use Rattle.memory.specs.Memory.{itemAt, dotAt, popValue}
 use Rattle.memory.specs.Held.{Held}
 use Rattle.analysis.specs.FirstBy.{FirstBy, first-low}
@@ -33,7 +34,7 @@ use Rattle.carried.specs.Rows.{RowOf}
 use Rattle.carried.specs.Rows as rows
 use Rattle.carried.proofs.FirstLaws.{at-zero}
 use Rattle.carried.proofs.CarryLaws.{row-declared, code-low, row-carries, carries-row}
-use Rattle.cells.specs.Demands.{Demand, Asks, CodeAsks, ItemAsks, announces, pops, LinesAsk, RulesAsk, demandOf, HoldsAsked}
+use Rattle.cells.specs.Demands.{Demand, Differs, Met, Asks, CodeAsks, ItemAsks, announces, pops, LinesAsk, RulesAsk, demandOf, HoldsAsked, Conflict, HoldsConflicts}
 
 -- a count that is right
 pub pop-value : (n : ℕ) → n ≤ 15 → popValue (suc n) ≡ n
@@ -63,6 +64,11 @@ pub some-demand : {x : Action} → Askable x → demandOf x ≡ 0 → ⊥
 some-demand a-shift e = omega (arith, e)
 some-demand (an-announce i l) e = omega (arith, e)
 some-demand (a-pop n l) e = omega (arith, e)
+
+-- a code that is named shows that one cell would hold two different actions
+pub refutes-conflict : {g : Grammar} {t : Table} {F : List ℕ → ℕ → ℕ → Type 0} {q c : ℕ} {asked others : List ℕ}
+    → HoldsConflicts g t F q asked others → c < 64 → On others c → CellsAgree g t F q → ⊥
+refutes-conflict {c = c} C l on u = let k = C .only c l on in k .differ (u .one c (k .first) (k .second) (k .first-asked) (k .second-asked))
 
 module _ (g : Grammar) (t : Table) {items entries kernels lookaheads kinds values gotos : List ℕ} {rules strings lines : ℕ}
     (H : Held g t items entries kernels lookaheads kinds values gotos rules strings lines) where
@@ -195,29 +201,64 @@ module _ (g : Grammar) (t : Table) {items entries kernels lookaheads kinds value
           row-asks (w .row) (pops (λ m. omega (arith, z .mark-is, m, short)) (omega (arith, entry-high g t k s γ e, H .rule-count)) (z .length-is) (w .low) (w .on)
           (omega (arith, pop-value (length γ) short)))
 
-      module _ {asked₀ asked : List ℕ} {b : Bool} (none : asked₀ ≡ replicate 64 0) (a : Asks StateAsks asked₀ asked b) where
+      module _ {asked₀ others₀ asked others : List ℕ} (none : asked₀ ≡ replicate 64 0) (no-others : others₀ ≡ replicate 64 0) (a : Asks StateAsks asked₀ others₀ asked others) where
+        nothing : {s : List ℕ} {c v : ℕ} → s ≡ replicate 64 0 → Demand s c v → ⊥
+        nothing {c = c} z d = d .some (sym (d .is) ∙ subst (λ (s : List ℕ). getD s c 0 ≡ 0) (sym z) (none-on 64 c))
+
         new-asked : {c v : ℕ} → Demand asked c v → StateAsks c v
         new-asked {c} {v} d = go (a .asking .only c v d)
           where
             go : Demand asked₀ c v ⊎ StateAsks c v → StateAsks c v
-            go (inl e) = absurd (e .some (sym (e .is) ∙ subst (λ (s : List ℕ). getD s c 0 ≡ 0) (sym none) (none-on 64 c)))
+            go (inl e) = absurd (nothing none e)
             go (inr w) = w
 
-        pub holds-asked : b ≡ true → HoldsAsked g t (FirstBy codes nul fst) q asked
-        holds-asked e = record {
-          only = λ c l on. state-asked (new-asked (record { is = refl; some = on .nonzero }));
-          every = λ c x l h. a .met e c (demandOf x) (asked-state l h) .is;
-        }
+        new-other : {c v : ℕ} → Demand others c v → StateAsks c v × Differs asked c v
+        new-other {c} {v} d = go (a .asking .others-only c v d)
+          where
+            go : Demand others₀ c v ⊎ (StateAsks c v × Differs asked c v) → StateAsks c v × Differs asked c v
+            go (inl e) = absurd (nothing no-others e)
+            go (inr w) = w
 
-        cells-agree : b ≡ true → CellsAgree g t (FirstBy codes nul fst) q
-        cells-agree e = agree-below (λ X x y l m h k. let ha = holds-asked e in sym (ha .every X x m h) ∙ ha .every X y m k)
+        -- nothing else is asked
+        alone : {c : ℕ} {x : Action} → c < 64 → Off others c → Asked g t (FirstBy codes nul fst) q c x → getD asked c 0 ≡ demandOf x
+        alone {c} {x} l off h = go (a .met c (demandOf x) (asked-state l h))
+          where
+            go : Met asked others c (demandOf x) → getD asked c 0 ≡ demandOf x
+            go (inl d) = d .is
+            go (inr on) = absurd (on .nonzero off)
 
-        cells-clash : b ≡ false → CellsAgree g t (FirstBy codes nul fst) q → ⊥
-        cells-clash e u =
-            let k = a .clash e in
-            let x = state-asked (k .wants) in
-            let y = state-asked (new-asked (k .there)) in
-            k .differ (sym (y .2) ∙ (ap demandOf (u .one (k .code) (y .0) (x .0) (y .1) (x .1)) ∙ x .2))
+        pub holds-conflicts : HoldsConflicts g t (FirstBy codes nul fst) q asked others
+        holds-conflicts = record { only = λ c l on. two c (new-other (record { is = refl; some = on .nonzero })); every = λ c x y l h k n. noted c x y l h k n (ℕ-discrete (getD others c 0) 0) }
+          where
+            two : (c : ℕ) → StateAsks c (getD others c 0) × Differs asked c (getD others c 0) → Conflict g t (FirstBy codes nul fst) q c (getD asked c 0) (getD others c 0)
+            two c w =
+                let x = state-asked (new-asked (w .1 .there)) in
+                let y = state-asked (w .0) in
+                record {
+                  first = x .0;
+                  second = y .0;
+                  first-asked = x .1;
+                  second-asked = y .1;
+                  first-number = x .2 ∙ sym (w .1 .there .is);
+                  second-number = y .2;
+                  differ = λ e. w .1 .differ (sym (x .2) ∙ (ap demandOf e ∙ y .2));
+                }
 
-        pub decides-agree : Decides (CellsAgree g t (FirstBy codes nul fst) q) b
-        decides-agree = record { yes = cells-agree; no = cells-clash }
+            noted : (c : ℕ) (x y : Action) → c < 64 → Asked g t (FirstBy codes nul fst) q c x → Asked g t (FirstBy codes nul fst) q c y → (x ≡ y → ⊥)
+                → Dec (Off others c) → On others c
+            noted c x y l h k n (yes z) = absurd (n (same-action (askable h) (askable k) (sym (alone l z h) ∙ alone l z k)))
+            noted c x y l h k n (no f) = set-on f
+
+        module _ {b : Bool} (d : Decides ((c : ℕ) → c < 64 → Off others c) b) where
+          pub holds-asked : b ≡ true → HoldsAsked g t (FirstBy codes nul fst) q asked
+          holds-asked e = record {
+            only = λ c l on. state-asked (new-asked (record { is = refl; some = on .nonzero }));
+            every = λ c x l h. alone l (d .yes e c l) h;
+          }
+
+          pub decides-agree : Decides (CellsAgree g t (FirstBy codes nul fst) q) b
+          decides-agree = record { yes = λ e. agree-below (λ X x y l m h k. sym (alone m (d .yes e X m) h) ∙ alone m (d .yes e X m) k); no = λ e u. d .no e (λ c l. off c l u (ℕ-discrete (getD others c 0) 0)) }
+            where
+              off : (c : ℕ) → c < 64 → CellsAgree g t (FirstBy codes nul fst) q → Dec (Off others c) → Off others c
+              off c l u (yes z) = z
+              off c l u (no f) = absurd (refutes-conflict holds-conflicts l (set-on f) u)

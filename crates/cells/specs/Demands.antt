@@ -3,7 +3,6 @@
 use Prim.Native.Nat.{ℕ, _+_, _*_, _-_, _≤_, _<_}
 use mathlib.Core.Path.{_≡_}
 use mathlib.Core.Logic.{_⊎_}
-use mathlib.Core.Bool.{Bool, true, false}
 use mathlib.Core.List.{List}
 use lib.ListN.{length, getD}
 use Rattle.language.specs.Grammar.{Grammar}
@@ -20,26 +19,29 @@ pub record Demand (asked : List ℕ) (c v : ℕ) : Type 0 where
   pub is : getD asked c 0 ≡ v
   pub some : v ≡ 0 → ⊥
 
--- what was asked still is, and what is new is of D
-pub record Asking (D : ℕ → ℕ → Type 0) (asked₀ asked : List ℕ) : Type 0 where
+-- something is asked of code c's cell that is not v
+pub record Differs (asked : List ℕ) (c v : ℕ) : Type 0 where
+  pub other : ℕ
+  pub there : Demand asked c other
+  pub differ : other ≡ v → ⊥
+
+-- v is asked of code c's cell, or something else beside what is
+abbrev pub Met : List ℕ → List ℕ → ℕ → ℕ → Type 0
+Met asked others c v = Demand asked c v ⊎ On others c
+
+-- what was asked still is, and what is new is of D; so are others, which differ from what is asked
+pub record Asking (D : ℕ → ℕ → Type 0) (asked₀ others₀ asked others : List ℕ) : Type 0 where
   pub long : length asked ≡ length asked₀
+  pub others-long : length others ≡ length others₀
   pub kept : (c v : ℕ) → Demand asked₀ c v → Demand asked c v
   pub only : (c v : ℕ) → Demand asked c v → Demand asked₀ c v ⊎ D c v
+  pub others-kept : (c : ℕ) → On others₀ c → On others c
+  pub others-only : (c v : ℕ) → Demand others c v → Demand others₀ c v ⊎ (D c v × Differs asked c v)
 
--- D wants something of a cell of which something else is asked
-pub record Clash (D : ℕ → ℕ → Type 0) (asked : List ℕ) : Type 0 where
-  pub code : ℕ
-  pub wanted : ℕ
-  pub other : ℕ
-  pub wants : D code wanted
-  pub there : Demand asked code other
-  pub differ : other ≡ wanted → ⊥
-
--- all that D wants is asked, or there is a clash
-pub record Asks (D : ℕ → ℕ → Type 0) (asked₀ asked : List ℕ) (b : Bool) : Type 0 where
-  pub asking : Asking D asked₀ asked
-  pub met : b ≡ true → (c v : ℕ) → D c v → Demand asked c v
-  pub clash : b ≡ false → Clash D asked
+-- all that D wants is asked
+pub record Asks (D : ℕ → ℕ → Type 0) (asked₀ others₀ asked others : List ℕ) : Type 0 where
+  pub asking : Asking D asked₀ others₀ asked others
+  pub met : (c v : ℕ) → D c v → Met asked others c v
 
 pub record Wants (c₀ v₀ c v : ℕ) : Type 0 where
   pub code : c ≡ c₀
@@ -87,3 +89,19 @@ demandOf (P n) = 768 + popValue n
 pub record HoldsAsked (g : Grammar) (t : Table) (F : List ℕ → ℕ → ℕ → Type 0) (q : ℕ) (asked : List ℕ) : Type 0 where
   pub only : (c : ℕ) → c < 64 → On asked c → (x : Action) × Asked g t F q c x × (demandOf x ≡ getD asked c 0)
   pub every : (c : ℕ) (x : Action) → c < 64 → Asked g t F q c x → getD asked c 0 ≡ demandOf x
+
+-- two different actions that the items of q ask of code c's cell, and their numbers. Document 01, 'Replies': "one cell would hold two different
+-- actions".
+pub record Conflict (g : Grammar) (t : Table) (F : List ℕ → ℕ → ℕ → Type 0) (q c v w : ℕ) : Type 0 where
+  pub first : Action
+  pub second : Action
+  pub first-asked : Asked g t F q c first
+  pub second-asked : Asked g t F q c second
+  pub first-number : demandOf first ≡ v
+  pub second-number : demandOf second ≡ w
+  pub differ : first ≡ second → ⊥
+
+-- others are named exactly where two different actions are asked of one cell; such a number and the one that is asked are then those of two
+pub record HoldsConflicts (g : Grammar) (t : Table) (F : List ℕ → ℕ → ℕ → Type 0) (q : ℕ) (asked others : List ℕ) : Type 0 where
+  pub only : (c : ℕ) → c < 64 → On others c → Conflict g t F q c (getD asked c 0) (getD others c 0)
+  pub every : (c : ℕ) (x y : Action) → c < 64 → Asked g t F q c x → Asked g t F q c y → (x ≡ y → ⊥) → On others c

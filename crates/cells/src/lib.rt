@@ -12,7 +12,7 @@ ghost use Rattle.language.specs.Grammar.{Grammar};
 ghost use Rattle.leftcorner.specs.Table.{Table};
 ghost use Rattle.leftcorner.specs.Construction.{CellsAgree, CellsMeet};
 ghost use Rattle.items.specs.Layout.{leftAt};
-ghost use Rattle.fixpoint.specs.Flags.{On, Decides};
+ghost use Rattle.fixpoint.specs.Flags.{Off, Decides};
 ghost use Rattle.fixpoint.specs.Misses.{Any, Misses};
 ghost use Rattle.memory.specs.Held.{Held};
 ghost use Rattle.analysis.specs.FirstBy.{FirstBy};
@@ -20,23 +20,35 @@ ghost use Rattle.closure.specs.Expansion.{HoldsClosure};
 ghost use Rattle.moves.specs.Moves.{Lined, Readable, Cells};
 ghost use Rattle.moves.specs.Flags.{HoldsMoves};
 ghost use Rattle.carried.specs.Rows.{Ready};
-ghost use Rattle.cells.specs.Demands.{Asks, Wants, CodeAsks, ItemAsks, RuleAsks, LinesAsk, RulesAsk, HoldsAsked};
+ghost use Rattle.cells.specs.Demands.{Asks, Wants, CodeAsks, ItemAsks, RuleAsks, LinesAsk, RulesAsk, HoldsAsked, HoldsConflicts};
 ghost use Rattle.cells.specs.Contents.{demandAt, GotoMeets};
 
-// Asks for `demand` in the cell for code c. The answer is no where something else was asked.
-fn ask(asked: &mut [usize], c: usize, demand: usize) -> bool
-    requires { ⌜ (length (now asked) ≡ 64) × (c < 64) × (1 ≤ demand) ⌝ }
-    ensures { λ b. ⌜ Asks (Wants c demand) (now (asked .entry)) (now (asked .exit)) b ⌝ }
+// An action that is asked of a cell is a number, 0 for none: so many times its kind, and its value.
+pub const VALUES: usize = 256;
+
+pub const SHIFT: usize = 256;
+// And the rule.
+pub const ANNOUNCE: usize = 512;
+// And the length of the entry.
+pub const POP: usize = 768;
+
+// Asks for `demand` in the cell for code c. Where something else was asked first, `others` keeps the first that differs.
+fn ask(asked: &mut [usize], others: &mut [usize], c: usize, demand: usize)
+    requires { ⌜ (length (now asked) ≡ 64) × (length (now others) ≡ 64) × (c < 64) × (1 ≤ demand) ⌝ }
+    ensures { λ _. ⌜ Asks (Wants c demand) (now (asked .entry)) (now (others .entry)) (now (asked .exit)) (now (others .exit)) ⌝ }
 {
     let before = asked[c];
     if before == 0 {
         asked[c] = demand;
-        return true;
+        return;
     }
-    if before != demand {
-        return false;
+    if before == demand {
+        return;
     }
-    true
+    if others[c] != 0 {
+        return;
+    }
+    others[c] = demand;
 }
 
 // Asks for it in the cell of each code that is flagged, from code `low` on.
@@ -47,10 +59,11 @@ fn ask_codes(
     codes: usize,
     demand: usize,
     asked: &mut [usize],
-) -> bool
+    others: &mut [usize],
+)
     requires { ⌜ (start + 64 ≤ length (now from)) × (codes ≤ 64) × (1 ≤ demand) ⌝ }
-    requires { ⌜ length (now asked) ≡ 64 ⌝ }
-    ensures { λ b. ⌜ Asks (CodeAsks (now (from .entry)) start low codes demand) (now (asked .entry)) (now (asked .exit)) b ⌝ }
+    requires { ⌜ (length (now asked) ≡ 64) × (length (now others) ≡ 64) ⌝ }
+    ensures { λ _. ⌜ Asks (CodeAsks (now (from .entry)) start low codes demand) (now (asked .entry)) (now (others .entry)) (now (asked .exit)) (now (others .exit)) ⌝ }
 {
     let mut c = low;
     while c < codes {
@@ -58,12 +71,9 @@ fn ask_codes(
             c += 1;
             continue;
         }
-        if !ask(asked, c, demand) {
-            return false;
-        }
+        ask(asked, others, c, demand);
         c += 1;
     }
-    true
 }
 
 // Asks what item i with dot k asks, where the flags of its lookaheads stand from `start` on.
@@ -79,30 +89,26 @@ pub fn ask_item(
     k: usize,
     start: usize,
     asked: &mut [usize],
-) -> bool
+    others: &mut [usize],
+)
     requires { ⌜ Ready (now items) (now nul) (now fst) count codes ⌝ }
     requires { ⌜ (i ≤ count) × (i < 256) × (k ≤ 15) × (start + 64 ≤ length (now from)) ⌝ }
-    requires { ⌜ length (now asked) ≡ 64 ⌝ }
-    ensures { λ b. ⌜ Asks (ItemAsks (now (items .entry)) (now (nul .entry)) (now (fst .entry)) (now (from .entry)) rules codes i k start) (now (asked .entry)) (now (asked .exit)) b ⌝ }
+    requires { ⌜ (length (now asked) ≡ 64) × (length (now others) ≡ 64) ⌝ }
+    ensures { λ _. ⌜ Asks (ItemAsks (now (items .entry)) (now (nul .entry)) (now (fst .entry)) (now (from .entry)) rules codes i k start) (now (asked .entry)) (now (others .entry)) (now (asked .exit)) (now (others .exit)) ⌝ }
 {
     if items::mark_of(items, count, i) == k {
         let mut row = [0u8; CODES];
         carried::item_first(items, count, i, k, codes, nul, fst, from, start, &mut row);
-        if !ask_codes(&row, 0, 0, codes, 512 + i, asked) {
-            return false;
-        }
-        return true;
+        ask_codes(&row, 0, 0, codes, ANNOUNCE + i, asked, others);
+        return;
     }
     if i <= rules {
-        return true;
+        return;
     }
     if items::length_of(items, count, i) != k {
-        return true;
+        return;
     }
-    if !ask_codes(from, start, 0, codes, 768 + k, asked) {
-        return false;
-    }
-    true
+    ask_codes(from, start, 0, codes, POP + k, asked, others);
 }
 
 // Asks what the kernel items of q ask.
@@ -119,18 +125,20 @@ fn ask_lines(
     codes: usize,
     q: usize,
     asked: &mut [usize],
-) -> bool
+    others: &mut [usize],
+)
     requires { ⌜ Lined (now items) (now kernels) (now links) count lines ⌝ }
     requires { ⌜ Ready (now items) (now nul) (now fst) count codes ⌝ }
-    requires { ⌜ (count < 256) × (q < 256) × (lines * 64 ≤ length (now lookaheads)) × (length (now asked) ≡ 64) ⌝ }
-    ensures { λ b. ⌜ Asks (LinesAsk (now (items .entry)) (now (nul .entry)) (now (fst .entry)) (now (kernels .entry)) (now (lookaheads .entry)) rules lines codes q) (now (asked .entry)) (now (asked .exit)) b ⌝ }
+    requires { ⌜ (count < 256) × (q < 256) × (lines * 64 ≤ length (now lookaheads)) ⌝ }
+    requires { ⌜ (length (now asked) ≡ 64) × (length (now others) ≡ 64) ⌝ }
+    ensures { λ _. ⌜ Asks (LinesAsk (now (items .entry)) (now (nul .entry)) (now (fst .entry)) (now (kernels .entry)) (now (lookaheads .entry)) rules lines codes q) (now (asked .entry)) (now (others .entry)) (now (asked .exit)) (now (others .exit)) ⌝ }
 {
     let mut p = kernel_lines::last_line(kernels, links, lines, q);
     while 0 < p {
         let l = p - 1;
         let i = kernel_lines::item_of(kernels, lines, count, l);
         let k = kernel_lines::dot_of(kernels, lines, count, l);
-        if !ask_item(
+        ask_item(
             items,
             nul,
             fst,
@@ -142,12 +150,10 @@ fn ask_lines(
             k,
             l * CODES,
             asked,
-        ) {
-            return false;
-        }
+            others,
+        );
         p = kernel_lines::line_before(kernels, links, lines, l);
     }
-    true
 }
 
 // Asks what rule i asks, which the closure adds.
@@ -161,14 +167,15 @@ fn ask_rule(
     codes: usize,
     i: usize,
     asked: &mut [usize],
-) -> bool
+    others: &mut [usize],
+)
     requires { ⌜ Ready (now items) (now nul) (now fst) count codes ⌝ }
-    requires { ⌜ (i ≤ count) × (i < 256) × (64 ≤ leftAt (now items) i) ⌝ }
-    requires { ⌜ (length (now follow) ≡ 4096) × (length (now asked) ≡ 64) ⌝ }
-    ensures { λ b. ⌜ Asks (RuleAsks (now (items .entry)) (now (nul .entry)) (now (fst .entry)) (now (follow .entry)) rules codes i) (now (asked .entry)) (now (asked .exit)) b ⌝ }
+    requires { ⌜ (i ≤ count) × (i < 256) × (64 ≤ leftAt (now items) i) × (length (now follow) ≡ 4096) ⌝ }
+    requires { ⌜ (length (now asked) ≡ 64) × (length (now others) ≡ 64) ⌝ }
+    ensures { λ _. ⌜ Asks (RuleAsks (now (items .entry)) (now (nul .entry)) (now (fst .entry)) (now (follow .entry)) rules codes i) (now (asked .entry)) (now (others .entry)) (now (asked .exit)) (now (others .exit)) ⌝ }
 {
     let left = items::left_of(items, count, i);
-    if !ask_item(
+    ask_item(
         items,
         nul,
         fst,
@@ -180,10 +187,8 @@ fn ask_rule(
         0,
         (left - Symbol::FIRST_NONTERMINAL) * CODES,
         asked,
-    ) {
-        return false;
-    }
-    true
+        others,
+    );
 }
 
 // Asks what the rules ask that the closure adds.
@@ -197,11 +202,13 @@ fn ask_rules(
     rules: usize,
     codes: usize,
     asked: &mut [usize],
-) -> bool
+    others: &mut [usize],
+)
     requires { ⌜ Ready (now items) (now nul) (now fst) count codes ⌝ }
     requires { ⌜ (rules ≤ count) × (count < 256) ⌝ }
-    requires { ⌜ (length (now present) ≡ 64) × (length (now follow) ≡ 4096) × (length (now asked) ≡ 64) ⌝ }
-    ensures { λ b. ⌜ Asks (RulesAsk (now (items .entry)) (now (nul .entry)) (now (fst .entry)) (now (present .entry)) (now (follow .entry)) rules codes) (now (asked .entry)) (now (asked .exit)) b ⌝ }
+    requires { ⌜ (length (now present) ≡ 64) × (length (now follow) ≡ 4096) ⌝ }
+    requires { ⌜ (length (now asked) ≡ 64) × (length (now others) ≡ 64) ⌝ }
+    ensures { λ _. ⌜ Asks (RulesAsk (now (items .entry)) (now (nul .entry)) (now (fst .entry)) (now (present .entry)) (now (follow .entry)) rules codes) (now (asked .entry)) (now (others .entry)) (now (asked .exit)) (now (others .exit)) ⌝ }
 {
     let mut i = 1;
     while i <= rules {
@@ -209,15 +216,39 @@ fn ask_rules(
             i += 1;
             continue;
         }
-        if !ask_rule(items, follow, nul, fst, count, rules, codes, i, asked) {
+        ask_rule(
+            items,
+            follow,
+            nul,
+            fst,
+            count,
+            rules,
+            codes,
+            i,
+            asked,
+            others,
+        );
+        i += 1;
+    }
+}
+
+// Whether nothing else was asked of any cell.
+fn agree(others: &[usize]) -> bool
+    requires { ⌜ length (now others) ≡ 64 ⌝ }
+    ensures { λ b. ⌜ Decides ((c : ℕ) → c < 64 → Off (now (others .entry)) c) b ⌝ }
+{
+    let mut c = 0;
+    while c < CODES {
+        if others[c] != 0 {
             return false;
         }
-        i += 1;
+        c += 1;
     }
     true
 }
 
-// Fills in what the items of q ask of each code's cell. The answer is no where they ask two different things of one.
+// Fills in what the items of q ask of each code's cell: first `asked`, and the first that differs from it in `others`. The answer is no where
+// they ask two different things of one.
 pub fn ask_cells(
     items: &[u8],
     kernels: &[u8],
@@ -234,18 +265,18 @@ pub fn ask_cells(
     codes: usize,
     q: usize,
     asked: &mut [usize],
+    others: &mut [usize],
 ) -> bool
     requires { ⌜ Readable (now items) (now kernels) (now links) (now present) count rules lines ⌝ }
     requires { ⌜ Ready (now items) (now nul) (now fst) count codes ⌝ }
     requires { ⌜ (count < 256) × (q < 256) × (lines * 64 ≤ length (now lookaheads)) ⌝ }
-    requires { ⌜ (length (now follow) ≡ 4096) × (length (now moves) ≡ 128) × (now asked ≡ replicate 64 0) ⌝ }
-    ensures { λ b. ⌜ length (now (asked .exit)) ≡ 64 ⌝ }
-    ensures { λ b. ⌜ ((g : Grammar) (t : Table) (entries kinds values gotos : List ℕ) (strings : ℕ) → Held g t (now (items .entry)) entries (now (kernels .entry)) (now (lookaheads .entry)) kinds values gotos rules strings lines → codes ≡ suc (g .terminals) → HoldsClosure g t (FirstBy codes (now (nul .entry)) (now (fst .entry))) q (now (present .entry)) (now (follow .entry)) → HoldsMoves g t q (now (moves .entry)) → Decides (CellsAgree g t (FirstBy codes (now (nul .entry)) (now (fst .entry))) q) b × (b ≡ true → HoldsAsked g t (FirstBy codes (now (nul .entry)) (now (fst .entry))) q (now (asked .exit)))) ⌝ }
+    requires { ⌜ (length (now follow) ≡ 4096) × (length (now moves) ≡ 128) ⌝ }
+    requires { ⌜ (now asked ≡ replicate 64 0) × (now others ≡ replicate 64 0) ⌝ }
+    ensures { λ b. ⌜ (length (now (asked .exit)) ≡ 64) × (length (now (others .exit)) ≡ 64) ⌝ }
+    ensures { λ b. ⌜ ((g : Grammar) (t : Table) (entries kinds values gotos : List ℕ) (strings : ℕ) → Held g t (now (items .entry)) entries (now (kernels .entry)) (now (lookaheads .entry)) kinds values gotos rules strings lines → codes ≡ suc (g .terminals) → HoldsClosure g t (FirstBy codes (now (nul .entry)) (now (fst .entry))) q (now (present .entry)) (now (follow .entry)) → HoldsMoves g t q (now (moves .entry)) → Decides (CellsAgree g t (FirstBy codes (now (nul .entry)) (now (fst .entry))) q) b × (b ≡ true → HoldsAsked g t (FirstBy codes (now (nul .entry)) (now (fst .entry))) q (now (asked .exit))) × HoldsConflicts g t (FirstBy codes (now (nul .entry)) (now (fst .entry))) q (now (asked .exit)) (now (others .exit))) ⌝ }
 {
-    if !ask_codes(moves, 0, 1, codes, 256, asked) {
-        return false;
-    }
-    if !ask_lines(
+    ask_codes(moves, 0, 1, codes, SHIFT, asked, others);
+    ask_lines(
         items,
         kernels,
         links,
@@ -258,13 +289,21 @@ pub fn ask_cells(
         codes,
         q,
         asked,
-    ) {
-        return false;
-    }
-    if !ask_rules(items, present, follow, nul, fst, count, rules, codes, asked) {
-        return false;
-    }
-    true
+        others,
+    );
+    ask_rules(
+        items,
+        present,
+        follow,
+        nul,
+        fst,
+        count,
+        rules,
+        codes,
+        asked,
+        others,
+    );
+    agree(others)
 }
 
 fn wide(x: u8) -> usize
@@ -283,9 +322,9 @@ pub fn demand_of(kinds: &[u8], values: &[u8], q: usize, c: usize) -> usize
         return 0;
     }
     if kind == 1 {
-        return 256;
+        return SHIFT;
     }
-    kind * 256 + wide(values[q * CODES + c])
+    kind * VALUES + wide(values[q * CODES + c])
 }
 
 // The first code whose cell of q is not what is asked.

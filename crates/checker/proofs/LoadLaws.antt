@@ -1,4 +1,4 @@
--- Tables that were read into slices with room are ready for the judge, what its verdict makes of them, and what a walk is promised.
+-- Tables that were read into slices with room are ready for the judge, what the reply makes of them, and what a walk is promised.
 use Prim.Native.Nat.{ℕ, suc, _+_, _≤_}
 use native.Mathlib.Omega.{arith}
 use mathlib.Core.Path.{_≡_, refl, sym, ap, subst, _∙_}
@@ -15,13 +15,13 @@ use Rattle.table.specs.declared.Counts.{Counts}
 use Rattle.table.specs.declared.TableReply.{TableReply}
 use Rattle.table.specs.declared.TableReply.the-variants as reply
 use Rattle.table.specs.Book.{Reading, whole, rejected, tablesOf, readOf}
-use Rattle.table.specs.Memory.{countsOf, replyOf, Slices, hasRoom, Holds}
+use Rattle.table.specs.Memory.{countsOf, replyOf, asReply, Slices, hasRoom, Holds}
 use Rattle.table_facts.specs.Sound.{Sound}
 use Rattle.table_facts.proofs.Sound.{tables-sound}
 use Rattle.table_views.proofs.Views.{held, sized, given}
 use Rattle.judge.specs.Accepts.{tableVerdict}
 use Rattle.judge.specs.Given.{Sized, Given}
-use Rattle.checker.specs.Checked.{byReply, judged, checkedOf}
+use Rattle.checker.specs.Checked.{byReply, judged, replyTo, checkedOf}
 use Rattle.checker.proofs.Exactly.{accepted, accepted-sound}
 use Rattle.checker.specs.Loaded.{Loaded}
 
@@ -33,26 +33,46 @@ pub record BooksRead (gs s : List ℕ) (b a : Slices) (c : Counts) : Type 0 wher
   pub counts-are : c ≡ countsOf grammar table
   pub holds : Holds (whole grammar table) b a
 
--- ---- the reader's answer, for slices with room
-module _ (gs s : List ℕ) {b a : Slices} {r : TableReply} (room : hasRoom b ≡ true)
-    (h : (r ≡ replyOf (readOf (hasRoom b) (tablesOf gs s))) × Holds (readOf (hasRoom b) (tablesOf gs s)) b a) where
-  with-room : (r ≡ replyOf (readOf true (tablesOf gs s))) × Holds (readOf true (tablesOf gs s)) b a
-  with-room = rw (← room) h
+-- the reader's answer, for slices with room
+pub with-room : {b a : Slices} {r : TableReply} (x : Reading) → hasRoom b ≡ true → (r ≡ replyOf (readOf (hasRoom b) x)) × Holds (readOf (hasRoom b) x) b a → (r ≡ replyOf x) × Holds x b a
+with-room {b} {a} {r} x room h = go x (let k : (r ≡ replyOf (readOf true x)) × Holds (readOf true x) b a = rw (← room) h in k)
+  where
+    go : (y : Reading) → (r ≡ replyOf (readOf true y)) × Holds (readOf true y) b a → (r ≡ replyOf y) × Holds y b a
+    go (whole g t) k = k
+    go (rejected why) k = k
 
-  pub books-read : {c : Counts} → r ≡ reply.Read c → BooksRead gs s b a c
-  books-read {c} e = go (tablesOf gs s) refl with-room
+module _ (gs s : List ℕ) {r : TableReply} (answer : r ≡ replyOf (tablesOf gs s)) where
+  pub books-read : {b a : Slices} {c : Counts} → Holds (tablesOf gs s) b a → r ≡ reply.Read c → BooksRead gs s b a c
+  books-read {b} {a} {c} h e = go (tablesOf gs s) refl answer h
     where
-      go : (x : Reading) → tablesOf gs s ≡ x → (r ≡ replyOf (readOf true x)) × Holds (readOf true x) b a → BooksRead gs s b a c
-      go (whole g t) q k = record { grammar = g; table = t; reads = q; counts-are = let z : c ≡ countsOf g t = cc in z; holds = k .1 }
-      go (rejected why) q k = let z : _≡_ {A = ℕ} 0 1 = cc in absurd (omega arith)
+      go : (x : Reading) → tablesOf gs s ≡ x → r ≡ replyOf x → Holds x b a → BooksRead gs s b a c
+      go (whole g t) q k m = record { grammar = g; table = t; reads = q; counts-are = let z : c ≡ countsOf g t = cc in z; holds = m }
+      go (rejected why) q k m = clash cc
 
-  pub not-read : {why : Refusal} → r ≡ reply.Refused why → (r ≡ replyOf (checkedOf gs s)) × Holds (checkedOf gs s) b a
+  pub not-read : {why : Refusal} → r ≡ reply.Refused why → asReply r ≡ replyTo (tablesOf gs s)
+  not-read {why} e = go (tablesOf gs s) answer
+    where
+      go : (x : Reading) → r ≡ replyOf x → asReply r ≡ replyTo x
+      go (whole g t) k = clash cc
+      go (rejected v) k = ap asReply k
+
+-- ---- what the reply makes of them
+module _ (gs s : List ℕ) {v : Reply} (e : v ≡ replyTo (tablesOf gs s)) where
+  pub refused-by : {why : Refusal} → v ≡ Refused why → checkedOf gs s ≡ rejected why
   unfolding checkedOf
-  not-read {why} e = go (tablesOf gs s) with-room
+  refused-by {why} q = go (tablesOf gs s) (sym e ∙ q)
     where
-      go : (x : Reading) → (r ≡ replyOf (readOf true x)) × Holds (readOf true x) b a → (r ≡ replyOf (judged x)) × Holds (judged x) b a
-      go (whole g t) k = let z : _≡_ {A = ℕ} 0 1 = cc in absurd (omega arith)
-      go (rejected v) k = k
+      go : (x : Reading) → replyTo x ≡ Refused why → judged x ≡ rejected why
+      go (whole g t) k = ap (byReply g t) k
+      go (rejected w) k = let z : w ≡ why = cc in ap rejected z
+
+  pub accepted-by : {n : ℕ} → v ≡ Accepted n → tablesOf gs s ≡ checkedOf gs s
+  unfolding checkedOf
+  accepted-by {n} q = go (tablesOf gs s) (sym e ∙ q)
+    where
+      go : (x : Reading) → replyTo x ≡ Accepted n → x ≡ judged x
+      go (whole g t) k = sym (ap (byReply g t) k)
+      go (rejected w) k = clash cc
 
 module _ {gs s : List ℕ} {b a : Slices} {c : Counts} (l : BooksRead gs s b a c) where
   read-sound : Sound (l .grammar) (l .table)
@@ -76,17 +96,8 @@ module _ {gs s : List ℕ} {b a : Slices} {c : Counts} (l : BooksRead gs s b a c
   pub read-goal : l .grammar .goal ≡ c .grammar .goal
   read-goal = rw (l .counts-are) refl
 
-  -- ---- what its verdict makes of them
-  module _ {v : Reply} (e : v ≡ tableVerdict (l .grammar) (l .table)) where
-    by-verdict : checkedOf gs s ≡ byReply (l .grammar) (l .table) v
-    unfolding checkedOf
-    by-verdict = ap judged (l .reads) ∙ ap (byReply (l .grammar) (l .table)) (sym e)
-
-    pub read-refused : {why : Refusal} → v ≡ Refused why → checkedOf gs s ≡ rejected why
-    read-refused q = by-verdict ∙ ap (byReply (l .grammar) (l .table)) q
-
-    pub read-accepted : {n : ℕ} → v ≡ Accepted n → (reply.Read c ≡ replyOf (checkedOf gs s)) × Holds (checkedOf gs s) b a
-    read-accepted q = rw (by-verdict ∙ ap (byReply (l .grammar) (l .table)) q) (ap reply.Read (l .counts-are), l .holds)
+  pub read-judged : {v : Reply} → v ≡ tableVerdict (l .grammar) (l .table) → v ≡ replyTo (tablesOf gs s)
+  read-judged e = e ∙ sym (ap replyTo (l .reads))
 
 -- ---- what a walk is promised, where the answer is that of books that are accepted
 whole-of : (x : Reading) {r : TableReply} {c : Counts} → r ≡ replyOf x → r ≡ reply.Read c → (g : Grammar) × (t : Table) × (x ≡ whole g t) × (c ≡ countsOf g t)

@@ -22,6 +22,11 @@ abbrev pub judged : Reading → Reading
 judged (whole g t) = byReply g t (tableVerdict g t)
 judged (rejected why) = rejected why
 
+-- the reply to what was read
+abbrev pub replyTo : Reading → Reply
+replyTo (whole g t) = tableVerdict g t
+replyTo (rejected why) = Refused why
+
 -- both books, read and judged
 unfoldable pub checkedOf : List ℕ → List ℕ → Reading
 checkedOf gs s = judged (tablesOf gs s)

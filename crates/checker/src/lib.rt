@@ -1,12 +1,75 @@
 // The checker of tables, over both books.
-// The door is `check_tables`; `load_tables` is inner, for `session`.
+// The door is `check_tables`; `load_tables` is inner, for `session`, and `judge_books`, for the program that explains.
 use reply::Reply;
 use table::TableReply;
 ghost use mathlib.Core.Path.{_≡_};
+ghost use Rattle.table.specs.Book.{tablesOf};
 ghost use Rattle.table.specs.Memory.{replyOf, slices, Rooms, Holds};
 ghost use Rattle.table.specs.declared.Counts.{Counts};
-ghost use Rattle.checker.specs.Checked.{checkedOf, verdictOf};
+ghost use Rattle.checker.specs.Checked.{checkedOf, verdictOf, replyTo};
 ghost use Rattle.checker.specs.Loaded.{Loaded};
+
+// What reading both books comes to, and the reply to what was read.
+pub struct Judged {
+    pub answer: TableReply,
+    pub verdict: Reply,
+}
+
+// Reads both books into the slices, and judges the tables. These stay in the slices whatever the reply; a book that is refused leaves zeros.
+pub fn judge_books(
+    grammar: &[u8],
+    book: &[u8],
+    items: &mut [u8],
+    entry_states: &mut [u8],
+    kernels: &mut [u8],
+    lookaheads: &mut [u8],
+    kinds: &mut [u8],
+    values: &mut [u8],
+    gotos: &mut [u8],
+    named: &mut [u8],
+) -> Judged
+    requires { ⌜ Rooms (slices (now items) (now «entry_states») (now kernels) (now lookaheads) (now kinds) (now values) (now gotos) (now named)) ⌝ }
+    ensures { λ r. ⌜ r .answer ≡ replyOf (tablesOf (now (grammar .entry)) (now (book .entry))) ⌝ }
+    ensures { λ r. ⌜ Holds (tablesOf (now (grammar .entry)) (now (book .entry))) (slices (now (items .entry)) (now («entry_states» .entry)) (now (kernels .entry)) (now (lookaheads .entry)) (now (kinds .entry)) (now (values .entry)) (now (gotos .entry)) (now (named .entry))) (slices (now (items .exit)) (now («entry_states» .exit)) (now (kernels .exit)) (now (lookaheads .exit)) (now (kinds .exit)) (now (values .exit)) (now (gotos .exit)) (now (named .exit))) ⌝ }
+    ensures { λ r. ⌜ r .verdict ≡ replyTo (tablesOf (now (grammar .entry)) (now (book .entry))) ⌝ }
+{
+    let answer = table::read_tables(
+        grammar,
+        book,
+        items,
+        entry_states,
+        kernels,
+        lookaheads,
+        kinds,
+        values,
+        gotos,
+        named,
+    );
+    let TableReply::Read(counts) = answer else {
+        return Judged {
+            answer,
+            verdict: table::as_reply(answer),
+        };
+    };
+    let heading = counts.grammar;
+    let verdict = judge::judge(
+        items,
+        entry_states,
+        kernels,
+        lookaheads,
+        kinds,
+        values,
+        gotos,
+        named,
+        heading.terminals,
+        heading.goal,
+        heading.rules,
+        counts.entries,
+        counts.kernels,
+        counts.states,
+    );
+    Judged { answer, verdict }
+}
 
 // Reads and judges both books. Tables that are accepted are then in the slices; a refusal leaves zeros.
 pub fn load_tables(
@@ -26,7 +89,7 @@ pub fn load_tables(
     ensures { λ r. ⌜ Holds (checkedOf (now (grammar .entry)) (now (book .entry))) (slices (now (items .entry)) (now («entry_states» .entry)) (now (kernels .entry)) (now (lookaheads .entry)) (now (kinds .entry)) (now (values .entry)) (now (gotos .entry)) (now (named .entry))) (slices (now (items .exit)) (now («entry_states» .exit)) (now (kernels .exit)) (now (lookaheads .exit)) (now (kinds .exit)) (now (values .exit)) (now (gotos .exit)) (now (named .exit))) ⌝ }
     ensures { λ r. ⌜ ((c : Counts) → r ≡ TableReply.Read c → Loaded (now (grammar .entry)) (now (book .entry)) (slices (now (items .exit)) (now («entry_states» .exit)) (now (kernels .exit)) (now (lookaheads .exit)) (now (kinds .exit)) (now (values .exit)) (now (gotos .exit)) (now (named .exit))) c) ⌝ }
 {
-    let answer = table::read_tables(
+    let judged = judge_books(
         grammar,
         book,
         items,
@@ -38,26 +101,7 @@ pub fn load_tables(
         gotos,
         named,
     );
-    let TableReply::Read(counts) = answer else {
-        return answer;
-    };
-    let heading = counts.grammar;
-    let verdict = judge::judge(
-        items,
-        entry_states,
-        kernels,
-        lookaheads,
-        kinds,
-        values,
-        gotos,
-        named,
-        heading.terminals,
-        heading.goal,
-        heading.rules,
-        counts.entries,
-        counts.kernels,
-        counts.states,
-    );
+    let verdict = judged.verdict;
     if let Reply::Refused(why) = verdict {
         table::clear_all(
             items,
@@ -71,7 +115,7 @@ pub fn load_tables(
         );
         return TableReply::Refused(why);
     }
-    answer
+    judged.answer
 }
 
 // The verdict on both books.

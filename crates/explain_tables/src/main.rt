@@ -4,44 +4,44 @@ use grammar::GrammarReply;
 use program::OUTPUT;
 use program::print_text;
 use symbol::CODES;
+use table::Counts;
 use table::TableReply;
+ghost use Prim.Native.Nat.{_≤_};
+ghost use Rattle.judge.specs.Given.{Sized};
 
-// A refusal with 7 to 10: both books are read again.
-fn explain_tables(out: &mut [u8; OUTPUT], grammar: &[u8], book: &[u8], number: u64, place: usize) {
-    let mut items = [0u8; table::ITEMS];
-    let mut entries = [0u8; table::ENTRY_STATES];
-    let mut kernels = [0u8; table::KERNELS];
-    let mut lookaheads = [0u8; table::LOOKAHEADS];
-    let mut kinds = [0u8; table::CELLS];
-    let mut values = [0u8; table::CELLS];
-    let mut gotos = [0u8; table::CELLS];
-    let mut named = [0u8; table::NAMED];
-    let answer = table::read_tables(
-        grammar,
-        book,
-        &mut items,
-        &mut entries,
-        &mut kernels,
-        &mut lookaheads,
-        &mut kinds,
-        &mut values,
-        &mut gotos,
-        &mut named,
-    );
-    let TableReply::Read(counts) = answer else {
+// The tables in memory, by the reply to them: 0, or 7 to 10.
+fn explain_tables(
+    out: &mut [u8; OUTPUT],
+    items: &[u8],
+    entries: &[u8],
+    kernels: &[u8],
+    lookaheads: &[u8],
+    kinds: &[u8],
+    values: &[u8],
+    gotos: &[u8],
+    named: &[u8],
+    counts: Counts,
+    number: u64,
+    place: usize,
+)
+    requires { ⌜ Sized (now items) (now entries) (now kernels) (now lookaheads) (now kinds) (now values) (now gotos) (now named) (counts .grammar .rules) (counts .entries) (counts .kernels) ⌝ }
+    requires { ⌜ (counts .grammar .terminals ≤ 63) × (counts .states ≤ 255) ⌝ }
+{
+    if number == 0 {
+        print_text(out, b"the tables meet the construction\n");
         return;
-    };
+    }
     let heading = counts.grammar;
     explanation::explain_memory(
         out,
-        &items,
-        &entries,
-        &kernels,
-        &lookaheads,
-        &kinds,
-        &values,
-        &gotos,
-        &named,
+        items,
+        entries,
+        kernels,
+        lookaheads,
+        kinds,
+        values,
+        gotos,
+        named,
         heading.terminals,
         heading.goal,
         heading.rules,
@@ -54,12 +54,8 @@ fn explain_tables(out: &mut [u8; OUTPUT], grammar: &[u8], book: &[u8], number: u
     );
 }
 
-// Why both books are refused with that number at that place.
-fn explain(out: &mut [u8; OUTPUT], grammar: &[u8], book: &[u8], number: u64, place: usize) {
-    if number == 0 {
-        print_text(out, b"the tables meet the construction\n");
-        return;
-    }
+// Why a book is refused. Which of both it is, and what the other declares, the grammar book tells.
+fn explain_book(out: &mut [u8; OUTPUT], grammar: &[u8], book: &[u8], number: u64, place: usize) {
     // Both lengths come before all else.
     if book.len() > 65536 {
         line_words::explain_table_book(out, 0, 0, 0, book, number, place);
@@ -71,28 +67,61 @@ fn explain(out: &mut [u8; OUTPUT], grammar: &[u8], book: &[u8], number: u64, pla
         line_words::explain_grammar_book(out, grammar, number, place);
         return;
     };
-    if number <= 4 {
-        line_words::explain_table_book(
-            out,
-            h.terminals,
-            h.nonterminals,
-            h.rules,
-            book,
-            number,
-            place,
-        );
-        return;
-    }
-    explain_tables(out, grammar, book, number, place);
+    line_words::explain_table_book(
+        out,
+        h.terminals,
+        h.nonterminals,
+        h.rules,
+        book,
+        number,
+        place,
+    );
 }
 
 fn show(grammar: &[u8], book: &[u8]) {
-    let reply = checker::check_tables(grammar, book);
-    let number = reply::number(reply);
-    let place = reply::place(reply);
+    let mut items = [0u8; table::ITEMS];
+    let mut entries = [0u8; table::ENTRY_STATES];
+    let mut kernels = [0u8; table::KERNELS];
+    let mut lookaheads = [0u8; table::LOOKAHEADS];
+    let mut kinds = [0u8; table::CELLS];
+    let mut values = [0u8; table::CELLS];
+    let mut gotos = [0u8; table::CELLS];
+    let mut named = [0u8; table::NAMED];
+    let judged = checker::judge_books(
+        grammar,
+        book,
+        &mut items,
+        &mut entries,
+        &mut kernels,
+        &mut lookaheads,
+        &mut kinds,
+        &mut values,
+        &mut gotos,
+        &mut named,
+    );
+    let verdict = judged.verdict;
+    let number = reply::number(verdict);
+    let place = reply::place(verdict);
     let mut out = program::output();
     program::print_pair(&mut out, number, place as u64);
-    explain(&mut out, grammar, book, number, place);
+    let answer = judged.answer;
+    match answer {
+        TableReply::Refused(_) => explain_book(&mut out, grammar, book, number, place),
+        TableReply::Read(counts) => explain_tables(
+            &mut out,
+            &items,
+            &entries,
+            &kernels,
+            &lookaheads,
+            &kinds,
+            &values,
+            &gotos,
+            &named,
+            counts,
+            number,
+            place,
+        ),
+    }
     program::flush(&mut out);
 }
 

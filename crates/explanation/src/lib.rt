@@ -1,5 +1,9 @@
 // Refusals in words: the line, the item, the code, the actions.
 // Inner: for the programs that explain.
+use cells::ANNOUNCE;
+use cells::POP;
+use cells::SHIFT;
+use cells::VALUES;
 use entry_list::EntryFault;
 use fixpoint::Found;
 use missing_lookaheads::Lack;
@@ -96,16 +100,16 @@ fn print_action(out: &mut [u8; OUTPUT], demand: usize) {
         print_text(out, b"nothing");
         return;
     }
-    if demand < 512 {
+    if demand < ANNOUNCE {
         print_text(out, b"shift");
         return;
     }
-    if demand < 768 {
-        print_count(out, b"announce of rule ", demand - 512);
+    if demand < POP {
+        print_count(out, b"announce of rule ", demand - ANNOUNCE);
         return;
     }
-    if demand < 1023 {
-        print_count(out, b"pop of ", demand - 767);
+    if demand < POP + VALUES - 1 {
+        print_count(out, b"pop of ", demand - POP + 1);
         return;
     }
     print_text(out, b"pop of a count that no entry has");
@@ -239,7 +243,9 @@ fn print_demand(
     requires { ⌜ Ready (now items) (now nul) (now fst) count codes ⌝ }
     requires { ⌜ (i ≤ count) × (i < 256) × (k ≤ 15) × (start + 64 ≤ length (now from)) × (c < 64) ⌝ }
 {
-    let mut demand = conflicts::item_demand(
+    let mut asked = [0usize; CODES];
+    let mut others = [0usize; CODES];
+    cells::ask_item(
         items,
         nul,
         fst,
@@ -250,11 +256,13 @@ fn print_demand(
         i,
         k,
         start,
-        c,
+        &mut asked,
+        &mut others,
     );
+    let mut demand = asked[c];
     if c != Symbol::END {
         if moves::symbol_after(items, count, i, k) == c {
-            demand = 256;
+            demand = SHIFT;
         }
     }
     if demand == 0 {
@@ -346,6 +354,56 @@ fn print_rule_demands(
         }
         i += 1;
     }
+}
+
+// The items of q that ask something of the cell for code c.
+fn print_demands(
+    out: &mut [u8; OUTPUT],
+    items: &[u8],
+    kernels: &[u8],
+    lookaheads: &[u8],
+    present: &[u8],
+    follow: &[u8],
+    nul: &[u8],
+    fst: &[u8],
+    count: usize,
+    rules: usize,
+    lines: usize,
+    codes: usize,
+    q: usize,
+    c: usize,
+)
+    requires { ⌜ Lines (now kernels) lines count ⌝ }
+    requires { ⌜ Ready (now items) (now nul) (now fst) count codes ⌝ }
+    requires { ⌜ (rules ≤ count) × (count < 256) × (lines * 64 ≤ length (now lookaheads)) × (c < 64) ⌝ }
+    requires { ⌜ (length (now present) ≡ 64) × (length (now follow) ≡ 4096) ⌝ }
+{
+    print_line_demands(
+        out,
+        items,
+        kernels,
+        lookaheads,
+        nul,
+        fst,
+        count,
+        rules,
+        lines,
+        codes,
+        q,
+        c,
+    );
+    print_rule_demands(
+        out,
+        items,
+        present,
+        follow,
+        nul,
+        fst,
+        count,
+        rules,
+        codes,
+        c,
+    );
 }
 
 // Where a state goes.
@@ -519,144 +577,13 @@ fn explain_lookaheads(
     print_text(out, b"\n");
 }
 
-// Two different actions that items ask of one cell, as far as they are found; 0 for nothing.
-struct Pair {
-    first: usize,
-    second: usize,
-}
-
-fn add_demand(p: Pair, v: usize) -> Pair {
-    if v == 0 {
-        return p;
-    }
-    if p.first == 0 {
-        return Pair {
-            first: v,
-            second: 0,
-        };
-    }
-    if p.second != 0 {
-        return p;
-    }
-    if v == p.first {
-        return p;
-    }
-    Pair {
-        first: p.first,
-        second: v,
-    }
-}
-
-// What the moves of a state ask of the cell for code c.
-fn move_pair(symbols: &[u8], c: usize) -> Pair
-    requires { ⌜ (length (now symbols) ≡ 128) × (c < 64) ⌝ }
-{
-    let mut shift = 0;
-    if c != Symbol::END {
-        if symbols[c] != 0 {
-            shift = 256;
-        }
-    }
-    Pair {
-        first: shift,
-        second: 0,
-    }
-}
-
-// What the kernel items of q ask of it too.
-fn add_lines(
-    items: &[u8],
-    kernels: &[u8],
-    lookaheads: &[u8],
-    nul: &[u8],
-    fst: &[u8],
-    count: usize,
-    rules: usize,
-    lines: usize,
-    codes: usize,
-    q: usize,
-    c: usize,
-    moved: Pair,
-) -> Pair
-    requires { ⌜ Lines (now kernels) lines count ⌝ }
-    requires { ⌜ Ready (now items) (now nul) (now fst) count codes ⌝ }
-    requires { ⌜ (count < 256) × (lines * 64 ≤ length (now lookaheads)) × (c < 64) ⌝ }
-{
-    let mut p = moved;
-    let mut l = lines;
-    while 0 < l {
-        l -= 1;
-        if kernel_lines::state_of(kernels, lines, count, l) == q {
-            let i = kernel_lines::item_of(kernels, lines, count, l);
-            let k = kernel_lines::dot_of(kernels, lines, count, l);
-            let v = conflicts::item_demand(
-                items,
-                nul,
-                fst,
-                lookaheads,
-                count,
-                rules,
-                codes,
-                i,
-                k,
-                l * CODES,
-                c,
-            );
-            p = add_demand(p, v);
-        }
-    }
-    p
-}
-
-// And the rules that the closure adds.
-fn add_rules(
-    items: &[u8],
-    present: &[u8],
-    follow: &[u8],
-    nul: &[u8],
-    fst: &[u8],
-    count: usize,
-    rules: usize,
-    codes: usize,
-    c: usize,
-    asked: Pair,
-) -> Pair
-    requires { ⌜ Ready (now items) (now nul) (now fst) count codes ⌝ }
-    requires { ⌜ (rules ≤ count) × (count < 256) × (c < 64) ⌝ }
-    requires { ⌜ (length (now present) ≡ 64) × (length (now follow) ≡ 4096) ⌝ }
-{
-    let mut p = asked;
-    let mut i = 1;
-    while i <= rules {
-        if moves::is_present(items, present, count, i) {
-            let left = items::left_of(items, count, i);
-            let v = conflicts::item_demand(
-                items,
-                nul,
-                fst,
-                follow,
-                count,
-                rules,
-                codes,
-                i,
-                0,
-                (left - Symbol::FIRST_NONTERMINAL) * CODES,
-                c,
-            );
-            p = add_demand(p, v);
-        }
-        i += 1;
-    }
-    p
-}
-
-fn print_conflict(out: &mut [u8; OUTPUT], q: usize, c: usize, p: Pair) {
+fn print_conflict(out: &mut [u8; OUTPUT], q: usize, c: usize, first: usize, second: usize) {
     print_count(out, b"state ", q);
     print_count(out, b", code ", c);
     print_text(out, b": ");
-    print_action(out, p.first);
+    print_action(out, first);
     print_text(out, b", and ");
-    print_action(out, p.second);
+    print_action(out, second);
     print_text(out, b"\n");
 }
 
@@ -668,9 +595,10 @@ fn explain_conflicts(
     lookaheads: &[u8],
     present: &[u8],
     follow: &[u8],
-    symbols: &[u8],
     nul: &[u8],
     fst: &[u8],
+    asked: &[usize],
+    others: &[usize],
     count: usize,
     rules: usize,
     lines: usize,
@@ -681,50 +609,26 @@ fn explain_conflicts(
     requires { ⌜ Lines (now kernels) lines count ⌝ }
     requires { ⌜ Ready (now items) (now nul) (now fst) count codes ⌝ }
     requires { ⌜ (rules ≤ count) × (count < 256) × (lines * 64 ≤ length (now lookaheads)) ⌝ }
-    requires { ⌜ (length (now present) ≡ 64) × (length (now follow) ≡ 4096) × (length (now symbols) ≡ 128) ⌝ }
+    requires { ⌜ (length (now present) ≡ 64) × (length (now follow) ≡ 4096) ⌝ }
+    requires { ⌜ (length (now asked) ≡ 64) × (length (now others) ≡ 64) ⌝ }
     ensures { λ r. ⌜ r ≤ 64 ⌝ }
 {
     let mut found = 0;
     let mut c = 0;
-    while c < codes {
-        let moved = move_pair(symbols, c);
-        let asked = add_lines(
-            items,
-            kernels,
-            lookaheads,
-            nul,
-            fst,
-            count,
-            rules,
-            lines,
-            codes,
-            q,
-            c,
-            moved,
-        );
-        let p = add_rules(
-            items,
-            present,
-            follow,
-            nul,
-            fst,
-            count,
-            rules,
-            codes,
-            c,
-            asked,
-        );
-        if p.second == 0 {
+    while c < CODES {
+        if others[c] == 0 {
             c += 1;
             continue;
         }
         if found < room {
-            print_conflict(out, q, c, p);
-            print_line_demands(
+            print_conflict(out, q, c, asked[c], others[c]);
+            print_demands(
                 out,
                 items,
                 kernels,
                 lookaheads,
+                present,
+                follow,
                 nul,
                 fst,
                 count,
@@ -732,18 +636,6 @@ fn explain_conflicts(
                 lines,
                 codes,
                 q,
-                c,
-            );
-            print_rule_demands(
-                out,
-                items,
-                present,
-                follow,
-                nul,
-                fst,
-                count,
-                rules,
-                codes,
                 c,
             );
         }
@@ -797,6 +689,57 @@ fn explain_cells(
     out: &mut [u8; OUTPUT],
     items: &[u8],
     kernels: &[u8],
+    lookaheads: &[u8],
+    kinds: &[u8],
+    values: &[u8],
+    gotos: &[u8],
+    present: &[u8],
+    follow: &[u8],
+    symbols: &[u8],
+    nul: &[u8],
+    fst: &[u8],
+    asked: &[usize],
+    count: usize,
+    rules: usize,
+    lines: usize,
+    codes: usize,
+    q: usize,
+)
+    requires { ⌜ Lines (now kernels) lines count ⌝ }
+    requires { ⌜ Ready (now items) (now nul) (now fst) count codes ⌝ }
+    requires { ⌜ Cells (now kinds) (now values) (now gotos) ⌝ }
+    requires { ⌜ (rules ≤ count) × (count < 256) × (q < 256) × (lines * 64 ≤ length (now lookaheads)) ⌝ }
+    requires { ⌜ (length (now present) ≡ 64) × (length (now follow) ≡ 4096) × (length (now symbols) ≡ 128) × (length (now asked) ≡ 64) ⌝ }
+{
+    let cell = cells::find_cell(asked, kinds, values, codes, q);
+    let Found::At(c) = cell else {
+        explain_goto(out, symbols, gotos, q);
+        return;
+    };
+    print_cell(out, c, asked[c], cells::demand_of(kinds, values, q, c));
+    print_demands(
+        out,
+        items,
+        kernels,
+        lookaheads,
+        present,
+        follow,
+        nul,
+        fst,
+        count,
+        rules,
+        lines,
+        codes,
+        q,
+        c,
+    );
+}
+
+// Replies 9 and 10 at state q: what its items ask of its cells.
+fn explain_asked(
+    out: &mut [u8; OUTPUT],
+    items: &[u8],
+    kernels: &[u8],
     links: &[usize],
     lookaheads: &[u8],
     kinds: &[u8],
@@ -811,15 +754,19 @@ fn explain_cells(
     rules: usize,
     lines: usize,
     codes: usize,
+    number: u64,
     q: usize,
-)
+    room: usize,
+) -> usize
     requires { ⌜ Readable (now items) (now kernels) (now links) (now present) count rules lines ⌝ }
     requires { ⌜ Ready (now items) (now nul) (now fst) count codes ⌝ }
     requires { ⌜ Cells (now kinds) (now values) (now gotos) ⌝ }
     requires { ⌜ (count < 256) × (q < 256) × (lines * 64 ≤ length (now lookaheads)) ⌝ }
     requires { ⌜ (length (now follow) ≡ 4096) × (length (now symbols) ≡ 128) ⌝ }
+    ensures { λ r. ⌜ r ≤ 64 ⌝ }
 {
     let mut asked = [0usize; CODES];
+    let mut others = [0usize; CODES];
     cells::ask_cells(
         items,
         kernels,
@@ -836,39 +783,49 @@ fn explain_cells(
         codes,
         q,
         &mut asked,
+        &mut others,
     );
-    let cell = cells::find_cell(&asked, kinds, values, codes, q);
-    let Found::At(c) = cell else {
-        explain_goto(out, symbols, gotos, q);
-        return;
-    };
-    print_cell(out, c, asked[c], cells::demand_of(kinds, values, q, c));
-    print_line_demands(
+    if number == 9 {
+        return explain_conflicts(
+            out,
+            items,
+            kernels,
+            lookaheads,
+            present,
+            follow,
+            nul,
+            fst,
+            &asked,
+            &others,
+            count,
+            rules,
+            lines,
+            codes,
+            q,
+            room,
+        );
+    }
+    explain_cells(
         out,
         items,
         kernels,
         lookaheads,
+        kinds,
+        values,
+        gotos,
+        present,
+        follow,
+        symbols,
         nul,
         fst,
+        &asked,
         count,
         rules,
         lines,
         codes,
         q,
-        c,
     );
-    print_rule_demands(
-        out,
-        items,
-        present,
-        follow,
-        nul,
-        fst,
-        count,
-        rules,
-        codes,
-        c,
-    );
+    0
 }
 
 // A refusal at state q, where what the check computes of the grammar is at hand.
@@ -980,26 +937,7 @@ fn explain_state(
         );
         return 0;
     }
-    if number == 9 {
-        return explain_conflicts(
-            out,
-            items,
-            kernels,
-            lookaheads,
-            &present,
-            &follow,
-            &symbols,
-            nul,
-            fst,
-            count,
-            rules,
-            lines,
-            codes,
-            q,
-            room,
-        );
-    }
-    explain_cells(
+    explain_asked(
         out,
         items,
         kernels,
@@ -1017,9 +955,10 @@ fn explain_state(
         rules,
         lines,
         codes,
+        number,
         q,
-    );
-    0
+        room,
+    )
 }
 
 // A refusal of tables in memory: 7 to 10. Of conflicts as many are told as there is room for, and their number is the answer.

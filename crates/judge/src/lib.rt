@@ -60,6 +60,7 @@ fn judge_state(
     let mut follow = [0u8; CODES * CODES];
     let mut symbols = [0u8; SYMBOLS];
     let mut asked = [0usize; CODES];
+    let mut others = [0usize; CODES];
     closure::close_state(
         items,
         count,
@@ -141,6 +142,7 @@ fn judge_state(
         codes,
         q,
         &mut asked,
+        &mut others,
     );
     let filled = cells::cells_meet(&asked, &symbols, kinds, values, gotos, codes, q);
     State {

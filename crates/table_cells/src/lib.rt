@@ -1,5 +1,8 @@
 // The cells of the builder's table: announces and pops join the moves, unless items ask two different actions of one cell.
 // Inner: for `build_memory`.
+use cells::ANNOUNCE;
+use cells::POP;
+use cells::VALUES;
 use symbol::CODES;
 use symbol::SYMBOLS;
 ghost use mathlib.Core.Path.{_≡_};
@@ -22,14 +25,14 @@ fn fill_cell(kinds: &mut [u8], values: &mut [u8], x: usize, demand: usize)
     requires { ⌜ (x < length (now kinds)) × (x < length (now values)) ⌝ }
     ensures { λ _. ⌜ FillsCell demand x (now (kinds .entry)) (now (values .entry)) (now (kinds .exit)) (now (values .exit)) ⌝ }
 {
-    if demand < 512 {
+    if demand < ANNOUNCE {
         return;
     }
-    if 1023 < demand {
+    if POP + VALUES <= demand {
         return;
     }
-    kinds[x] = (demand / 256) as u8;
-    values[x] = (demand % 256) as u8;
+    kinds[x] = (demand / VALUES) as u8;
+    values[x] = (demand % VALUES) as u8;
 }
 
 // Fills the cells of q.
@@ -71,6 +74,7 @@ fn ask_state(
     let mut present = [0u8; CODES];
     let mut follow = [0u8; CODES * CODES];
     let mut symbols = [0u8; SYMBOLS];
+    let mut others = [0usize; CODES];
     closure::close_state(
         items,
         count,
@@ -114,6 +118,7 @@ fn ask_state(
         codes,
         q,
         asked,
+        &mut others,
     )
 }
 

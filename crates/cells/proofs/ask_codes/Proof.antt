@@ -1,22 +1,20 @@
 use Rattle.cells.specs.Demands.{Asking, CodeAsks}
-use Rattle.cells.proofs.AskLaws.{asking-none, asks-fail, asking-then, Below, wants-code, codes-skip, codes-more, codes-all}
-use mathlib.Core.Path.{_∙_}
+use Rattle.cells.proofs.AskLaws.{asking-none, asking-then, Below, wants-code, codes-skip, codes-more, codes-all}
 use Prim.Native.Nat.{_≤_, _-_}
 use native.Mathlib.Omega.{arith}
-use borrow.Author.Tests.{not-true, not-false}
 use borrow.Author.Needs.{needs}
 use Rattle.fixpoint.proofs.PassLaws.{set-on, no-gap}
 use Rattle.cells.proofs.ask_codes.Statement.{statement}
 use Rattle.cells.proofs.ask_codes.Tie as tie
 
 abbrev Inv-loop : tie.InvT-loop
-Inv-loop from start low codes demand asked₀ c₀ asked c = (low ≤ c) × Asking (CodeAsks from start low codes demand) asked₀ asked × Below from start low codes demand asked c
+Inv-loop from start low codes demand asked₀ others₀ c₀ asked others c = (low ≤ c) × Asking (CodeAsks from start low codes demand) asked₀ others₀ asked others × Below from start low codes demand asked others c
 
 abbrev μ-loop : tie.MeasureT-loop
-μ-loop from start low codes demand asked₀ c₀ asked c = codes - c
+μ-loop from start low codes demand asked₀ others₀ c₀ asked others c = codes - c
 
 loop-holds : tie.Need-loop-holds Inv-loop μ-loop
-loop-holds c = (omega arith, asking-none _, λ d l v w. absurd (no-gap (w .above) l))
+loop-holds c = (omega arith, asking-none _ _, λ d l v w. absurd (no-gap (w .above) l))
 
 add-if1 : tie.Need-add-if1 Inv-loop μ-loop
 add-if1 c = search needs
@@ -31,18 +29,10 @@ loop-less : tie.Need-loop-less Inv-loop μ-loop
 loop-less c = search needs
 
 loop-again : tie.Need-loop-again Inv-loop μ-loop
-loop-again c = (omega arith, c .before .before .before .loop .inv .1, codes-skip _ (c .if1 .taken) (c .before .before .before .loop .inv .2))
+loop-again c = let o = c .before .before .before .loop .inv in (omega arith, o .1, codes-skip _ (c .if1 .taken) (o .2))
 
 ask-requires : tie.Need-ask-requires Inv-loop μ-loop
 ask-requires c κs = search needs
-
-same-length : tie.Need-same-length Inv-loop μ-loop
-same-length c = c .before .before .before .ask .ensures .asking .long ∙ c .before .before .before .before .before .before .before .before .loop .inv .1 .long
-
-returns : tie.Need-returns Inv-loop μ-loop
-returns c =
-    let at-loop = c .before .before .before .before .before .before .before .before in
-    asks-fail (at-loop .loop .inv .1) (wants-code (at-loop .loop .inv .0) (omega arith) (set-on (c .before .before .before .before .before .if1 .left))) (c .before .before .before .ask .ensures) (not-true _ (c .if2 .taken))
 
 add-c-2 : tie.Need-add-c-2 Inv-loop μ-loop
 add-c-2 c = search needs
@@ -52,14 +42,22 @@ loop-less-2 c = search needs
 
 loop-again-2 : tie.Need-loop-again-2 Inv-loop μ-loop
 loop-again-2 c =
-    let at-loop = c .before .before .before .before .before .before .before .before in
-    (omega arith, asking-then (at-loop .loop .inv .1) (wants-code (at-loop .loop .inv .0) (omega arith) (set-on (c .before .before .before .before .before .if1 .left))) (c .before .before .before .ask .ensures .asking), codes-more _ (c .before .before .before .ask .ensures) (not-false _ (c .if2 .left)) (at-loop .loop .inv .2))
+    let asking = c .before .before .before .before in
+    let at-if1 = asking .before .before .before in
+    let o = at-if1 .before .before .before .loop .inv in (
+      omega arith,
+      asking-then (o .1) (wants-code (o .0) (omega arith) (set-on (at-if1 .if1 .left))) (asking .ask .ensures .asking),
+      codes-more _ (asking .ask .ensures) (o .2),
+    )
+
+same-length : tie.Need-same-length Inv-loop μ-loop
+same-length c = c .before .loop .inv .1 .long
 
 same-length-2 : tie.Need-same-length-2 Inv-loop μ-loop
-same-length-2 c = c .before .loop .inv .1 .long
+same-length-2 c = c .before .loop .inv .1 .others-long
 
-returns-2 : tie.Need-returns-2 Inv-loop μ-loop
-returns-2 c = codes-all (omega arith) (c .before .loop .inv .1) (c .before .loop .inv .2)
+returns : tie.Need-returns Inv-loop μ-loop
+returns c = codes-all (omega arith) (c .before .loop .inv .1) (c .before .loop .inv .2)
 
 pub ask-codes-spec : {M : Type 1} → statement M
 ask-codes-spec =
@@ -74,10 +72,9 @@ ask-codes-spec =
     loop-less
     loop-again
     ask-requires
-    same-length
-    returns
     add-c-2
     loop-less-2
     loop-again-2
+    same-length
     same-length-2
-    returns-2)
+    returns)

@@ -1,7 +1,6 @@
-use Rattle.cells.proofs.AskLaws.{asks-is, announce-asks, rule-asks, unfinished-asks, pop-asks}
+use Rattle.cells.proofs.AskLaws.{announce-asks, rule-asks, unfinished-asks, pop-asks}
 use mathlib.Core.Path.{refl, sym, _∙_}
 use native.Mathlib.Omega.{arith}
-use borrow.Author.Tests.{not-true, not-false}
 use borrow.Author.Needs.{needs}
 use Rattle.cells.proofs.ask_item.Statement.{statement}
 use Rattle.cells.proofs.ask_item.Tie as tie
@@ -25,35 +24,26 @@ ask-codes-requires : tie.Need-ask-codes-requires
 ask-codes-requires c κs = search needs
 
 same-length : tie.Need-same-length
-same-length c = c .before .before .before .ask-codes .ensures .asking .long
+same-length c = c .before .before .before .before .ask-codes .ensures .asking .long
+
+same-length-2 : tie.Need-same-length-2
+same-length-2 c = c .before .before .before .before .ask-codes .ensures .asking .others-long
 
 returns : tie.Need-returns
 returns c =
-    let asking = c .before .before .before in
-    let firsts = asking .before .before .before .before in
+    let asking = c .before .before .before .before in
+    let firsts = asking .before .before .before .before .before in
     let tested = firsts .before .before in
-    asks-is (not-true _ (c .if2 .taken))
-    (announce-asks (sym (tested .before .mark-of .ensures .0) ∙ tested .if1 .taken) refl (firsts .item-first .ensures) (asking .ask-codes .ensures))
-
-same-length-2 : tie.Need-same-length-2
-same-length-2 c = c .before .before .before .ask-codes .ensures .asking .long
+    announce-asks (sym (tested .before .mark-of .ensures .0) ∙ tested .if1 .taken) refl (firsts .item-first .ensures) (asking .ask-codes .ensures)
 
 returns-2 : tie.Need-returns-2
-returns-2 c =
-    let asking = c .before .before .before in
-    let firsts = asking .before .before .before .before in
-    let tested = firsts .before .before in
-    asks-is (not-false _ (c .if2 .left))
-    (announce-asks (sym (tested .before .mark-of .ensures .0) ∙ tested .if1 .taken) refl (firsts .item-first .ensures) (asking .ask-codes .ensures))
-
-returns-3 : tie.Need-returns-3
-returns-3 c = rule-asks (λ e. c .before .if1 .left (c .before .before .mark-of .ensures .0 ∙ e)) _ (omega arith)
+returns-2 c = rule-asks (λ e. c .before .if1 .left (c .before .before .mark-of .ensures .0 ∙ e)) _ _ (omega arith)
 
 length-of-requires : tie.Need-length-of-requires
 length-of-requires c κs = search needs
 
-returns-4 : tie.Need-returns-4
-returns-4 c = unfinished-asks (λ e. c .before .before .before .if1 .left (c .before .before .before .before .mark-of .ensures .0 ∙ e)) _ (λ e. c .if4 .taken (c .before .length-of .ensures .0 ∙ e))
+returns-3 : tie.Need-returns-3
+returns-3 c = let at-if1 = c .before .before .before in unfinished-asks (λ e. at-if1 .if1 .left (at-if1 .before .mark-of .ensures .0 ∙ e)) _ _ (λ e. c .if3 .taken (c .before .length-of .ensures .0 ∙ e))
 
 add-ask-codes-2 : tie.Need-add-ask-codes-2
 add-ask-codes-2 c = search needs
@@ -62,24 +52,17 @@ ask-codes-requires-2 : tie.Need-ask-codes-requires-2
 ask-codes-requires-2 c κs = search needs
 
 same-length-3 : tie.Need-same-length-3
-same-length-3 c = c .before .before .before .ask-codes2 .ensures .asking .long
-
-returns-5 : tie.Need-returns-5
-returns-5 c =
-    let at-length-of = c .before .before .before .before .before .before in
-    let at-if1 = at-length-of .before .before in
-    let at-mark-of = at-if1 .before in
-    asks-is (not-true _ (c .if5 .taken)) (pop-asks (λ e. at-if1 .if1 .left (at-mark-of .mark-of .ensures .0 ∙ e)) (omega arith) (sym (at-length-of .length-of .ensures .0) ∙ c .before .before .before .before .before .if4 .left) (c .before .before .before .ask-codes2 .ensures))
+same-length-3 c = c .before .before .before .before .ask-codes2 .ensures .asking .long
 
 same-length-4 : tie.Need-same-length-4
-same-length-4 c = c .before .before .before .ask-codes2 .ensures .asking .long
+same-length-4 c = c .before .before .before .before .ask-codes2 .ensures .asking .others-long
 
-returns-6 : tie.Need-returns-6
-returns-6 c =
-    let at-length-of = c .before .before .before .before .before .before in
-    let at-if1 = at-length-of .before .before in
-    let at-mark-of = at-if1 .before in
-    asks-is (not-false _ (c .if5 .left)) (pop-asks (λ e. at-if1 .if1 .left (at-mark-of .mark-of .ensures .0 ∙ e)) (omega arith) (sym (at-length-of .length-of .ensures .0) ∙ c .before .before .before .before .before .if4 .left) (c .before .before .before .ask-codes2 .ensures))
+returns-4 : tie.Need-returns-4
+returns-4 c =
+    let asking = c .before .before .before .before in
+    let at-if3 = asking .before .before .before in
+    let at-if1 = at-if3 .before .before .before in
+    pop-asks (λ e. at-if1 .if1 .left (at-if1 .before .mark-of .ensures .0 ∙ e)) (omega arith) (sym (at-if3 .before .length-of .ensures .0) ∙ at-if3 .if3 .left) (asking .ask-codes2 .ensures)
 
 pub ask-item-spec : {M : Type 1} → statement M
 ask-item-spec =
@@ -92,15 +75,13 @@ ask-item-spec =
     add-ask-codes
     ask-codes-requires
     same-length
-    returns
     same-length-2
+    returns
     returns-2
-    returns-3
     length-of-requires
-    returns-4
+    returns-3
     add-ask-codes-2
     ask-codes-requires-2
     same-length-3
-    returns-5
     same-length-4
-    returns-6)
+    returns-4)

@@ -1,5 +1,5 @@
-use Rattle.cells.specs.Demands.{Demand, Asking, RulesAsk, RuleAsks}
-use Rattle.cells.proofs.AskLaws.{asking-none, asks-fail, asking-then, asks-done}
+use Rattle.cells.specs.Demands.{Met, Asking, RulesAsk, RuleAsks}
+use Rattle.cells.proofs.AskLaws.{asking-none, met-kept, asking-then}
 use mathlib.Core.Path.{_∙_}
 use Prim.Native.Nat.{ℕ, _+_, _≤_, _<_, _-_}
 use native.Mathlib.Omega.{arith}
@@ -11,13 +11,13 @@ use Rattle.cells.proofs.ask_rules.Statement.{statement}
 use Rattle.cells.proofs.ask_rules.Tie as tie
 
 abbrev Inv-loop : tie.InvT-loop
-Inv-loop items present follow nul fst count rules codes asked₀ i₀ asked i = (1 ≤ i) × Asking (RulesAsk items nul fst present follow rules codes) asked₀ asked × ((j : ℕ) → 1 ≤ j → j < i → Present items present j → (c v : ℕ) → RuleAsks items nul fst follow rules codes j c v → Demand asked c v)
+Inv-loop items present follow nul fst count rules codes asked₀ others₀ i₀ asked others i = (1 ≤ i) × Asking (RulesAsk items nul fst present follow rules codes) asked₀ others₀ asked others × ((j : ℕ) → 1 ≤ j → j < i → Present items present j → (c v : ℕ) → RuleAsks items nul fst follow rules codes j c v → Met asked others c v)
 
 abbrev μ-loop : tie.MeasureT-loop
-μ-loop items present follow nul fst count rules codes asked₀ i₀ asked i = rules + 1 - i
+μ-loop items present follow nul fst count rules codes asked₀ others₀ i₀ asked others i = rules + 1 - i
 
 loop-holds : tie.Need-loop-holds Inv-loop μ-loop
-loop-holds c = (omega arith, asking-none _, λ j a b. absurd (no-gap a b))
+loop-holds c = (omega arith, asking-none _ _, λ j a b. absurd (no-gap a b))
 
 is-present-requires : tie.Need-is-present-requires Inv-loop μ-loop
 is-present-requires c κs = search needs
@@ -35,17 +35,16 @@ loop-again c =
 
 ask-rule-requires : tie.Need-ask-rule-requires Inv-loop μ-loop
 ask-rule-requires c κs =
-    let start = c .before .before .before .before .before .before .before .before .before .before .before in
-    (start .pre .0, ((omega (arith, start .pre .1 .0 .0), omega (arith, start .pre .1 .0 .0, start .pre .1 .0 .1), c .before .before .is-present .ensures .yes (not-false _ (c .before .if1 .left)) .nonterminal), (start .pre .1 .1 .1, c .before .before .before .before .loop .inv .1 .long ∙ start .pre .1 .1 .2)))
-
-same-length : tie.Need-same-length Inv-loop μ-loop
-same-length c = c .before .before .before .ask-rule .ensures .asking .long ∙ c .before .before .before .before .before .before .before .before .loop .inv .1 .long
-
-returns : tie.Need-returns Inv-loop μ-loop
-returns c =
-    let at-is-present = c .before .before .before .before .before .before in
-    let at-loop = at-is-present .before .before in
-    asks-fail (at-loop .loop .inv .1) (λ d v w. record { rule = at-loop .loop .i; above = at-loop .loop .inv .0; below = omega arith; present-rule = at-is-present .is-present .ensures .yes (not-false _ (c .before .before .before .before .before .if1 .left)); asks = w }) (c .before .before .before .ask-rule .ensures) (not-true _ (c .if2 .taken))
+    let at-if1 = c .before .before in
+    let at-loop = at-if1 .before .before .before in
+    let start = at-loop .before .before .before .before .before .before .before .before in
+    let o = at-loop .loop .inv in (
+      start .pre .0,
+      (
+        (omega (arith, start .pre .1 .0 .0), omega (arith, start .pre .1 .0 .0, start .pre .1 .0 .1), at-if1 .before .is-present .ensures .yes (not-false _ (at-if1 .if1 .left)) .nonterminal, start .pre .1 .1 .0 .1),
+        (o .1 .long ∙ start .pre .1 .1 .1 .0, o .1 .others-long ∙ start .pre .1 .1 .1 .1),
+      ),
+    )
 
 add-i-2 : tie.Need-add-i-2 Inv-loop μ-loop
 add-i-2 c = search needs
@@ -55,19 +54,25 @@ loop-less-2 c = search needs
 
 loop-again-2 : tie.Need-loop-again-2 Inv-loop μ-loop
 loop-again-2 c =
-    let at-is-present = c .before .before .before .before .before .before in
-    let at-loop = at-is-present .before .before in
-    let a = c .before .before .before .ask-rule .ensures in (
+    let asking = c .before .before .before .before in
+    let at-if1 = asking .before .before .before in
+    let at-loop = at-if1 .before .before .before in
+    let o = at-loop .loop .inv in
+    let a = asking .ask-rule .ensures in
+    let p = at-if1 .before .is-present .ensures .yes (not-false _ (at-if1 .if1 .left)) in (
       omega arith,
-      asking-then (at-loop .loop .inv .1) (λ d v w. record { rule = at-loop .loop .i; above = at-loop .loop .inv .0; below = omega arith; present-rule = at-is-present .is-present .ensures .yes (not-false _ (c .before .before .before .before .before .if1 .left)); asks = w }) (a .asking),
-      from-more _ 1 (at-loop .loop .i) (λ j u l p d v w. a .asking .kept d v (at-loop .loop .inv .2 j u l p d v w)) (λ p. a .met (not-false _ (c .if2 .left))),
+      asking-then (o .1) (λ d v w. record { rule = at-loop .loop .i; above = o .0; below = omega arith; present-rule = p; asks = w }) (a .asking),
+      from-more _ 1 (at-loop .loop .i) (λ j u l e d v w. met-kept (a .asking) (o .2 j u l e d v w)) (λ _. a .met),
     )
 
-same-length-2 : tie.Need-same-length-2 Inv-loop μ-loop
-same-length-2 c = c .before .loop .inv .1 .long
+same-length : tie.Need-same-length Inv-loop μ-loop
+same-length c = c .before .loop .inv .1 .long
 
-returns-2 : tie.Need-returns-2 Inv-loop μ-loop
-returns-2 c = asks-done (c .before .loop .inv .1) (λ d v w. c .before .loop .inv .2 (w .rule) (w .above) (omega (arith, w .below)) (w .present-rule) d v (w .asks))
+same-length-2 : tie.Need-same-length-2 Inv-loop μ-loop
+same-length-2 c = c .before .loop .inv .1 .others-long
+
+returns : tie.Need-returns Inv-loop μ-loop
+returns c = let o = c .before .loop .inv in record { asking = o .1; met = λ d v w. o .2 (w .rule) (w .above) (omega (arith, w .below)) (w .present-rule) d v (w .asks) }
 
 pub ask-rules-spec : {M : Type 1} → statement M
 ask-rules-spec =
@@ -81,10 +86,9 @@ ask-rules-spec =
     loop-less
     loop-again
     ask-rule-requires
-    same-length
-    returns
     add-i-2
     loop-less-2
     loop-again-2
+    same-length
     same-length-2
-    returns-2)
+    returns)

@@ -81,49 +81,18 @@ explain-items-requires c κs =
 returns-2 : tie.Need-returns-2
 returns-2 c = search needs
 
-slice-aggregate-explain-conflicts : tie.Need-slice-aggregate-explain-conflicts
-slice-aggregate-explain-conflicts c = search needs
+slice-aggregate-explain-asked : tie.Need-slice-aggregate-explain-asked
+slice-aggregate-explain-asked c = search needs
 
-slice-aggregate-explain-conflicts-2 : tie.Need-slice-aggregate-explain-conflicts-2
-slice-aggregate-explain-conflicts-2 c = search needs
+slice-aggregate-explain-asked-2 : tie.Need-slice-aggregate-explain-asked-2
+slice-aggregate-explain-asked-2 c = search needs
 
-slice-aggregate-explain-conflicts-3 : tie.Need-slice-aggregate-explain-conflicts-3
-slice-aggregate-explain-conflicts-3 c = search needs
+slice-aggregate-explain-asked-3 : tie.Need-slice-aggregate-explain-asked-3
+slice-aggregate-explain-asked-3 c = search needs
 
-explain-conflicts-requires : tie.Need-explain-conflicts-requires
-explain-conflicts-requires c κs =
-    let at-flag-moves = c .before .before .before .before .before .before .before in
-    let at-close-state = at-flag-moves .before .before .before .before .before in
-    let start = at-close-state .before .before .before .before .before .before .before .before .before .before .before .before .before .before .before
-    .before .before .before in
-    let S = start .pre .0 in
-    let C = start .pre .1 .0 in
-    let k = at-close-state .close-state .kept .1 .1 .1 .1 .1 .1 .1 .1 .1 .1 .1 .1 in (
-      S .some-lines,
-      (
-        ready-of S C,
-        (
-          (within _ _, few-items (S .few-rules) (S .few-strings), S .codes-room),
-          (k .0, k .1 .0, at-flag-moves .flag-moves .ensures .0),
-        ),
-      ),
-    )
-
-returns-3 : tie.Need-returns-3
-returns-3 c = search needs
-
-slice-aggregate-explain-cells : tie.Need-slice-aggregate-explain-cells
-slice-aggregate-explain-cells c = search needs
-
-slice-aggregate-explain-cells-2 : tie.Need-slice-aggregate-explain-cells-2
-slice-aggregate-explain-cells-2 c = search needs
-
-slice-aggregate-explain-cells-3 : tie.Need-slice-aggregate-explain-cells-3
-slice-aggregate-explain-cells-3 c = search needs
-
-explain-cells-requires : tie.Need-explain-cells-requires
-explain-cells-requires c κs =
-    let at-flag-moves = c .before .before .before .before .before .before .before in
+explain-asked-requires : tie.Need-explain-asked-requires
+explain-asked-requires c κs =
+    let at-flag-moves = c .before .before .before .before .before .before in
     let at-close-state = at-flag-moves .before .before .before .before .before in
     let start = at-close-state .before .before .before .before .before .before .before .before .before .before .before .before .before .before .before
     .before .before .before in
@@ -146,8 +115,8 @@ explain-cells-requires c κs =
       ),
     )
 
-returns-4 : tie.Need-returns-4
-returns-4 c = search needs
+returns-3 : tie.Need-returns-3
+returns-3 c = search needs
 
 pub explain-state-spec : {M : Type 1} → statement M
 explain-state-spec =
@@ -166,13 +135,8 @@ explain-state-spec =
     slice-aggregate-explain-items-2
     explain-items-requires
     returns-2
-    slice-aggregate-explain-conflicts
-    slice-aggregate-explain-conflicts-2
-    slice-aggregate-explain-conflicts-3
-    explain-conflicts-requires
-    returns-3
-    slice-aggregate-explain-cells
-    slice-aggregate-explain-cells-2
-    slice-aggregate-explain-cells-3
-    explain-cells-requires
-    returns-4)
+    slice-aggregate-explain-asked
+    slice-aggregate-explain-asked-2
+    slice-aggregate-explain-asked-3
+    explain-asked-requires
+    returns-3)

@@ -85,15 +85,19 @@ slice-aggregate-ask-cells-3 c = search needs
 slice-aggregate-ask-cells-4 : tie.Need-slice-aggregate-ask-cells-4
 slice-aggregate-ask-cells-4 c = search needs
 
+slice-aggregate-ask-cells-5 : tie.Need-slice-aggregate-ask-cells-5
+slice-aggregate-ask-cells-5 c = search needs
+
 ask-cells-requires : tie.Need-ask-cells-requires
 ask-cells-requires c κs =
-    let at-flag-moves = c .before .before .before .before .before .before .before .before .before .before .before .before .before .before .before in
+    let at-flag-moves = c .before .before .before .before .before .before .before .before .before .before .before .before .before .before .before .before in
     let at-close-state = at-flag-moves .before .before .before .before .before in
     let s = at-close-state .before .before .before .before .before .before .before .before .before .before .before .before .before .before .before .before .before .before in
     let S = s .pre .0 in
     let C = s .pre .1 .0 in
     let low = s .pre .1 .1 .1 in
-    (readable-of S C (at-close-state .close-state .kept .1 .1 .1 .1 .1 .1 .1 .1 .1 .1 .1 .1 .0), (ready-of S C, ((few-items (S .few-rules) (S .few-strings), low, S .codes-room), ((at-close-state .close-state .kept .1 .1 .1 .1 .1 .1 .1 .1 .1 .1 .1 .1 .1 .0), at-flag-moves .flag-moves .ensures .0, refl))))
+    let kept = at-close-state .close-state .kept .1 .1 .1 .1 .1 .1 .1 .1 .1 .1 .1 .1 in
+    (readable-of S C (kept .0), (ready-of S C, ((few-items (S .few-rules) (S .few-strings), low, S .codes-room), ((kept .1 .0, at-flag-moves .flag-moves .ensures .0), (refl, refl)))))
 
 slice-aggregate-cells-meet : tie.Need-slice-aggregate-cells-meet
 slice-aggregate-cells-meet c = search needs
@@ -103,20 +107,20 @@ slice-aggregate-cells-meet-2 c = search needs
 
 cells-meet-requires : tie.Need-cells-meet-requires
 cells-meet-requires c κs =
-    let at-flag-moves = c .before .before .before .before .before .before .before .before .before .before .before .before .before .before .before .before .before .before .before in
+    let at-flag-moves = c .before .before .before .before .before .before .before .before .before .before .before .before .before .before .before .before .before .before .before .before .before in
     let s = at-flag-moves .before .before .before .before .before .before .before .before .before .before .before .before .before .before .before .before .before .before .before .before .before .before .before in
     let S = s .pre .0 in
     let C = s .pre .1 .0 in
     let low = s .pre .1 .1 .1 in
-    (S .cells-room, (c .before .before .before .ask-cells .ensures .0, at-flag-moves .flag-moves .ensures .0, C .few-codes, low))
+    (S .cells-room, (c .before .before .before .before .ask-cells .ensures .0 .0, at-flag-moves .flag-moves .ensures .0, C .few-codes, low))
 
 same-length : tie.Need-same-length
 same-length c = search needs
 
 returns : tie.Need-returns
 returns c =
-    let asking = c .before .before .before .before in
-    let including = asking .before .before .before .before .before .before .before in
+    let asking = c .before .before .before .before .before in
+    let including = asking .before .before .before .before .before .before .before .before in
     let testing = including .before .before .before .before in
     let finding = testing .before in
     let moving = finding .before .before .before .before in
@@ -159,6 +163,7 @@ judge-state-spec =
     slice-aggregate-ask-cells-2
     slice-aggregate-ask-cells-3
     slice-aggregate-ask-cells-4
+    slice-aggregate-ask-cells-5
     ask-cells-requires
     slice-aggregate-cells-meet
     slice-aggregate-cells-meet-2

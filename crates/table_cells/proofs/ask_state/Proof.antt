@@ -49,9 +49,12 @@ slice-aggregate-ask-cells-2 c = search needs
 slice-aggregate-ask-cells-3 : tie.Need-slice-aggregate-ask-cells-3
 slice-aggregate-ask-cells-3 c = search needs
 
+slice-aggregate-ask-cells-4 : tie.Need-slice-aggregate-ask-cells-4
+slice-aggregate-ask-cells-4 c = search needs
+
 ask-cells-requires : tie.Need-ask-cells-requires
 ask-cells-requires c κs =
-    let at-flag-moves = c .before .before .before .before .before in
+    let at-flag-moves = c .before .before .before .before .before .before in
     let at-close-state = at-flag-moves .before .before .before .before .before in
     let start = at-close-state .before .before .before .before .before .before .before .before .before .before .before .before in
     let Z = start .pre .0 in (
@@ -61,9 +64,8 @@ ask-cells-requires c κs =
         (
           (omega (arith, Z .few-rules, Z .few-strings), start .pre .1 .0, Z .codes-room),
           (
-            at-close-state .close-state .kept .1 .1 .1 .1 .1 .1 .1 .1 .1 .1 .1 .1 .1 .0,
-            at-flag-moves .flag-moves .ensures .0,
-            start .pre .1 .1,
+            (at-close-state .close-state .kept .1 .1 .1 .1 .1 .1 .1 .1 .1 .1 .1 .1 .1 .0, at-flag-moves .flag-moves .ensures .0),
+            (start .pre .1 .1, refl),
           ),
         ),
       ),
@@ -74,13 +76,14 @@ same-length c = search needs
 
 returns : tie.Need-returns
 returns c =
-    let at-ask-cells = c .before .before in
-    let at-flag-moves = at-ask-cells .before .before .before .before .before .before in (
-      at-ask-cells .ask-cells .ensures .0,
+    let at-ask-cells = c .before .before .before in
+    let at-flag-moves = at-ask-cells .before .before .before .before .before .before .before in (
+      at-ask-cells .ask-cells .ensures .0 .0,
       λ g t entries kinds values gotos H e.
           let K = at-flag-moves .before .before .before .before .before .close-state .ensures g t (in-memory-of H e) in
           let M = at-flag-moves .flag-moves .ensures .1 g t _ _ _ _ _ _ H (present-of K) in
-          at-ask-cells .ask-cells .ensures .1 g t _ _ _ _ _ H e K M,
+          let A = at-ask-cells .ask-cells .ensures .1 g t _ _ _ _ _ H e K M in
+          (A .0, A .1),
     )
 
 pub ask-state-spec : {M : Type 1} → statement M
@@ -97,6 +100,7 @@ ask-state-spec =
     slice-aggregate-ask-cells
     slice-aggregate-ask-cells-2
     slice-aggregate-ask-cells-3
+    slice-aggregate-ask-cells-4
     ask-cells-requires
     same-length
     returns)

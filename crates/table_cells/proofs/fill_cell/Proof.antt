@@ -6,6 +6,9 @@ use Rattle.table_cells.proofs.fill_cell.Tie as tie
 returns : tie.Need-returns
 returns c = fills-move _ _ _ _ (c .if1 .taken)
 
+add-if2 : tie.Need-add-if2
+add-if2 c = search needs
+
 returns-2 : tie.Need-returns-2
 returns-2 c = fills-high _ _ _ _ (c .if2 .taken)
 
@@ -35,6 +38,7 @@ fill-cell-spec =
     tie.close
     (tie.spec
     returns
+    add-if2
     returns-2
     cast-kinds
     slice-write-kinds
