@@ -8,3 +8,4 @@ pub mod FirstLaws
 pub mod GrammarLaws
 pub mod Member
 pub mod Strings
+pub mod Terminals
