@@ -10,8 +10,8 @@ use lib.ListN.{length, getD, set, take}
 use lib.Seq.{take-suc-set}
 use Rattle.language.specs.Sentence.{In, here, there}
 use Rattle.language.proofs.Member.{in-left, in-right, in-either}
+use Rattle.language.specs.Rising.{RisingFrom}
 use Rattle.lalr_states.specs.States.{itemOf, dotOf}
-use Rattle.lalr_states.proofs.Lists.{RisingFrom}
 use Rattle.items.specs.Layout.{lengthAt, markAt, symbolAt}
 use Rattle.fixpoint.specs.Flags.{On}
 use Rattle.analysis.specs.Rests.{Before}

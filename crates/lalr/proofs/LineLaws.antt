@@ -8,11 +8,12 @@ use lib.ListN.{length, getD}
 use Rattle.language.specs.Grammar.{Grammar}
 use Rattle.language.specs.Sentence.{In, here, there}
 use Rattle.language.proofs.Member.{in-cons, in-left, in-right, in-either}
+use Rattle.language.specs.Rising.{RisingFrom}
 use Rattle.leftcorner.specs.Table.{KernelLine, K, Table}
 use Rattle.leftcorner.specs.Construction.{KernelAt, Has, in-kernel, in-closure, MovedBy}
 use Rattle.lalr_states.specs.Strings.{entryStrings, entryLines}
 use Rattle.lalr_states.specs.States.{Kernel, itemOf, dotOf, range, alone, states, kernelOf}
-use Rattle.lalr_states.proofs.Lists.{in-range, range-in, RisingFrom, keep-only, keep-every, keep-rising}
+use Rattle.lalr_states.proofs.Lists.{in-range, range-in, keep-only, keep-every, keep-rising}
 use Rattle.lalr.proofs.Over.{moved-over}
 use Rattle.lalr_states.proofs.MoveLaws.{alone-line, line-alone}
 use Rattle.lalr_states.specs.Lookaheads.{Lookahead}

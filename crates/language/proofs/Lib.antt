@@ -9,3 +9,4 @@ pub mod GrammarLaws
 pub mod Member
 pub mod Strings
 pub mod Terminals
+pub mod Rising

@@ -5,15 +5,23 @@ use native.Mathlib.Omega.{arith}
 use native.Mathlib.Decide.{decLe}
 use mathlib.Core.Path.{_≡_, refl, sym, ap, _∙_}
 use mathlib.Core.Logic.{_⊎_, inl, inr}
+use mathlib.Core.Bool.{Bool, true, false, cond, _&&_}
 use mathlib.Core.List.{List, [], _∷_, _++_}
+use lib.Dec.{leb}
 use lib.ListN.{length}
 use Rattle.language.specs.Grammar.{Grammar}
 use Rattle.language.specs.First.{next}
-use Rattle.leftcorner.specs.Machine.{Automaton, Event, Outcome, on, whole, wrong, rulesOf, toCome, taken, step, start, Verdict, short-at, fits, proceed, walkFor, enoughSteps, walk}
+use Rattle.leftcorner.specs.Machine.{Automaton, Event, Outcome, on, whole, wrong, rulesOf, toCome, taken, step, start, Verdict, whole-at, wrong-at, short-at, fits, proceed, walkFor, enoughSteps, walk}
 use Rattle.leftcorner.specs.Claim.{Within, begins, steps, Outgrows, at-start, at-step}
 use Rattle.leftcorner.specs.Resume.{stepsFrom, resume}
 use Rattle.leftcorner.proofs.Progress.{PopsSome, progress}
 use Rattle.leftcorner.proofs.Bounded.{fits-yes, fits-no, Enough, enough-on, enough-at-start, no-fuel}
+
+-- the place that a walk ends at
+abbrev pub endPlace : Verdict → ℕ
+endPlace (whole-at p l) = p
+endPlace (wrong-at p) = p
+endPlace (short-at p) = p
 
 module _ (g : Grammar) (m : Automaton) (n k : ℕ) where
   -- two ways on that agree where a step fits make the same of it
@@ -88,3 +96,26 @@ module _ (g : Grammar) (m : Automaton) (n k : ℕ) where
     pub outgrows-within : {w : List ℕ} {p : ℕ} → Outgrows g m n k w p → p ≤ length w
     outgrows-within (at-start h) = omega arith
     outgrows-within (at-step x h z) = omega (arith, within-place x)
+
+    -- no walk ends past its tokens
+    for-place : (f : ℕ) (S w : List ℕ) (p : ℕ) (l : List ℕ) → endPlace (walkFor g m n k f S w p l) ≤ p + length w
+    for-place zero S w p l = omega arith
+    for-place (suc f) S w p l = after (step g m S (next w 0)) refl (λ e U. for-place f U (toCome e w) (taken e p) (l ++ rulesOf e))
+      where
+        after : (o : Outcome) → step g m S (next w 0) ≡ o
+            → ((e : Event) (U : List ℕ) → endPlace (walkFor g m n k f U (toCome e w) (taken e p) (l ++ rulesOf e)) ≤ taken e p + length (toCome e w))
+            → endPlace (proceed g m n k o w p l (walkFor g m n k f)) ≤ p + length w
+        after whole h again = omega arith
+        after wrong h again = omega arith
+        after (on e U) h again = go (leb (length U) n && leb (length (l ++ rulesOf e)) k)
+          where
+            go : (b : Bool) → endPlace (cond b (walkFor g m n k f U (toCome e w) (taken e p) (l ++ rulesOf e)) (short-at p)) ≤ p + length w
+            go true = omega (arith, again e U, progress g m least S w e U h .count p)
+            go false = omega arith
+
+    pub walk-place : (w : List ℕ) → endPlace (walk g m n k w) ≤ length w
+    walk-place w = go (leb 1 n && leb 0 k)
+      where
+        go : (b : Bool) → endPlace (cond b (walkFor g m n k (enoughSteps g m n k w) (start g m) w 0 []) (short-at 0)) ≤ length w
+        go true = omega (arith, for-place (enoughSteps g m n k w) (start g m) w 0 [])
+        go false = omega arith
