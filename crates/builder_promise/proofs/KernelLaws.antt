@@ -14,6 +14,8 @@ use Rattle.language.specs.Sentence.{In}
 use Rattle.language.specs.WellFormed as grammar
 use Rattle.language.proofs.Member.{in-map}
 use Rattle.language.proofs.GrammarLaws.{rule-range}
+use Rattle.language.specs.Rising.{RisingFrom}
+use Rattle.language.proofs.Rising.{rising-in, rising-same}
 use Rattle.leftcorner.specs.Table as table
 use Rattle.leftcorner.specs.Table.{EntryLine, entryAt, entryFrom, stringOf, rightOf, markOf, symbolsOf, recognitionPoint}
 use Rattle.leftcorner.specs.Construction as construction
@@ -23,7 +25,6 @@ use Rattle.verdict.proofs.Closure.{image-in}
 use Rattle.lalr_states.specs.Strings.{entryStrings}
 use Rattle.lalr_states.proofs.EntryLaws.{entry-line, entry-number}
 use Rattle.lalr_states.specs.States.{Kernel, itemOf, dotOf, alone, move}
-use Rattle.lalr_states.proofs.Lists.{RisingFrom, rising-in, rising-same}
 use Rattle.lalr.proofs.Once.{Once}
 use Rattle.lalr_states.proofs.Limits.{bounded, symbols-item}
 use Rattle.lalr.proofs.Over.{goes-over}

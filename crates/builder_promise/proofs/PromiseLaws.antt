@@ -12,6 +12,7 @@ use Rattle.language.specs.Sentence.{In, Declared}
 use Rattle.language.specs.First.{First}
 use Rattle.language.proofs.Member.{in-map}
 use Rattle.language.proofs.Strings.{AllDeclared, later-declared}
+use Rattle.language.proofs.Rising.{rising-same}
 use Rattle.leftcorner.specs.Table.{EntryLine, E, Action, Table, stringOf, nextState}
 use Rattle.leftcorner.specs.Construction.{EntryAt, KernelAt, ActionAt, in-kernel, Asked, EntriesMeet, LookaheadsMeet}
 use Rattle.leftcorner.specs.Claim.{_↔_}
@@ -23,7 +24,6 @@ use Rattle.analysis.proofs.Decided.{first?}
 use Rattle.grammar.proofs.GrammarLaws.{Reduced}
 use Rattle.lalr_states.proofs.EntryLaws.{entry-line, entries-meet}
 use Rattle.lalr_states.specs.States.{Kernel, itemOf, dotOf, find, states, kernelOf}
-use Rattle.lalr_states.proofs.Lists.{rising-same}
 use Rattle.lalr_states.proofs.Discovery.{find-at}
 use Rattle.lalr_states.proofs.Limits.{Limits, declared}
 use Rattle.lalr.proofs.Over.{entry-over}

@@ -11,7 +11,7 @@ use lib.Dec.{eqb}
 use lib.ListN.{length}
 use Rattle.language.specs.Grammar.{Grammar, Rule, ruleAt, concat}
 use Rattle.language.specs.Sentence.{In, here, there}
-use Rattle.language.proofs.Member.{in-cons, in-left, in-right, in-map}
+use Rattle.language.proofs.Member.{in-cons, in-left, in-right, in-map, in-either}
 use Rattle.language.proofs.GrammarLaws.{rule-range}
 use Rattle.leftcorner.proofs.ReadOff.{clash}
 use Rattle.leftcorner.specs.Claim.{_↔_}
@@ -22,7 +22,7 @@ use Rattle.analysis.proofs.Decided.{first?}
 use Rattle.verdict.proofs.Closure.{image-in}
 use Rattle.lalr_states.proofs.EntryLaws.{entry-line}
 use Rattle.lalr_states.specs.States.{Kernel, itemOf, dotOf, states, kernelOf}
-use Rattle.lalr.proofs.LineLaws.{itemTable, same-entries, in-either, moved-alone, alone-moved}
+use Rattle.lalr.proofs.LineLaws.{itemTable, same-entries, moved-alone, alone-moved}
 use Rattle.lalr_states.proofs.Limits.{Limits, wanted-short}
 use Rattle.lalr.proofs.Over.{entry-over}
 use Rattle.lalr_states.proofs.MoveLaws.{item-of, dot-of, in-move, move-only}

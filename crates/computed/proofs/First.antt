@@ -11,7 +11,7 @@ use lib.Dec.{eqb}
 use lib.ListN.{length, getD}
 use Rattle.language.specs.Grammar.{Grammar, Rule, ruleAt, right, IsTerminal}
 use Rattle.language.specs.Sentence.{In, here, there}
-use Rattle.language.proofs.Member.{in-cons, in-left, in-right, in-map}
+use Rattle.language.proofs.Member.{in-cons, in-left, in-right, in-map, in-either}
 use Rattle.language.specs.Nullable.{Nullable, AllIn, Starts}
 use Rattle.language.specs.WellFormed as grammar
 use Rattle.leftcorner.proofs.ReadOff.{clash}
@@ -25,7 +25,6 @@ use Rattle.verdict.proofs.Closure.{image-in}
 use Rattle.lalr_states.proofs.Distinct.{in-at, at-in}
 use Rattle.lalr_states.specs.States.{range}
 use Rattle.lalr_states.proofs.Lists.{in-range, range-in}
-use Rattle.lalr.proofs.LineLaws.{in-either}
 use Rattle.computed.proofs.Work.{pushIf, member, push-in, push-here, push-there, or-true, or-left, or-right, member-in, in-member, work, work-only, Whole, work-whole}
 
 pub and-true : (a b : Bool) → a && b ≡ true → (a ≡ true) × (b ≡ true)

@@ -11,7 +11,7 @@ use lib.Dec.{leb}
 use lib.ListN.{length}
 use Rattle.language.specs.Grammar.{Grammar, Rule, ruleAt, concat}
 use Rattle.language.specs.Sentence.{In, here, there}
-use Rattle.language.proofs.Member.{in-cons, in-left, in-right, in-map}
+use Rattle.language.proofs.Member.{in-cons, in-left, in-right, in-map, in-either}
 use Rattle.language.proofs.GrammarLaws.{rule-range}
 use Rattle.language.specs.WellFormed as grammar
 use Rattle.leftcorner.proofs.ReadOff.{clash}
@@ -23,7 +23,6 @@ use Rattle.verdict.proofs.Closure.{image-in}
 use Rattle.lalr_states.specs.Strings.{entryStrings}
 use Rattle.lalr_states.proofs.EntryLaws.{entry-line, found-entry}
 use Rattle.lalr_states.specs.States.{Kernel, itemOf, dotOf, states, goto}
-use Rattle.lalr.proofs.LineLaws.{in-either}
 use Rattle.lalr_states.proofs.Limits.{bounded}
 use Rattle.lalr_states.proofs.MoveLaws.{item-of, dot-of}
 use Rattle.lalr.proofs.Carried.{group-wanted}

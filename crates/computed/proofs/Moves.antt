@@ -12,10 +12,10 @@ use lib.ListN.{length, getD, drop}
 use Rattle.language.specs.Grammar.{Grammar, Rule, at, ruleAt}
 use Rattle.language.specs.Sentence.{In, here, there}
 use Rattle.language.proofs.Member.{in-cons}
+use Rattle.language.specs.Rising.{RisingFrom}
 use Rattle.leftcorner.proofs.ReadOff.{clash}
 use Rattle.leftcorner.specs.Table.{Table, symbolsOf, recognitionPoint, Goes}
 use Rattle.lalr_states.specs.States.{Kernel, itemOf, dotOf, range, find, leave}
-use Rattle.lalr_states.proofs.Lists.{RisingFrom}
 use Rattle.computed.proofs.Work.{pushIf, push-in, push-here, push-there, work}
 
 -- ---- rising lists

@@ -12,6 +12,7 @@ use lib.ListN.{length}
 use Rattle.language.specs.Grammar.{Grammar}
 use Rattle.language.specs.Sentence.{In, here, there}
 use Rattle.language.specs.WellFormed as grammar
+use Rattle.language.specs.Rising.{RisingFrom}
 use Rattle.leftcorner.proofs.ReadOff.{clash}
 use Rattle.leftcorner.specs.Table.{KernelLine, K, Action, S, N, A, P, ActionLine, Table, nextState}
 use Rattle.leftcorner.specs.Construction.{forget}
@@ -19,7 +20,7 @@ use Rattle.analysis.specs.ByRules.{FirstByRules}
 use Rattle.analysis.proofs.Decided.{first?}
 use Rattle.lalr_states.specs.Strings.{entryStrings, entryLines}
 use Rattle.lalr_states.specs.States.{Kernel, itemOf, dotOf, range, states}
-use Rattle.lalr_states.proofs.Lists.{RisingFrom, range-in}
+use Rattle.lalr_states.proofs.Lists.{range-in}
 use Rattle.lalr.proofs.LineLaws.{codes, lines, allOf}
 use Rattle.lalr_states.specs.Lookaheads.{bare, Lookahead}
 use Rattle.lalr_states.proofs.StateLaws.{firstKernels}

@@ -8,9 +8,8 @@ use mathlib.Core.Option.{Option, some, none}
 use borrow.Author.Tests.{eqb-true, eq-eqb}
 use lib.Dec.{eqb}
 use Rattle.language.specs.Sentence.{In, here, there}
-use Rattle.language.proofs.Member.{in-cons, in-left, in-right}
+use Rattle.language.proofs.Member.{in-cons, in-left, in-right, in-either}
 use Rattle.leftcorner.proofs.ReadOff.{clash}
-use Rattle.lalr.proofs.LineLaws.{in-either}
 
 -- ---- tests
 

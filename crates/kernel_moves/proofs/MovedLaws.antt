@@ -9,10 +9,9 @@ use mathlib.Core.List.{List, [], _∷_, _++_, append-nil}
 use lib.ListN.{length, getD, set, take}
 use lib.Seq.{take-suc-set}
 use Rattle.language.specs.Sentence.{In, here, there}
-use Rattle.language.proofs.Member.{in-left, in-right}
+use Rattle.language.proofs.Member.{in-left, in-right, in-either}
+use Rattle.language.specs.Rising.{RisingFrom}
 use Rattle.lalr_states.specs.States.{itemOf, dotOf}
-use Rattle.lalr_states.proofs.Lists.{RisingFrom}
-use Rattle.lalr.proofs.LineLaws.{in-either}
 use Rattle.items.specs.Layout.{lengthAt, markAt, symbolAt}
 use Rattle.fixpoint.specs.Flags.{On}
 use Rattle.analysis.specs.Rests.{Before}

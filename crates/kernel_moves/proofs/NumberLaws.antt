@@ -9,9 +9,8 @@ use mathlib.Core.List.{List, [], _∷_, _++_}
 use lib.ListN.{length, getD, set, take}
 use lib.Seq.{take-suc, take-all}
 use Rattle.language.specs.Sentence.{In, here}
-use Rattle.language.proofs.Member.{in-left, in-right}
+use Rattle.language.proofs.Member.{in-left, in-right, in-either}
 use Rattle.lalr_states.specs.States.{itemOf, dotOf}
-use Rattle.lalr.proofs.LineLaws.{in-either}
 use Rattle.items.specs.Layout.{symbolAt}
 use Rattle.analysis.specs.Adds.{Adds}
 use Rattle.analysis.specs.Rests.{Before}

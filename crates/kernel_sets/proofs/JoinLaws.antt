@@ -9,8 +9,8 @@ use mathlib.Core.List.{List, [], _∷_, _++_}
 use lib.ListN.{length, getD, set, take, drop, length-set}
 use lib.Seq.{getD-at, getD-set-same, getD-set-other, take-add}
 use Rattle.language.specs.Sentence.{In}
+use Rattle.language.proofs.Member.{in-either}
 use Rattle.lalr_states.specs.States.{Kernel, noteIf}
-use Rattle.lalr.proofs.LineLaws.{in-either}
 use Rattle.lalr_states.proofs.Discovery.{Fits, in-getD}
 use Rattle.lalr_states.proofs.DiscoverySteps.{note-none, note-known, note-new}
 use Rattle.kernel_moves.specs.Moved.{Numbered}

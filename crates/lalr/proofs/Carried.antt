@@ -9,13 +9,14 @@ use lib.ListN.{length}
 use Rattle.language.specs.Grammar.{Grammar, Rule, ruleAt, concat}
 use Rattle.language.specs.Sentence.{In, here}
 use Rattle.language.proofs.Member.{in-right}
+use Rattle.language.specs.Rising.{RisingFrom}
+use Rattle.language.proofs.Rising.{rising-same}
 use Rattle.leftcorner.specs.Table.{Table}
 use Rattle.leftcorner.specs.Construction.{Wanted, of-group, entryItem, KernelAt, in-kernel, in-closure, MovedBy, moved, Carries}
 use Rattle.leftcorner.proofs.Closure.{has-of}
 use Rattle.lalr_states.specs.Strings.{entryStrings}
 use Rattle.lalr_states.proofs.EntryLaws.{entry-line, found-entry, some-entry}
 use Rattle.lalr_states.specs.States.{Kernel, itemOf, dotOf, states, kernelOf, goto}
-use Rattle.lalr_states.proofs.Lists.{RisingFrom, rising-same}
 use Rattle.lalr.proofs.Over.{goes-over}
 use Rattle.lalr_states.proofs.Limits.{Limits}
 use Rattle.lalr_states.proofs.MoveLaws.{item-of, dot-of, in-move, moved-dot}

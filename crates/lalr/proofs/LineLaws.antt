@@ -7,26 +7,18 @@ use mathlib.Core.List.{List, [], _∷_, _++_}
 use lib.ListN.{length, getD}
 use Rattle.language.specs.Grammar.{Grammar}
 use Rattle.language.specs.Sentence.{In, here, there}
-use Rattle.language.proofs.Member.{in-cons, in-left, in-right}
+use Rattle.language.proofs.Member.{in-cons, in-left, in-right, in-either}
+use Rattle.language.specs.Rising.{RisingFrom}
 use Rattle.leftcorner.specs.Table.{KernelLine, K, Table}
 use Rattle.leftcorner.specs.Construction.{KernelAt, Has, in-kernel, in-closure, MovedBy}
 use Rattle.lalr_states.specs.Strings.{entryStrings, entryLines}
 use Rattle.lalr_states.specs.States.{Kernel, itemOf, dotOf, range, alone, states, kernelOf}
-use Rattle.lalr_states.proofs.Lists.{in-range, range-in, RisingFrom, keep-only, keep-every, keep-rising}
+use Rattle.lalr_states.proofs.Lists.{in-range, range-in, keep-only, keep-every, keep-rising}
 use Rattle.lalr.proofs.Over.{moved-over}
 use Rattle.lalr_states.proofs.MoveLaws.{alone-line, line-alone}
 use Rattle.lalr_states.specs.Lookaheads.{Lookahead}
 use Rattle.lalr_states.proofs.LookaheadDecided.{lookahead?}
 use Rattle.lalr.specs.Built.{codesAt, linesOf, allLines, items}
-
-pub in-either : {A : Type 0} {x : A} (l : List A) {m : List A} → In x (l ++ m) → In x l ⊎ In x m
-in-either [] n = inr n
-in-either (y ∷ l) here = inl here
-in-either {x = x} (y ∷ l) {m = m} (there n) = go (in-either l n)
-  where
-    go : In x l ⊎ In x m → In x (y ∷ l) ⊎ In x m
-    go (inl k) = inl (there k)
-    go (inr k) = inr k
 
 module _ (g : Grammar) (F : List ℕ → ℕ → ℕ → Type 0) (F? : (β : List ℕ) (d c : ℕ) → Dec (F β d c)) (first-codes : List ℕ)
     (F-in : (β : List ℕ) (d c : ℕ) → F β d c → (c ≡ d) ⊎ In c first-codes) where

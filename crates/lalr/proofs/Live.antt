@@ -12,6 +12,7 @@ use Rattle.language.specs.Sentence.{In, here, there, Reachable, from-goal, from
 use Rattle.language.proofs.Strings.{AllDeclared, later-declared}
 use Rattle.language.proofs.GrammarLaws.{at-below}
 use Rattle.language.specs.WellFormed as grammar
+use Rattle.language.proofs.Member.{in-either}
 use Rattle.leftcorner.specs.Table.{Table, stringOf}
 use Rattle.leftcorner.specs.Construction.{Wanted, of-goal, of-group, entryItem, EntryAt, Has, in-kernel, in-closure, MovedBy, moved}
 use Rattle.leftcorner.proofs.Adequate.{Source, rule, entry, beforeOf, track, behind}
@@ -27,7 +28,6 @@ use Rattle.lalr_states.proofs.MoveLaws.{alone-line, move-only}
 use Rattle.lalr_states.proofs.StateLaws.{entry-kernel, Reached, entry-or}
 use Rattle.lalr_states.specs.Lookaheads as look
 use Rattle.lalr_states.specs.Lookaheads.{bare, entryOf, Lookahead}
-use Rattle.lalr.proofs.LineLaws.{in-either}
 use Rattle.lalr.proofs.Carried.{group-wanted}
 
 -- ---- where a symbol stands

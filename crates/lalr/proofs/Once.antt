@@ -8,14 +8,16 @@ use mathlib.Core.Option.{Option, some, none}
 use lib.ListN.{length, getD, length-append}
 use Rattle.language.specs.Grammar.{Grammar}
 use Rattle.language.specs.Sentence.{In, here, there}
-use Rattle.language.proofs.Member.{in-right}
+use Rattle.language.proofs.Member.{in-right, in-either}
+use Rattle.language.specs.Rising.{RisingFrom}
+use Rattle.language.proofs.Rising.{rising-in}
 use Rattle.leftcorner.specs.Table.{EntryLine, E, KernelLine, K, Action, ActionLine, L}
 use Rattle.lalr_states.specs.Strings.{entryLines}
 use Rattle.lalr_states.proofs.Distinct.{Distinct}
 use Rattle.lalr_states.specs.States.{Kernel, itemOf, dotOf, range, total}
-use Rattle.lalr_states.proofs.Lists.{range-in, RisingFrom, rising-in}
+use Rattle.lalr_states.proofs.Lists.{range-in}
 use Rattle.lalr.specs.Built.{lineIf, actionsOn, actionsOf}
-use Rattle.lalr.proofs.LineLaws.{in-either, lines, allOf, lines-in, all-in}
+use Rattle.lalr.proofs.LineLaws.{lines, allOf, lines-in, all-in}
 use Rattle.lalr.proofs.CellLaws.{cell, on-in, of-in}
 
 -- no two of a list are related

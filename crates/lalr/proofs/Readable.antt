@@ -10,6 +10,7 @@ use Rattle.language.specs.Grammar.{Grammar, Rule, ruleAt, concat, IsTerminal, I
 use Rattle.language.specs.Sentence.{In, here, there}
 use Rattle.language.proofs.GrammarLaws.{rule-range}
 use Rattle.language.proofs.Strings.{AllDeclared}
+use Rattle.language.specs.Rising.{RisingFrom}
 use Rattle.leftcorner.specs.Table.{E, Action, S, N, A, P, Table, symbolsOf, nextState}
 use Rattle.leftcorner.specs.Construction.{EntryAt, KernelAt, ActionAt, MovedBy, moved, Asked, to-announce, to-pop, WellFormed}
 use Rattle.leftcorner.proofs.ItemStrings.{wanted-declared}
@@ -17,7 +18,6 @@ use Rattle.lalr_states.specs.Strings.{entryStrings, entryLines}
 use Rattle.lalr_states.proofs.Distinct.{in-at}
 use Rattle.lalr_states.proofs.EntryLaws.{goal-at, some-entry, strings-distinct, entry-at, entry-line, lines-length}
 use Rattle.lalr_states.specs.States.{Kernel, itemOf, dotOf, alone, states, kernelOf, total}
-use Rattle.lalr_states.proofs.Lists.{RisingFrom}
 use Rattle.lalr.proofs.Over.{symbols-over}
 use Rattle.lalr_states.proofs.Limits.{Limits, declared, bounded, wanted-short, wanted-filled}
 use Rattle.lalr_states.proofs.MoveLaws.{move-only}

@@ -2,11 +2,13 @@
 use Prim.Native.Nat.{ℕ, zero, suc, _+_, _≤_, _<_}
 use native.Mathlib.Omega.{arith}
 use native.Mathlib.Decide.{ℕ-discrete}
-use mathlib.Core.Path.{_≡_, refl, sym, ap₂, subst}
+use mathlib.Core.Path.{_≡_, refl, sym, subst}
 use mathlib.Core.Logic.{_⊎_, inl, inr}
 use mathlib.Core.List.{List, [], _∷_}
 use Rattle.language.specs.Sentence.{In, here, there}
+use Rattle.language.specs.Rising.{RisingFrom}
 use Rattle.language.proofs.Member.{in-cons}
+use Rattle.language.proofs.Rising.{rising-below}
 use Rattle.lalr_states.specs.States.{range, keepIf, keep}
 
 pub in-range : (a n x : ℕ) → a ≤ x → x < a + n → In x (range a n)
@@ -24,42 +26,6 @@ range-in a (suc n) x m = go (in-cons m) (λ k. range-in (suc a) n x k)
     go : (x ≡ a) ⊎ In x (range (suc a) n) → (In x (range (suc a) n) → (suc a ≤ x) × (x < suc a + n)) → (a ≤ x) × (x < a + suc n)
     go (inl e) rec = (omega (arith, e), omega (arith, e))
     go (inr k) rec = let r = rec k in (omega (arith, r .0), omega (arith, r .1))
-
--- each is larger than those before it, and none is below a
-abbrev pub RisingFrom : ℕ → List ℕ → Type 0
-RisingFrom a [] = Unit {0}
-RisingFrom a (x ∷ l) = (a ≤ x) × RisingFrom (suc x) l
-
-pub rising-below : (a b : ℕ) (l : List ℕ) → a ≤ b → RisingFrom b l → RisingFrom a l
-rising-below a b [] le r = tt
-rising-below a b (x ∷ l) le r = (omega (arith, le, r .0), r .1)
-
-pub rising-in : (a : ℕ) (l : List ℕ) (y : ℕ) → RisingFrom a l → In y l → a ≤ y
-rising-in a [] y r m = elim m [ ]
-rising-in a (x ∷ l) y r here = r .0
-rising-in a (x ∷ l) y r (there m) = let z = rising-in (suc x) l y (r .1) m in omega (arith, z, r .0)
-
--- rising lists of the same numbers are the same
-pub rising-same : (a b : ℕ) (l m : List ℕ) → RisingFrom a l → RisingFrom b m → ((x : ℕ) → In x l → In x m) → ((x : ℕ) → In x m → In x l) → l ≡ m
-rising-same a b [] [] r s to from = refl
-rising-same a b [] (y ∷ m) r s to from = elim (from y here) [ ]
-rising-same a b (x ∷ l) [] r s to from = elim (to x here) [ ]
-rising-same a b (x ∷ l) (y ∷ m) r s to from =
-    let z : x ≡ y = same (in-cons (to x here)) (in-cons (from y here)) in
-    ap₂ (λ (n : ℕ) (k : List ℕ). n ∷ k) z
-    (rising-same (suc x) (suc y) l m (r .1) (s .1) (λ w n. later x y l m w (r .1) z n (to w (there n))) (λ w n. later y x m l w (s .1) (sym z) n (from w (there n))))
-  where
-    same : (x ≡ y) ⊎ In x m → (y ≡ x) ⊎ In y l → x ≡ y
-    same (inl e) h = e
-    same (inr n) (inl e) = sym e
-    same (inr n) (inr k) = absurd (omega (arith, rising-in (suc y) m x (s .1) n, rising-in (suc x) l y (r .1) k))
-
-    later : (x y : ℕ) (l m : List ℕ) (w : ℕ) → RisingFrom (suc x) l → x ≡ y → In w l → In w (y ∷ m) → In w m
-    later x y l m w r z n k = go (in-cons k)
-      where
-        go : (w ≡ y) ⊎ In w m → In w m
-        go (inl e) = absurd (omega (arith, rising-in (suc x) l w r n, e, z))
-        go (inr h) = h
 
 module _ (Φ : ℕ → Type 0) (test : (x : ℕ) → Dec (Φ x)) where
   pub keep-only : (l : List ℕ) (x : ℕ) → In x (keep Φ test l) → Φ x × In x l

@@ -8,12 +8,14 @@ use Rattle.language.specs.Grammar.{Grammar}
 use Rattle.language.specs.Sentence.{In, here}
 use Rattle.language.specs.WellFormed as grammar
 use Rattle.language.proofs.Member.{in-map}
+use Rattle.language.specs.Rising.{RisingFrom}
+use Rattle.language.proofs.Rising.{rising-same}
 use Rattle.leftcorner.specs.Construction.{KernelAt, Has, in-kernel, in-closure, MovedBy, moved}
 use Rattle.verdict.proofs.ItemsDecided.{moved?}
 use Rattle.verdict.proofs.Closure.{image-in}
 use Rattle.lalr_states.specs.Strings.{entryStrings}
 use Rattle.lalr_states.specs.States.{Kernel, itemOf, dotOf, range, kernelLine, alone, move}
-use Rattle.lalr_states.proofs.Lists.{in-range, RisingFrom, rising-same, keep-only, keep-every, keep-rising}
+use Rattle.lalr_states.proofs.Lists.{in-range, keep-only, keep-every, keep-rising}
 use Rattle.lalr_states.proofs.Limits.{bounded, code-low}
 
 -- an item with its dot as a number, and back

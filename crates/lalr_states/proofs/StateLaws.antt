@@ -9,11 +9,11 @@ use lib.ListN.{length, getD}
 use Rattle.language.specs.Grammar.{Grammar}
 use Rattle.language.specs.Sentence.{In, here}
 use Rattle.language.proofs.Member.{in-cons}
+use Rattle.language.specs.Rising.{RisingFrom}
 use Rattle.leftcorner.specs.Construction.{MovedBy}
 use Rattle.lalr_states.specs.Strings.{entryStrings}
 use Rattle.lalr_states.proofs.Distinct.{Distinct, kept, longer}
 use Rattle.lalr_states.specs.States.{Kernel, find, alone, move, explore, entryKernels, states, kernelOf, goto}
-use Rattle.lalr_states.proofs.Lists.{RisingFrom}
 use Rattle.lalr_states.proofs.Discovery.{Target, Found, states-found, find-is, find-at}
 use Rattle.lalr_states.proofs.Limits.{Limits}
 use Rattle.lalr_states.proofs.MoveLaws.{move-rising, in-move, moved-symbol}

@@ -8,3 +8,5 @@ pub mod FirstLaws
 pub mod GrammarLaws
 pub mod Member
 pub mod Strings
+pub mod Terminals
+pub mod Rising

@@ -20,6 +20,15 @@ module _ {A : Type 0} where
   in-right [] n = n
   in-right (y ∷ l) n = there (in-right l n)
 
+  pub in-either : {x : A} (l : List A) {m : List A} → In x (l ++ m) → In x l ⊎ In x m
+  in-either [] n = inr n
+  in-either (y ∷ l) here = inl here
+  in-either {x = x} (y ∷ l) {m = m} (there n) = go (in-either l n)
+    where
+      go : In x l ⊎ In x m → In x (y ∷ l) ⊎ In x m
+      go (inl k) = inl (there k)
+      go (inr k) = inr k
+
   pub in-drop : {x : A} (k : ℕ) (l : List A) → In x (drop k l) → In x l
   in-drop zero l m = m
   in-drop (suc k) [] m = m

@@ -6,3 +6,4 @@ pub mod First
 pub mod WellFormed
 pub mod Trace
 pub mod Nullable
+pub mod Rising

@@ -54,12 +54,12 @@ module _ (g : Grammar) (m : Automaton) where
         go false = refl
 
     -- f steps are enough from stack S, with w to come and l announced: `left` is what is left of listing and tokens together
-    record Enough (S w l : List ℕ) (f : ℕ) : Type 0 where
-      left : ℕ
-      covers : k + length w ≤ length l + left
-      fuel : left * suc n + length S < f
+    pub record Enough (S w l : List ℕ) (f : ℕ) : Type 0 where
+      pub left : ℕ
+      pub covers : k + length w ≤ length l + left
+      pub fuel : left * suc n + length S < f
 
-    enough-on : {S w l U : List ℕ} {e : Event} {f : ℕ} → Enough S w l (suc f) → Progress S w e U → length U ≤ n → length (l ++ rulesOf e) ≤ k
+    pub enough-on : {S w l U : List ℕ} {e : Event} {f : ℕ} → Enough S w l (suc f) → Progress S w e U → length U ≤ n → length (l ++ rulesOf e) ≤ k
         → Enough U (toCome e w) (l ++ rulesOf e) f
     enough-on {S} {w} {l} {U} {e} {f} x y high long = go (y .less) (x .left) (x .covers) (x .fuel)
       where
@@ -69,10 +69,10 @@ module _ (g : Grammar) (m : Automaton) where
         go (inl z) (suc a) c b = record { left = a; covers = omega (arith, length-append l (rulesOf e)); fuel = omega arith }
         go (inr z) a c b = record { left = a; covers = omega (arith, length-append l (rulesOf e), z .0); fuel = omega (arith, z .1) }
 
-    enough-at-start : (w : List ℕ) → 1 ≤ n → Enough (start g m) w [] (enoughSteps g m n k w)
+    pub enough-at-start : (w : List ℕ) → 1 ≤ n → Enough (start g m) w [] (enoughSteps g m n k w)
     enough-at-start w a = record { left = k + length w; covers = omega arith; fuel = omega arith }
 
-    no-fuel : {A : Type 0} {S w l : List ℕ} → Enough S w l zero → A
+    pub no-fuel : {A : Type 0} {S w l : List ℕ} → Enough S w l zero → A
     no-fuel x = let t : ⊥ = omega (arith, x .fuel) in absurd t
 
     one-step : (f : ℕ) (S w : List ℕ) (p : ℕ) (l : List ℕ) (x : Outcome) → step g m S (next w 0) ≡ x

@@ -18,7 +18,7 @@ use Rattle.leftcorner.specs.Claim.{_↔_, WrongAt, at-token, at-end, Wit
 use Rattle.leftcorner.proofs.Adequate.{Source, Complete, Exact}
 use Rattle.leftcorner.proofs.Run.{Run, stop, more, run-unique}
 use Rattle.leftcorner.proofs.Whole.{sentence-walked, final-whole, one-derivation}
-use Rattle.leftcorner.proofs.Stack.{Stack, base}
+use Rattle.leftcorner.proofs.Stack.{Stack, base, stack-begins}
 use Rattle.leftcorner.proofs.Step.{reads, Does, takes, tells, closes, done, step-keeps, safe-step}
 use Rattle.leftcorner.proofs.Settle.{NoneWith, Settled, is-whole, is-wrong, settle}
 use Rattle.leftcorner.proofs.Place.{not-sentence, one-place}
@@ -34,6 +34,7 @@ pub record Correct (g : Grammar) (m : Automaton) (w : List ℕ) : Type 0 where
   pub its-listing : (T : Tree) → IsTree g T (g .goal) → yield T ≡ w → (listed ≡ listing g T) × (unitsIn g listed ≡ units g T)
   pub wrong-exactly : (p : ℕ) → (ending ≡ failed p) ↔ WrongAt g w p
   pub safe : (n k p : ℕ) (S v l : List ℕ) → Within g m n k w S v p l → Safe g m S (next v 0)
+  pub viable : (n k p : ℕ) (S v l : List ℕ) → Within g m n k w S v p l → BeginsSentence g (take p w)
 
 failed-accepted : {A : Type 0} {p : ℕ} → failed p ≡ accepted → A
 failed-accepted h = let f : _≡_ {A = ℕ} 0 1 = cc in absurd (omega (arith, f))
@@ -87,12 +88,30 @@ module _ {g : Grammar} {string : ℕ → List ℕ} {Kernel : ℕ → Source → 
   run-counts (more {S = S} {U = U} {w = w} {e = e} h r) u s p =
       run-counts r (reads e u) (step-keeps C E S u U (next w 0) e s h) (taken e p) ∙ counts (done C E S u s (next w 0) h) w refl p
 
-  within-stack : {n k p : ℕ} {w S v l : List ℕ} → Within g m n k w S v p l → (u : List ℕ) × Stack C E S u
-  within-stack (begins le) = ([], base)
-  within-stack (steps {S = S} {U = U} {v = v} {e = e} x h le le′) = let y = within-stack x in (reads e (y .0), step-keeps C E S (y .0) U (next v 0) e (y .1) h)
+  -- a walk's stack is that of the tokens it has taken
+  abbrev Reads : List ℕ → List ℕ → List ℕ → ℕ → Type 0
+  Reads w S v p = (u : List ℕ) × Stack C E S u × (u ++ v ≡ w) × (length u ≡ p)
+
+  read-on : {S u U w : List ℕ} {c p : ℕ} {e : Event} → Does C E S u c (on e U) → (v : List ℕ) → next v 0 ≡ c → u ++ v ≡ w → length u ≡ p
+      → Reads w U (toCome e v) (taken e p)
+  read-on (takes s le st b) [] n f z = absurd (not-suc-le-zero (subst (λ (k : ℕ). 1 ≤ k) (sym n) le))
+  read-on {u = u} {c = c} (takes s le st b) (a ∷ v) n f z =
+      (u ++ c ∷ [], st, append-assoc u (c ∷ []) v ∙ ap (λ (x : ℕ). u ++ x ∷ v) (sym n) ∙ f, omega (arith, length-append u (c ∷ []), z))
+  read-on {u = u} (tells i U st) v n f z = (u, st, f, z)
+  read-on {u = u} (closes U st) v n f z = (u, st, f, z)
+
+  within-reads : {n k p : ℕ} {w S v l : List ℕ} → Within g m n k w S v p l → Reads w S v p
+  within-reads (begins le) = ([], base, refl, refl)
+  within-reads (steps {S = S} {v = v} x h le le′) =
+      let y = within-reads x in read-on (done C E S (y .0) (y .1) (next v 0) h) v refl (y .2) (y .3)
+
+  viable-within : (w : List ℕ) (n k p : ℕ) (S v l : List ℕ) → Within g m n k w S v p l → BeginsSentence g (take p w)
+  viable-within w n k p S v l x =
+      let y = within-reads x in
+      subst (BeginsSentence g) (sym (take-append-seam (y .0) v) ∙ ap (λ (i : ℕ). take i (y .0 ++ v)) (y .3) ∙ ap (take p) (y .2)) (stack-begins C E S (y .0) (y .1))
 
   safe-within : (w : List ℕ) (n k p : ℕ) (S v l : List ℕ) → Within g m n k w S v p l → Safe g m S (next v 0)
-  safe-within w n k p S v l x = let y = within-stack x in safe-step C E S (y .0) (y .1) (next v 0)
+  safe-within w n k p S v l x = let y = within-reads x in safe-step C E S (y .0) (y .1) (next v 0)
 
   one : (w : List ℕ) (T U : Tree) → IsTree g T (g .goal) → IsTree g U (g .goal) → yield T ≡ w → yield U ≡ w → T ≡ U
   one w T U h k e f = one-derivation C E T U h k (e ∙ sym f)
@@ -118,6 +137,7 @@ module _ {g : Grammar} {string : ℕ → List ℕ} {Kernel : ℕ → Source → 
         its-listing = lists w r h;
         wrong-exactly = λ p. record { to = λ e. failed-accepted (sym e); from = λ z. absurd (not-sentence z s) };
         safe = safe-within w;
+        viable = viable-within w;
       }
   settled w (is-wrong u y τ U parts r h b none) =
       let x = walk-from g m r zero (ends-wrong h) in
@@ -133,6 +153,7 @@ module _ {g : Grammar} {string : ℕ → List ℕ} {Kernel : ℕ → Source → 
         its-listing = λ T t e. absurd (not-sentence at-place (record { tree = T; derives = t; yields-it = e }));
         wrong-exactly = λ p. record { to = λ e. subst (WrongAt g w) (same-place e) at-place; from = λ z. ap failed (one-place at-place z) };
         safe = safe-within w;
+        viable = viable-within w;
       }
 
   pub correct : (w : List ℕ) → ((a : ℕ) → In a w → IsTerminal g a) → Correct g m w

@@ -1,9 +1,13 @@
 -- Demand 3 of the walk (specs/Demand3.antt), proved.
-use Rattle.leftcorner.specs.Table.{automaton}
+use Rattle.language.specs.Grammar.{Grammar}
+use Rattle.language.specs.Sentence.{Declared, AllProductive}
+use Rattle.leftcorner.specs.Table.{Table, automaton}
+use Rattle.leftcorner.specs.Construction.{Meets}
 use Rattle.leftcorner.specs.Demand3.{Demand3}
 use Rattle.leftcorner.proofs.Bridge.{complete, exact}
 use Rattle.leftcorner.proofs.Bounded.{enough, short}
 use Rattle.leftcorner.proofs.Correct.{correct, pops-some}
+use Rattle.leftcorner.proofs.Progress.{PopsSome}
 
 pub demand3 : Demand3
 demand3 g t D R M w tokens =
@@ -22,4 +26,9 @@ demand3 g t D R M w tokens =
       its-listing = c .its-listing;
       wrong-exactly = c .wrong-exactly;
       safe = c .safe;
+      viable = c .viable;
     }
+
+-- a table that meets the construction has no pop of nothing
+pub table-pops : (g : Grammar) (t : Table) → Declared g → AllProductive g → Meets g t → PopsSome (automaton g t)
+table-pops g t D R M = pops-some (complete g t D M) (exact g t D M R)

@@ -22,3 +22,4 @@ pub mod Place
 pub mod Correct
 pub mod Progress
 pub mod Bounded
+pub mod Resume

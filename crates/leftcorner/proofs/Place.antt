@@ -12,7 +12,7 @@ use Rattle.language.proofs.Prefix.{sentence-begins, begins-front}
 use Rattle.leftcorner.specs.Claim.{WrongAt, at-token, at-end}
 
 module _ {g : Grammar} where
-  begins-take : (n : ℕ) (w : List ℕ) → BeginsSentence g w → BeginsSentence g (take n w)
+  pub begins-take : (n : ℕ) (w : List ℕ) → BeginsSentence g w → BeginsSentence g (take n w)
   begins-take n w b = begins-front (take n w) (drop n w) (subst (BeginsSentence g) (sym (take-append-drop n w)) b)
 
   begins-less : (n k : ℕ) (w : List ℕ) → n ≤ k → BeginsSentence g (take k w) → BeginsSentence g (take n w)

@@ -9,7 +9,8 @@ use lib.ListN.{drop}
 use Rattle.language.specs.Grammar.{Grammar, Rule, ruleAt, concat, right}
 use Rattle.language.specs.Derivation.{Tree, Forest, node, cons, yield, yields, IsTree, IsForest}
 use Rattle.language.proofs.Forests.{_⧺_, yields-⧺, size, sizes, sizes-⧺, split, join, one-tree, but-first}
-use Rattle.language.specs.Sentence.{Sentence}
+use Rattle.language.specs.Sentence.{Sentence, BeginsSentence}
+use Rattle.language.specs.First.{next}
 use Rattle.language.proofs.Prefix.{sentence-at}
 use Rattle.language.proofs.Lists.{concat-++, drop-next}
 use Rattle.leftcorner.specs.Machine.{announce, Automaton}
@@ -186,3 +187,27 @@ module _ {g : Grammar} {string : ℕ → List ℕ} {Kernel : ℕ → Source → 
       live-closure (x ++ (yields (o .trees) ++ yields D)) (m .enter e)
       (λ κ n c h. let y = E .entered e (used o δs e εs en) κ n c h in
       rw (y .0, y .1) (live-pend x p o δs e εs D (live p S′ x s (o .parent .source) (o .parent .dot) (o .parent .code) (o .parent .holds)) en hD))
+
+  -- ---- what was read for a stack begins a sentence
+
+  top-holds : (q : ℕ) (S u : List ℕ) → Stack (q ∷ S) u → (ι : Source) × (k : ℕ) × (d : ℕ) × Holds g string Kernel q ι k d
+  top-holds q S u base = (entry 1, zero, zero, kernel (C .start))
+  top-holds q S u (push s ex T h) = (ex .source, suc (ex .dot), ex .code, kernel (C .moves (ex .holds) (ex .there)))
+  top-holds q S u (pend s o δs e εs en D hD) =
+      let a = E .announced (o .state) (o .code) (o .number) (o .entries) (o .cell) in
+      let p : concat (a .rule-of .groups) ≡ concat (map string δs) ++ (string e ++ concat (map string εs))
+      = ap concat (sym (a .entries) ∙ ap (map string) en ∙ map-append string δs (e ∷ εs)) ∙ concat-++ (map string δs) (string e ∷ map string εs) in
+      let x = split g (concat (map string δs)) (string e ++ concat (map string εs)) (a .first .forest) (rw p at (a .first .derives)) in
+      let y = split g (string e) (concat (map string εs)) (x .back) (x .back-is) in (
+        entry e,
+        zero,
+        next (yields (y .back)) (a .code),
+        kernel (C .group δs e εs (a .is) (a .holds) (o .cell) en (record { forest = y .back; derives = y .back-is; begins = refl })),
+      )
+
+  pub stack-begins : (S u : List ℕ) → Stack S u → BeginsSentence g u
+  stack-begins [] u st = absurd (no-empty u st)
+  stack-begins (q ∷ S) u st =
+      let h = top-holds q S u st in
+      let F = live q S u st (h .0) (h .1) (h .2) (h .3) in
+      record { remainder = yields (F .rest) ++ F .tail; sentence = F .fits (F .rest) (F .rest-is) }

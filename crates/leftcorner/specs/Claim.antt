@@ -68,3 +68,5 @@ module _ (g : Grammar) (m : Automaton) where
     pub wrong-exactly : (p : ℕ) → (ending ≡ failed p) ↔ WrongAt g w p
     -- whatever foreign lookaheads hold
     pub safe : (n k p : ℕ) (S v l : List ℕ) → Within n k w S v p l → Safe S (next v 0)
+    -- what a walk has taken begins a sentence, however far it has come
+    pub viable : (n k p : ℕ) (S v l : List ℕ) → Within n k w S v p l → BeginsSentence g (take p w)

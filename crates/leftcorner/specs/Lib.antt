@@ -3,3 +3,4 @@ pub mod Table
 pub mod Construction
 pub mod Claim
 pub mod Demand3
+pub mod Resume

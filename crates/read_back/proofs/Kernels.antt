@@ -10,6 +10,7 @@ use Rattle.language.specs.Grammar.{Grammar, concat}
 use Rattle.language.specs.Sentence.{In, here, there}
 use Rattle.language.proofs.Member.{in-right}
 use Rattle.language.specs.WellFormed as grammar
+use Rattle.language.specs.Rising.{RisingFrom}
 use Rattle.range.proofs.RangeLaws.{true-within}
 use Rattle.leftcorner.specs.Table.{KernelLine, K, Table}
 use Rattle.table_lines.specs.declared.Judgement.the-variants.{Fine}
@@ -20,7 +21,6 @@ use Rattle.table_kernels.proofs.TripleLaws.{same-no}
 use Rattle.table_kernels.proofs.NextLaws.{kernel-taken}
 use Rattle.table.specs.Book.{lengthsOf, tableWith}
 use Rattle.lalr.specs.Text.{line, kernelText}
-use Rattle.lalr_states.proofs.Lists.{RisingFrom}
 use Rattle.lalr.proofs.Once.{Once, once-before, SameItem}
 use Rattle.lalr.proofs.Over.{symbols-over}
 use Rattle.lalr.proofs.Readable.{KernelForm, Readable, has-line}

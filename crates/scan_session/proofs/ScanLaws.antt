@@ -19,46 +19,52 @@ use Rattle.checker.specs.Checked.{checkedOf, verdictOf}
 use Rattle.walker.specs.declared.Walked.{Walked}
 use Rattle.session.specs.Session.{refusedBy, refusedAt, session, Tells}
 use Rattle.session.proofs.BookLaws.{too-long, not-long}
-use Rattle.scan_session.specs.ScanSession.{booksFirst, afterScans, scanSession}
+use Rattle.scan_session.specs.ScanSession.{firstRefusal, afterScans, scanSession}
 
 -- ---- a refusal of the scan file, by the verdict on the books
-module _ (n k : ℕ) (gs s : List ℕ) (why : Refusal) {r : Reply} (v : r ≡ verdictOf gs s) {a : Walked} {stack listing : List ℕ} where
-  pub books-accepted : {m : ℕ} → r ≡ reply.Accepted m → Tells (refusedBy n k why) a stack listing → Tells (booksFirst n k (checkedOf gs s) why) a stack listing
+module _ (gs s : List ℕ) (why : Refusal) {r : Reply} (v : r ≡ verdictOf gs s) where
+  pub books-accepted : {m : ℕ} → r ≡ reply.Accepted m → why ≡ firstRefusal (checkedOf gs s) why
   unfolding verdictOf
-  books-accepted {m} e T = go (checkedOf gs s) (sym e ∙ v)
+  books-accepted {m} e = go (checkedOf gs s) (sym e ∙ v)
     where
-      go : (x : Reading) → reply.Accepted m ≡ asReply (replyOf x) → Tells (booksFirst n k x why) a stack listing
-      go (whole g t) q = T
+      go : (x : Reading) → reply.Accepted m ≡ asReply (replyOf x) → why ≡ firstRefusal x why
+      go (whole g t) q = refl
       go (rejected y) q = clash cc
 
-  pub books-refused : {first : Refusal} → r ≡ reply.Refused first → Tells (refusedBy n k first) a stack listing → Tells (booksFirst n k (checkedOf gs s) why) a stack listing
+  pub books-refused : {first : Refusal} → r ≡ reply.Refused first → first ≡ firstRefusal (checkedOf gs s) why
   unfolding verdictOf
-  books-refused {first} e T = go (checkedOf gs s) (sym e ∙ v)
+  books-refused {first} e = go (checkedOf gs s) (sym e ∙ v)
     where
-      go : (x : Reading) → reply.Refused first ≡ asReply (replyOf x) → Tells (booksFirst n k x why) a stack listing
+      go : (x : Reading) → reply.Refused first ≡ asReply (replyOf x) → first ≡ firstRefusal x why
       go (whole g t) q = clash cc
-      go (rejected y) q = subst (λ (z : Refusal). Tells (refusedBy n k z) a stack listing) (let p : first ≡ y = cc in p) T
+      go (rejected y) q = cc
 
 -- ---- a scan file that is read, or refused: a slice of 65,536 tokens has room for every file
-module _ (n k : ℕ) (gs s file : List ℕ) {r : Reply} (read : r ≡ scansOf file 65536 .reply) {a : Walked} {stack listing : List ℕ} where
-  pub scans-refused : {why : Refusal} → length file ≤ 65536 → r ≡ reply.Refused why → Tells (booksFirst n k (checkedOf gs s) why) a stack listing
-      → Tells (afterScans n k gs s (scanned house file)) a stack listing
+module _ (file : List ℕ) {r : Reply} (read : r ≡ scansOf file 65536 .reply) where
+  pub scans-refused : {why : Refusal} → length file ≤ 65536 → r ≡ reply.Refused why → scanned house file ≡ refused why
   unfolding scansOf outcomeOf
-  scans-refused {why} few e T = go (scanned house file) refl (sym e ∙ read)
+  scans-refused {why} few e = go (scanned house file) refl (sym e ∙ read)
     where
-      go : (x : Scanned) → scanned house file ≡ x → reply.Refused why ≡ outcomeOf x 65536 .reply → Tells (afterScans n k gs s x) a stack listing
+      go : (x : Scanned) → scanned house file ≡ x → reply.Refused why ≡ outcomeOf x 65536 .reply → scanned house file ≡ refused why
       go (tokens l) q f =
           let f′ = simp (le-leb (length l) 65536 (omega (arith, tokens-few house file l q, few))) at f in
           clash cc
-      go (refused y) q f = subst (λ (z : Refusal). Tells (booksFirst n k (checkedOf gs s) z) a stack listing) (let p : why ≡ y = cc in p) T
+      go (refused y) q f = q ∙ ap refused (let p : y ≡ why = cc in p)
 
-  pub scans-walked : {m : ℕ} (held : List ℕ) → r ≡ reply.Accepted m → held ≡ scansOf file 65536 .tokens → Tells (session gs s (take m held) n k) a stack listing
-      → Tells (afterScans n k gs s (scanned house file)) a stack listing
-  scans-walked {m} held e h T =
+  pub scans-read : {m : ℕ} (held : List ℕ) → r ≡ reply.Accepted m → held ≡ scansOf file 65536 .tokens → scanned house file ≡ tokens (take m held)
+  scans-read {m} held e h =
       let L = scans-listed file 65536 m (sym read ∙ e) in
       let front : take m held ≡ L .list = ap (take m) (h ∙ L .held) ∙ take-at (L .list) (replicate (65536 - m) 0) m (L .counted) in
-      subst (λ (x : Scanned). Tells (afterScans n k gs s x) a stack listing) (sym (L .read))
-      (subst (λ (w : List ℕ). Tells (session gs s w n k) a stack listing) front T)
+      L .read ∙ ap tokens (sym front)
+
+-- ---- the session over it
+module _ (n k : ℕ) (gs s : List ℕ) {x : Scanned} {a : Walked} {stack listing : List ℕ} where
+  pub session-over : {y : Scanned} → x ≡ y → Tells (afterScans n k gs s y) a stack listing → Tells (afterScans n k gs s x) a stack listing
+  session-over e T = subst (λ (z : Scanned). Tells (afterScans n k gs s z) a stack listing) (sym e) T
+
+  pub refused-over : {why first : Refusal} → x ≡ refused why → first ≡ firstRefusal (checkedOf gs s) why → Tells (refusedBy n k first) a stack listing
+      → Tells (afterScans n k gs s x) a stack listing
+  refused-over e f T = session-over e (subst (λ (z : Refusal). Tells (refusedBy n k z) a stack listing) f T)
 
 -- ---- its length comes first
 module _ (gs s file : List ℕ) (n k : ℕ) {a : Walked} {stack listing : List ℕ} where

@@ -11,15 +11,14 @@ use Rattle.table.specs.Book.{Reading, whole, rejected}
 use Rattle.checker.specs.Checked.{checkedOf}
 use Rattle.session.specs.Session.{Session, refusedBy, refusedAt, session}
 
-module _ (n k : ℕ) where
-  -- a refusal of the scan file comes after those of the books
-  abbrev pub booksFirst : Reading → Refusal → Session
-  booksFirst (whole g t) why = refusedBy n k why
-  booksFirst (rejected first) why = refusedBy n k first
+-- a refusal of the scan file comes after those of the books
+abbrev pub firstRefusal : Reading → Refusal → Refusal
+firstRefusal (whole g t) why = why
+firstRefusal (rejected first) why = first
 
-  abbrev pub afterScans : List ℕ → List ℕ → Scanned → Session
-  afterScans gs s (tokens w) = session gs s w n k
-  afterScans gs s (refused why) = booksFirst (checkedOf gs s) why
+abbrev pub afterScans : ℕ → ℕ → List ℕ → List ℕ → Scanned → Session
+afterScans n k gs s (tokens w) = session gs s w n k
+afterScans n k gs s (refused why) = refusedBy n k (firstRefusal (checkedOf gs s) why)
 
 -- "book or scan file | 0 | 65,536 bytes"; of a length the place is 0
 unfoldable pub scanSession : (gs s file : List ℕ) (n k : ℕ) → Session

@@ -1,5 +1,5 @@
 // A session over a scan file.
-// The door is `run_scans`.
+// The door is `run_scans`; `first_refusal` is inner.
 use reply::Kind;
 use reply::Refusal;
 use reply::Reply;
@@ -10,22 +10,16 @@ ghost use lib.ListN.{length};
 ghost use Rattle.scans.specs.File.{scanned, house};
 ghost use Rattle.checker.specs.Checked.{checkedOf};
 ghost use Rattle.session.specs.Session.{Tells};
-ghost use Rattle.scan_session.specs.ScanSession.{booksFirst, afterScans, scanSession};
+ghost use Rattle.scan_session.specs.ScanSession.{firstRefusal, afterScans, scanSession};
 
-// Refuses a scan file, where both books are accepted; else refuses them.
-fn refuse_scans(
-    grammar: &[u8],
-    tables: &[u8],
-    why: Refusal,
-    stack: &mut [u8],
-    listing: &mut [u8],
-) -> SessionReply
-    ensures { λ r. ⌜ Tells (booksFirst (length (now (stack .entry))) (length (now (listing .entry))) (checkedOf (now (grammar .entry)) (now (tables .entry))) why) r (now (stack .exit)) (now (listing .exit)) ⌝ }
+// The refusal of a scan file, where both books are accepted; else theirs.
+pub fn first_refusal(grammar: &[u8], tables: &[u8], why: Refusal) -> Refusal
+    ensures { λ r. ⌜ r ≡ firstRefusal (checkedOf (now (grammar .entry)) (now (tables .entry))) why ⌝ }
 {
     let verdict = checker::check_tables(grammar, tables);
     match verdict {
-        Reply::Accepted(_) => session::refuse(why, stack, listing),
-        Reply::Refused(first) => session::refuse(first, stack, listing),
+        Reply::Accepted(_) => why,
+        Reply::Refused(first) => first,
     }
 }
 
@@ -44,7 +38,10 @@ fn walk_scans(
     let read = scans::read_scans(file, &mut tokens);
     match read {
         Reply::Accepted(n) => session::run_session(grammar, tables, &tokens[..n], stack, listing),
-        Reply::Refused(why) => refuse_scans(grammar, tables, why, stack, listing),
+        Reply::Refused(why) => {
+            let first = first_refusal(grammar, tables, why);
+            session::refuse(first, stack, listing)
+        }
     }
 }
 

@@ -11,26 +11,29 @@ use Rattle.leftcorner.specs.Table.{Table}
 use Rattle.leftcorner.proofs.ReadOff.{clash}
 use Rattle.reply.specs.declared.Kind.the-variants.{LimitExceeded}
 use Rattle.reply.specs.declared.Refusal.{Refusal}
-use Rattle.table.specs.declared.TableReply.{TableReply}
-use Rattle.table.specs.declared.TableReply.the-variants as reply
 use Rattle.table.specs.Book.{Reading, whole, rejected}
-use Rattle.table.specs.Memory.{replyOf}
+use Rattle.machine.specs.declared.Machine.{Machine}
+use Rattle.machine.specs.declared.MachineReply.{MachineReply}
+use Rattle.machine.specs.declared.MachineReply.the-variants as reply
+use Rattle.machine.specs.Machine.{Drives, MachineIs}
 use Rattle.checker.specs.Checked.{checkedOf}
 use Rattle.walker.specs.declared.Walked.{Walked}
 use Rattle.session.specs.Session.{Session, refusedBy, refusedAt, tableSession, afterBooks, session, Tells}
 
--- books that are refused
-pub books-refused : (n k : ℕ) (x : Reading) (w : List ℕ) {r : TableReply} {why : Refusal} {a : Walked} {stack listing : List ℕ}
-    → r ≡ replyOf x → r ≡ reply.Refused why → Tells (refusedBy n k why) a stack listing → Tells (afterBooks n k x w) a stack listing
-books-refused n k (whole g t) w e f T = clash cc
-books-refused n k (rejected y) w {why = why} {a = a} {stack = stack} {listing = listing} e f T =
-    subst (λ (z : Refusal). Tells (refusedBy n k z) a stack listing) (let q : why ≡ y = cc in q) T
+-- books that are refused, or loaded
+module _ (n k : ℕ) (w : List ℕ) {r : MachineReply} (kinds values gotos rows : List ℕ) {a : Walked} {stack listing : List ℕ} where
+  pub books-refused : (x : Reading) {why : Refusal} → MachineIs x r kinds values gotos rows → r ≡ reply.Refused why → Tells (refusedBy n k why) a stack listing
+      → Tells (afterBooks n k x w) a stack listing
+  books-refused (whole g t) i e T = let f = i .1 in clash cc
+  books-refused (rejected y) {why} i e T = subst (λ (z : Refusal). Tells (refusedBy n k z) a stack listing) (let q : why ≡ y = cc in q) T
 
--- books that are accepted
-pub books-walked : (n k : ℕ) (x : Reading) (w : List ℕ) {g : Grammar} {t : Table} {a : Walked} {stack listing : List ℕ} → x ≡ whole g t
-    → Tells (tableSession n k g t w) a stack listing → Tells (afterBooks n k x w) a stack listing
-books-walked n k x w {a = a} {stack = stack} {listing = listing} e T =
-    subst (λ (y : Reading). Tells (afterBooks n k y w) a stack listing) (sym e) T
+  pub books-walked : (x : Reading) {m : Machine} → MachineIs x r kinds values gotos rows → r ≡ reply.Ready m
+      → ((g : Grammar) (t : Table) → Drives g t kinds values gotos rows m → Tells (tableSession n k g t w) a stack listing) → Tells (afterBooks n k x w) a stack listing
+  books-walked (whole g t) {m} i e T =
+      let f = i .1 in
+      let q : i .0 ≡ m = cc in
+      T g t (subst (λ (z : Machine). Drives g t kinds values gotos rows z) q (i .2))
+  books-walked (rejected y) i e T = clash cc
 
 -- a length that is too large, or not
 module _ (most : ℕ) (l : List ℕ) (x y : Session) {a : Walked} {stack listing : List ℕ} where

@@ -1,4 +1,3 @@
-pub mod AgreeLaws
 pub mod TableLaws
 pub mod BookLaws
 pub mod Demand3

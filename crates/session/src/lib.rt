@@ -1,17 +1,19 @@
 // A session of scans: both books are read and checked, then the tokens are walked.
-// The door is `run_session`; `refuse` is inner.
+// The door is `run_session`; `refuse` and `walk_machine` are inner.
 use fixpoint::Found;
+use machine::Machine;
+use machine::MachineReply;
 use reply::Kind;
 use reply::Refusal;
 use reply::clear;
-use table::TableReply;
 use walker::Walked;
 ghost use mathlib.Core.Path.{_≡_};
 ghost use lib.ListN.{length};
 ghost use Rattle.language.specs.Grammar.{Grammar};
 ghost use Rattle.leftcorner.specs.Table.{Table};
 ghost use Rattle.checker.specs.Checked.{checkedOf};
-ghost use Rattle.checker.specs.Loaded.{InMemory, Readable};
+ghost use Rattle.walk_tables.specs.Memory.{Shaped};
+ghost use Rattle.machine.specs.Machine.{Drives};
 ghost use Rattle.session.specs.Session.{refusedBy, tableSession, afterBooks, session, Tells};
 
 // Accepted, with the tokens read, the rules listed and the units among them; or refused.
@@ -26,26 +28,22 @@ pub fn refuse(why: Refusal, stack: &mut [u8], listing: &mut [u8]) -> SessionRepl
     Walked::Refused(why)
 }
 
-// The walk over tables in memory, of which the entries, the rules and the cells are read.
-fn walk_table(
-    items: &[u8],
-    entries: &[u8],
+// Walks the tokens over a machine in memory. A stray token is refused first.
+pub fn walk_machine(
     kinds: &[u8],
     values: &[u8],
     gotos: &[u8],
-    terminals: usize,
-    rules: usize,
-    strings: usize,
+    rows: &[u8],
+    machine: Machine,
     tokens: &[u8],
     stack: &mut [u8],
     listing: &mut [u8],
 ) -> SessionReply
-    requires { ⌜ Readable (now items) (now entries) rules strings ⌝ }
-    requires { ⌜ (length (now kinds) ≡ 16640) × (length (now values) ≡ 16640) × (length (now gotos) ≡ 16640) ⌝ }
-    ensures { λ r. ⌜ ((g : Grammar) (t : Table) → InMemory g t (now (items .entry)) (now (entries .entry)) (now (kinds .entry)) (now (values .entry)) (now (gotos .entry)) terminals rules strings
+    requires { ⌜ Shaped (now kinds) (now values) (now gotos) (now rows) ⌝ }
+    ensures { λ r. ⌜ ((g : Grammar) (t : Table) → Drives g t (now (kinds .entry)) (now (values .entry)) (now (gotos .entry)) (now (rows .entry)) machine
         → Tells (tableSession (length (now (stack .entry))) (length (now (listing .entry))) g t (now (tokens .entry))) r (now (stack .exit)) (now (listing .exit))) ⌝ }
 {
-    let stray = stray_tokens::find_stray(tokens, terminals);
+    let stray = stray_tokens::find_stray(tokens, machine.terminals);
     if let Found::At(place) = stray {
         return refuse(
             Refusal {
@@ -56,10 +54,16 @@ fn walk_table(
             listing,
         );
     }
-    let mut rows = [0u8; 8448];
-    linked_rules::link_rules(items, rules, strings, entries, &mut rows);
-    let start = entries[1];
-    walker::walk_tokens(kinds, values, gotos, &rows, start, tokens, stack, listing)
+    walker::walk_tokens(
+        kinds,
+        values,
+        gotos,
+        rows,
+        machine.start,
+        tokens,
+        stack,
+        listing,
+    )
 }
 
 // Reads and checks both books, and walks the tokens where they are accepted.
@@ -72,44 +76,30 @@ fn walk_books(
 ) -> SessionReply
     ensures { λ r. ⌜ Tells (afterBooks (length (now (stack .entry))) (length (now (listing .entry))) (checkedOf (now (grammar .entry)) (now (tables .entry))) (now (tokens .entry))) r (now (stack .exit)) (now (listing .exit)) ⌝ }
 {
-    let mut items = [0u8; table::ITEMS];
-    let mut entry_states = [0u8; table::ENTRY_STATES];
-    let mut kernels = [0u8; table::KERNELS];
-    let mut lookaheads = [0u8; table::LOOKAHEADS];
-    let mut kinds = [0u8; table::CELLS];
-    let mut values = [0u8; table::CELLS];
-    let mut gotos = [0u8; table::CELLS];
-    let mut named = [0u8; table::NAMED];
-    let answer = checker::load_tables(
+    let mut kinds = [0u8; machine::CELLS];
+    let mut values = [0u8; machine::CELLS];
+    let mut gotos = [0u8; machine::CELLS];
+    let mut rows = [0u8; machine::ROWS];
+    let loaded = machine::load_machine(
         grammar,
         tables,
-        &mut items,
-        &mut entry_states,
-        &mut kernels,
-        &mut lookaheads,
         &mut kinds,
         &mut values,
         &mut gotos,
-        &mut named,
+        &mut rows,
     );
-    match answer {
-        TableReply::Refused(why) => refuse(why, stack, listing),
-        TableReply::Read(counts) => {
-            let heading = counts.grammar;
-            walk_table(
-                &items,
-                &entry_states,
-                &kinds,
-                &values,
-                &gotos,
-                heading.terminals,
-                heading.rules,
-                counts.entries,
-                tokens,
-                stack,
-                listing,
-            )
-        }
+    match loaded {
+        MachineReply::Refused(why) => refuse(why, stack, listing),
+        MachineReply::Ready(machine) => walk_machine(
+            &kinds,
+            &values,
+            &gotos,
+            &rows,
+            machine,
+            tokens,
+            stack,
+            listing,
+        ),
     }
 }
 

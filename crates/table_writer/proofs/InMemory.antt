@@ -10,12 +10,14 @@ use lib.ListN.{length, getD}
 use Rattle.language.specs.Grammar.{Grammar, at}
 use Rattle.language.specs.Sentence.{In}
 use Rattle.language.proofs.GrammarLaws.{at-range}
+use Rattle.language.specs.Rising.{RisingFrom}
+use Rattle.language.proofs.Rising.{rising-same}
 use Rattle.leftcorner.specs.Table.{EntryLine, E, KernelLine, K, Action, S, N, A, P, ActionLine, Table, actionFor, gotoState}
 use Rattle.items.specs.Layout.{symbolAt, RowIs}
 use Rattle.fixpoint.specs.Flags.{On}
 use Rattle.memory.specs.Memory.{HoldsItems, HoldsEntries, HoldsKernels, HoldsActions, kindOf, valueOf}
 use Rattle.lalr_states.specs.States.{range}
-use Rattle.lalr_states.proofs.Lists.{RisingFrom, in-range, range-in, rising-same, keep-only, keep-every, keep-rising}
+use Rattle.lalr_states.proofs.Lists.{in-range, range-in, keep-only, keep-every, keep-rising}
 use Rattle.lalr.specs.Built.{actionsOf}
 use Rattle.table_writer.proofs.ActionLines.{of-same}
 use Rattle.table_writer.specs.MemoryTable.{symbolsIn, entryIn, on?, setIn, codesIn, kernelIn, cellIn, gotoIn, actionIn, memoryTable}

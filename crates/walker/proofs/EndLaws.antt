@@ -1,6 +1,6 @@
 -- What the walk hands back, from what its loop left in the slices.
 use mathlib.Core.Path.{_≡_, refl, ap, _∙_}
-use mathlib.Core.List.{List, [], _∷_, _++_, append-nil}
+use mathlib.Core.List.{List, [], _++_, append-nil}
 use Prim.Native.Nat.{ℕ, _-_}
 use native.Mathlib.Omega.{arith}
 use lib.ListN.{length, take, drop, replicate, length-drop, drop-of-length-le}
@@ -9,7 +9,7 @@ use borrow.Rule.Slice.PartMut.{putMid}
 use Rattle.language.specs.Grammar.{Grammar}
 use Rattle.leftcorner.specs.Machine.{Verdict, whole-at, wrong-at, short-at}
 use Rattle.walker.specs.declared.Walked.{Walked}
-use Rattle.walker.specs.Walked.{answer, listed, padded, ruleCount, memoryWalk, Ended}
+use Rattle.walker.specs.Walked.{answer, listed, padded, ruleCount, Ended}
 
 -- ---- a lent tail of a slice
 
@@ -32,15 +32,6 @@ count-is g (short-at p) = refl
 pub count-within : {g : Grammar} {v : Verdict} {w : Walked} {slice : List ℕ} {n : ℕ} → Ended g v w slice → n ≡ ruleCount w → n ≡ length (listed v)
 count-within {g} {v} h e = e ∙ ap ruleCount (h .answered) ∙ count-is g v
 
-pub no-element : (l : List ℕ) → length l ≡ 0 → l ≡ replicate (length l) 0
-no-element [] e = refl
-no-element (x ∷ l) e = absurd (omega arith)
-
-pub short-first : (kinds values gotos rules : List ℕ) (start n k : ℕ) (tokens : List ℕ) → n ≡ 0
-    → memoryWalk kinds values gotos rules start n k tokens ≡ short-at 0
-unfolding memoryWalk
-short-first kinds values gotos rules start n k tokens e = rw e
-
 -- the listing, then zeros
 pub end-listing : {g : Grammar} {v : Verdict} {w : Walked} (slice ys : List ℕ) (n k : ℕ) → Ended g v w slice → n ≡ ruleCount w → length slice ≡ k
     → ys ≡ replicate (length (take (length slice - n) (drop n slice))) 0 → putMid n (length slice - n) slice ys ≡ padded k (listed v)
@@ -50,7 +41,3 @@ end-listing {g} {v} {w} slice ys n k h e long z =
     let t : take n slice ≡ listed v = ap (λ (i : ℕ). take i slice) c ∙ h .front in
     let l : length (take (length slice - n) (drop n slice)) ≡ k - length (listed v) = ap length (part-tail slice n) ∙ length-drop n slice ∙ omega (arith, long, c) in
     put-tail slice ys n ∙ rw (t, z, l)
-
-pub zeros-all : (k : ℕ) (v : Verdict) → listed v ≡ [] → replicate k 0 ≡ padded k (listed v)
-unfolding padded
-zeros-all k v e = let z : k ≡ k - 0 = omega arith in rw e (ap (λ (i : ℕ). replicate i 0) z)

@@ -1,7 +1,6 @@
 // The inner loop of the session walker, over tables in memory.
-// Inner: for `session`. `Walked`, `as_reply`, `rule_count` and `unit_count` are for whoever calls a door.
+// Inner: for `session` and `expected`. `Walked`, `as_reply`, `rule_count` and `unit_count` are for whoever calls a door.
 ghost use mathlib.Core.Path.{_≡_};
-ghost use Prim.Native.Nat.{_<_};
 ghost use lib.ListN.{length, replicate};
 ghost use Rattle.walk_tables.specs.Memory.{Shaped, memoryGrammar};
 ghost use Rattle.walk_steps.specs.Turn.{Stands};
@@ -54,8 +53,9 @@ fn advance(
     }
 }
 
-// The walk where there is room for its first state. Leaves its states in the stack and its rules in the listing.
-fn run(
+// The walk, which leaves its states in the stack and its rules in the listing: for trials, of which many share slices that are
+// cleared once.
+pub fn run(
     kinds: &[u8],
     values: &[u8],
     gotos: &[u8],
@@ -66,9 +66,14 @@ fn run(
     listing: &mut [u8],
 ) -> Walked
     requires { ⌜ Shaped (now kinds) (now values) (now gotos) (now rules) ⌝ }
-    requires { ⌜ 0 < length (now stack) ⌝ }
     ensures { λ w. ⌜ Ended (memoryGrammar (now (rules .entry))) (memoryWalk (now (kinds .entry)) (now (values .entry)) (now (gotos .entry)) (now (rules .entry)) start (length (now (stack .entry))) (length (now (listing .entry))) (now (tokens .entry))) w (now (listing .exit)) ⌝ }
 {
+    if stack.len() == 0 {
+        return Walked::Refused(Refusal {
+            kind: Kind::BufferTooSmall,
+            place: 0,
+        });
+    }
     stack[0] = start;
     let mut p = Position {
         height: 1,
@@ -154,13 +159,6 @@ pub fn walk_tokens(
     ensures rules { λ w. ⌜ now (listing .exit) ≡ padded (length (now (listing .entry))) (listed (memoryWalk (now (kinds .entry)) (now (values .entry)) (now (gotos .entry)) (now (rules .entry)) start (length (now (stack .entry))) (length (now (listing .entry))) (now (tokens .entry)))) ⌝ }
     ensures cleared { λ w. ⌜ now (stack .exit) ≡ replicate (length (now (stack .entry))) 0 ⌝ }
 {
-    if stack.len() == 0 {
-        reply::clear(listing);
-        return Walked::Refused(Refusal {
-            kind: Kind::BufferTooSmall,
-            place: 0,
-        });
-    }
     let w = run(kinds, values, gotos, rules, start, tokens, stack, listing);
     reply::clear(stack);
     let n = rule_count(w);

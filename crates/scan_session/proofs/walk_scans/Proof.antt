@@ -5,7 +5,7 @@ use lib.ListN.{length}
 use borrow.Author.Needs.{needs}
 use lib.Seq.{length-take-le}
 use Rattle.scans.proofs.TokenLaws.{scans-listed}
-use Rattle.scan_session.proofs.ScanLaws.{scans-refused, scans-walked}
+use Rattle.scan_session.proofs.ScanLaws.{scans-refused, scans-read, session-over, refused-over}
 use Rattle.scan_session.proofs.walk_scans.Statement.{statement}
 use Rattle.scan_session.proofs.walk_scans.Tie as tie
 
@@ -38,8 +38,11 @@ run-session-requires c κs = search needs
 enum-known-read-2 : tie.Need-enum-known-read-2
 enum-known-read-2 c = search needs
 
-refuse-scans-requires : tie.Need-refuse-scans-requires
-refuse-scans-requires c κs = search needs
+first-refusal-requires : tie.Need-first-refusal-requires
+first-refusal-requires c κs = search needs
+
+refuse-requires : tie.Need-refuse-requires
+refuse-requires c κs = search needs
 
 same-length : tie.Need-same-length
 same-length c = search needs
@@ -55,8 +58,8 @@ returns c =
     let k = at-read-scans .before .before .before .before .before .before .before .args in
     let r = at-read-scans .read-scans .ensures in
     let x = at-run-session .run-session .ensures in
-    scans-walked (length (k .stack .now)) (length (k .listing .now)) (k .grammar .now) (k .tables .now) (k .file .now)
-    (r .0) _ (at-read .read .given .1) (r .1) (record { reply-is = x .0; listing-is = x .1 .0; stack-is = x .1 .1 })
+    session-over (length (k .stack .now)) (length (k .listing .now)) (k .grammar .now) (k .tables .now)
+    (scans-read (k .file .now) (r .0) _ (at-read .read .given .1) (r .1)) (record { reply-is = x .0; listing-is = x .1 .0; stack-is = x .1 .1 })
 
 same-length-3 : tie.Need-same-length-3
 same-length-3 c = search needs
@@ -66,14 +69,14 @@ same-length-4 c = search needs
 
 returns-2 : tie.Need-returns-2
 returns-2 c =
-    let at-refuse-scans = c .before .before .before .before in
-    let at-read2 = at-refuse-scans .before .before .before .before in
+    let at-refuse = c .before .before .before .before in
+    let at-first = at-refuse .before .before .before in
+    let at-read2 = at-first .before .before in
     let at-read-scans = at-read2 .before .before .before in
     let start = at-read-scans .before .before .before .before .before .before .before in
     let k = start .args in
-    scans-refused (length (k .stack .now)) (length (k .listing .now)) (k .grammar .now) (k .tables .now) (k .file .now)
-    (at-read-scans .read-scans .ensures .0) (start .pre) (at-read2 .read2 .given .1)
-    (at-refuse-scans .refuse-scans .ensures)
+    refused-over (length (k .stack .now)) (length (k .listing .now)) (k .grammar .now) (k .tables .now)
+    (scans-refused (k .file .now) (at-read-scans .read-scans .ensures .0) (start .pre) (at-read2 .read2 .given .1)) (at-first .first-refusal .ensures) (at-refuse .refuse .ensures)
 
 pub walk-scans-spec : {M : Type 1} → statement M
 walk-scans-spec =
@@ -86,7 +89,8 @@ walk-scans-spec =
     slice-aggregate-run-session
     run-session-requires
     enum-known-read-2
-    refuse-scans-requires
+    first-refusal-requires
+    refuse-requires
     same-length
     same-length-2
     returns

@@ -2,7 +2,6 @@
 use Prim.Native.Nat.{ℕ, zero, suc, _+_, _-_, _≤_, _<_}
 use native.Mathlib.Omega.{arith}
 use mathlib.Core.Path.{_≡_, refl, sym, ap, ap₂, _∙_, subst}
-use mathlib.Core.Logic.{inl, inr}
 use mathlib.Core.Bool.{Bool, cond, _&&_}
 use mathlib.Core.List.{List, [], _∷_, _++_, map}
 use mathlib.Core.Option.{Option, some, none}
@@ -10,9 +9,7 @@ use lib.ListN.{length, drop, length-replicate}
 use borrow.Author.Tests.{le-leb}
 use Rattle.language.specs.Grammar.{Grammar, Rule, ruleAt}
 use Rattle.language.specs.First.{next}
-use Rattle.language.specs.Listing.{unitsIn}
-use Rattle.language.specs.Sentence.{In}
-use Rattle.leftcorner.specs.Machine.{Automaton, Cell, on, Event, announced, act, step, tell, land, shiftTo, popTo, walk}
+use Rattle.leftcorner.specs.Machine.{Automaton, Cell, on, Event, announced, act, step, tell, land, shiftTo, popTo}
 use Rattle.leftcorner.specs.Table.{EntryLine, E, Action, S, N, A, P, Table, entryAt, stateOf, actionFor, gotoState, cellOf, groupEntries, automaton}
 use Rattle.leftcorner.specs.Construction.{ActionAt}
 use Rattle.leftcorner.proofs.ReadOff.{action-back}
@@ -20,15 +17,9 @@ use Rattle.memory.specs.Memory.{HoldsActions, kindOf, valueOf, popValue}
 use Rattle.memory.specs.Fits.{Fits}
 use Rattle.walk_tables.specs.Memory.{figureOf, gotoOf, cellAt, memoryRule, memoryGrammar, meaning, memoryAutomaton}
 use Rattle.walk_tables.specs.Memory as memory
-use Rattle.walker.specs.Walked.{memoryWalk}
 use Rattle.walk_tables.proofs.MemoryLaws.{rule-is}
-use Rattle.walker.proofs.AgreeLaws.{CodeOf, walk-agree, units-agree}
 use Rattle.linked_rules.specs.Linked.{Linked}
-
--- every state of a stack fits a byte
-abbrev pub AllLow : List ℕ → Type 0
-AllLow [] = Unit {0}
-AllLow (q ∷ l) = (q < 256) × AllLow l
+use Rattle.machine.specs.Machine.{AllLow}
 
 low-top : (l : List ℕ) → AllLow l → next l 0 < 256
 low-top [] h = omega arith
@@ -108,7 +99,7 @@ module _ (g : Grammar) (t : Table) (F : Fits g t) where
   next-low (some (A i)) q X e = omega arith
   next-low (some (P n)) q X e = omega arith
 
-  enter-low : (e : ℕ) → automaton g t .enter e < 256
+  pub enter-low : (e : ℕ) → automaton g t .enter e < 256
   enter-low e = go (entryAt t e) refl
     where
       go : (o : Option EntryLine) → entryAt t e ≡ o → stateOf o < 256
@@ -147,24 +138,5 @@ module _ (g : Grammar) (t : Table) (F : Fits g t) where
   act-low (some (A i)) q c l k h x = tell-low (ruleAt g i) i (groupEntries g t i) l h x
   act-low (some (P n)) q c l k h x = pop-low (drop n l) c h (low-drop n l x)
 
-  pub step-low : (l : List ℕ) (c : ℕ) {e : Event} {U : List ℕ} → step g (automaton g t) l c ≡ on e U → AllLow l → AllLow U
-  step-low l c h x = act-low (actionFor (t .actions) (next l 0) c) (next l 0) c l refl h x
-
--- the walk over tables in memory is the walk of the table's automaton
-module _ (g : Grammar) (t : Table) (kinds values gotos rules : List ℕ) (start : ℕ) (H : HoldsActions kinds values gotos t) (F : Fits g t)
-    (L : Linked rules start g t) (few : (i : ℕ) (r : Rule) → ruleAt g i ≡ some r → (i < 256) × (r .left < 128))
-    (pops : (q c n : ℕ) → ActionAt g t q c (P n) → (1 ≤ n) × (n ≤ 255)) (entry : automaton g t .enter 1 ≡ start) where
-  pub walk-same : (n k : ℕ) (w : List ℕ) → ((a : ℕ) → In a w → a < 64) → walk g (automaton g t) n k w ≡ memoryWalk kinds values gotos rules start n k w
-  unfolding memoryWalk memoryAutomaton
-  walk-same n k w tokens =
-      walk-agree g (memoryGrammar rules) (automaton g t) (memoryAutomaton kinds values gotos rules start) w AllLow
-      (λ S U c e s x h. step-low g t F S c h s)
-      (λ S c s x. sym (step-same g t kinds values gotos rules start H F L few pops S c s (code x)))
-      n k entry (enter-low g t F 1, tt)
-    where
-      code : {c : ℕ} → CodeOf w c → c < 64
-      code (inl e) = omega (arith, e)
-      code {c = c} (inr i) = tokens c i
-
-  pub units-same : (l : List ℕ) → unitsIn (memoryGrammar rules) l ≡ unitsIn g l
-  units-same l = units-agree (memoryGrammar rules) g (L .units-is) l
+  pub step-low : (l : List ℕ) (c : ℕ) (e : Event) (U : List ℕ) → step g (automaton g t) l c ≡ on e U → AllLow l → AllLow U
+  step-low l c e U h x = act-low (actionFor (t .actions) (next l 0) c) (next l 0) c l refl h x
