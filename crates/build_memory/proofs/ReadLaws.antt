@@ -24,7 +24,7 @@ use Rattle.lalr.proofs.BookLaws.{Within}
 use Rattle.entry_strings.specs.Memory.{Blank, Listed}
 use Rattle.entry_strings.proofs.HoldsLaws.{entries-shaped, entries-held}
 use Rattle.build_memory.specs.Stages.{Entered}
-use Rattle.build_memory.specs.Memory.{TooLarge}
+use Rattle.build_memory.specs.Memory.{PastLimits}
 
 -- ---- what was read
 
@@ -101,8 +101,8 @@ module _ {gs m : List ℕ} {h : Heading} (R : ReadAs gs h m) (room : 16640 ≤ l
 
 -- ---- past the limits
 
-pub too-large : {gs : List ℕ} {g : Grammar} → grammarOf gs ≡ accepted g → (Within g → ⊥) → TooLarge gs (record { kind = kind.LimitExceeded; place = 0 })
-too-large {g = g} e f = record { grammar = g; book-is = e; past-limits = f; refusal-is = refl }
+pub too-large : {gs : List ℕ} {g : Grammar} → grammarOf gs ≡ accepted g → (Within g → ⊥) → PastLimits gs
+too-large {g = g} e f = record { grammar = g; book-is = e; past-limits = f }
 
 -- too many entries
 pub listed-many : {g : Grammar} {size : ℕ} {items : List ℕ} {strings : ℕ} → Listed g size items strings → 127 < strings → Within g → ⊥

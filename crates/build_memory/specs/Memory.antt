@@ -1,12 +1,9 @@
 -- What the construction's table of a grammar book is, in memory, and why there is none.
 use Prim.Native.Nat.{ℕ}
 use mathlib.Core.Path.{_≡_}
-use mathlib.Core.Logic.{_⊎_}
 use mathlib.Core.List.{List}
 use lib.ListN.{length, replicate}
 use Rattle.language.specs.Grammar.{Grammar}
-use Rattle.reply.specs.declared.Kind.the-variants.{LimitExceeded}
-use Rattle.reply.specs.declared.Refusal.{Refusal}
 use Rattle.grammar.specs.Book.{accepted, rejected, grammarOf}
 use Rattle.table.specs.declared.Counts.{Counts}
 use Rattle.lalr.proofs.BookLaws.{Within}
@@ -38,13 +35,13 @@ pub record Constructed (gs : List ℕ) (n : Counts) (q : ℕ) (items entries ker
   pub lookaheads-room : length lookaheads ≡ 65536
 
 -- a grammar with more entries, states or kernel lines than a table may have
-pub record TooLarge (gs : List ℕ) (x : Refusal) : Type 0 where
+pub record PastLimits (gs : List ℕ) : Type 0 where
   pub grammar : Grammar
   pub book-is : grammarOf gs ≡ accepted grammar
   pub past-limits : Within grammar → ⊥
-  pub refusal-is : x ≡ record { kind = LimitExceeded; place = 0 }
 
 abbrev pub BuiltIs : List ℕ → Built → (items entries kernels lookaheads kinds values gotos : List ℕ) → Type 0
 BuiltIs gs (built.Table n) items entries kernels lookaheads kinds values gotos = Constructed gs n 0 items entries kernels lookaheads kinds values gotos
 BuiltIs gs (built.Conflict q n) items entries kernels lookaheads kinds values gotos = (q ≡ 0 → ⊥) × Constructed gs n q items entries kernels lookaheads kinds values gotos
-BuiltIs gs (built.Refused x) items entries kernels lookaheads kinds values gotos = (grammarOf gs ≡ rejected x) ⊎ TooLarge gs x
+BuiltIs gs (built.Refused x) items entries kernels lookaheads kinds values gotos = grammarOf gs ≡ rejected x
+BuiltIs gs built.TooLarge items entries kernels lookaheads kinds values gotos = PastLimits gs

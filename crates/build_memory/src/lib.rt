@@ -2,7 +2,6 @@
 // Inner: for `builder` and `explain_grammar`.
 use grammar::GrammarReply;
 use header::Heading;
-use reply::Kind;
 use reply::Refusal;
 use state_kernels::Discovery;
 use symbol::CODES;
@@ -17,11 +16,13 @@ ghost use Rattle.grammar.specs.Book.{accepted, grammarOf};
 ghost use Rattle.build_memory.specs.Stages.{Entered, Stated, Numbered, Settled, SomeEntered, SomeStated, Rooms};
 ghost use Rattle.build_memory.specs.Memory.{Lent, BuiltIs};
 
-// What building comes to: a table, one whose lowest state with a conflict is told first, or why there is none.
+// What building comes to: a table, one whose lowest state with a conflict is told first, why the grammar book is refused, or that there would be
+// more entries, states or kernel lines than a table may have.
 pub enum Built {
     Table(Counts),
     Conflict(usize, Counts),
     Refused(Refusal),
+    TooLarge,
 }
 
 // Entry k's state is k.
@@ -169,16 +170,6 @@ fn build_stated(
     Built::Table(counts)
 }
 
-// More entries, states or kernel lines than a table may have.
-fn refuse_size() -> Built
-    ensures { λ r. ⌜ r ≡ Built.Refused (record { kind = Kind.LimitExceeded; place = 0 }) ⌝ }
-{
-    Built::Refused(Refusal {
-        kind: Kind::LimitExceeded,
-        place: 0,
-    })
-}
-
 // Goes on where the grammar and its entries are in memory.
 fn build_entered(
     items: &[u8],
@@ -208,7 +199,7 @@ fn build_entered(
         gotos,
     );
     let Discovery::States(all, lines) = found else {
-        return refuse_size();
+        return Built::TooLarge;
     };
     build_stated(
         items,
@@ -248,7 +239,7 @@ pub fn build(
     };
     let strings = entry_strings::list_entries(items, heading.rules, heading.goal);
     if 127 < strings {
-        return refuse_size();
+        return Built::TooLarge;
     }
     build_entered(
         items,

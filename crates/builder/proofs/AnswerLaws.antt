@@ -1,18 +1,16 @@
 -- What is answered for each way that building may end.
 use Prim.Native.Nat.{ℕ, _+_, _≤_}
 use native.Mathlib.Omega.{arith}
-use mathlib.Core.Path.{_≡_, sym, ap, subst, _∙_}
-use mathlib.Core.Logic.{_⊎_, inl, inr}
+use mathlib.Core.Path.{_≡_, refl, sym, ap, subst, _∙_}
 use mathlib.Core.List.{List}
 use lib.ListN.{length, replicate, length-replicate}
 use Rattle.language.specs.Grammar.{Grammar}
-use Rattle.reply.specs.declared.Kind.the-variants.{Conflict}
+use Rattle.reply.specs.declared.Kind.the-variants.{LimitExceeded, Conflict}
 use Rattle.reply.specs.declared.Refusal.{Refusal}
-use Rattle.reply.specs.declared.Reply.the-variants.{Refused}
 use Rattle.grammar.specs.Book.{Book, accepted, rejected, grammarOf}
 use Rattle.table.specs.declared.Counts.{Counts}
 use Rattle.table_writer.specs.MemoryTable.{memoryText}
-use Rattle.build_memory.specs.Memory.{Constructed, TooLarge}
+use Rattle.build_memory.specs.Memory.{Constructed, PastLimits}
 use Rattle.builder.specs.declared.BuildReply.{BuildReply}
 use Rattle.builder.specs.Build.{buildFrom, buildOf, refusedBy, Writes}
 use Rattle.builder.proofs.BookLaws.{Answers, answers-many, answers-conflict, answers-book}
@@ -38,13 +36,15 @@ module _ (gs : List ℕ) (room : ℕ) where
     ),
   )
 
-  pub build-refused : {x : Refusal} {r : BuildReply} {out : List ℕ} → (grammarOf gs ≡ rejected x) ⊎ TooLarge gs x → r ≡ refusedBy x → out ≡ replicate room 0 → Answered r out
+  pub build-refused : {x : Refusal} {r : BuildReply} {out : List ℕ} → grammarOf gs ≡ rejected x → r ≡ refusedBy x → out ≡ replicate room 0 → Answered r out
   unfolding buildOf
-  build-refused {x} {r} {out} (inl f) e o = subst (λ (b : BuildReply). Answered b out) (sym e) (
+  build-refused {x} {r} {out} f e o = subst (λ (b : BuildReply). Answered b out) (sym e) (
     sym (ap (λ (b : Book). buildFrom room b .reply) f),
     (sym (ap (λ (b : Book). buildFrom room b .length) f), (o ∙ sym (ap (λ (b : Book). buildFrom room b .slice) f), omega arith)),
   )
-  build-refused (inr L) e o = build-answers (L .book-is) (answers-many (L .grammar) room (L .past-limits) e (ap Refused (L .refusal-is)) o)
+
+  pub build-many : {r : BuildReply} {out : List ℕ} → PastLimits gs → r ≡ refusedBy (record { kind = LimitExceeded; place = 0 }) → out ≡ replicate room 0 → Answered r out
+  build-many L e o = build-answers (L .book-is) (answers-many (L .grammar) room (L .past-limits) e refl o)
 
   module _ {n : Counts} {q : ℕ} {items entries kernels lookaheads kinds values gotos : List ℕ} (C : Constructed gs n q items entries kernels lookaheads kinds values gotos) {r : BuildReply}
       {out : List ℕ} where

@@ -105,6 +105,10 @@ pub fn build_tables(grammar: &[u8], out: &mut [u8]) -> BuildReply
     );
     match built {
         Built::Refused(why) => refused(why),
+        Built::TooLarge => refused(Refusal {
+            kind: Kind::LimitExceeded,
+            place: 0,
+        }),
         Built::Conflict(q, _) => refused(Refusal {
             kind: Kind::Conflict,
             place: q,

@@ -25,7 +25,7 @@ pub record Differs (asked : List ℕ) (c v : ℕ) : Type 0 where
   pub there : Demand asked c other
   pub differ : other ≡ v → ⊥
 
--- v is asked of code c's cell, or something else beside what is
+-- v is asked of code c's cell, or two different actions are
 abbrev pub Met : List ℕ → List ℕ → ℕ → ℕ → Type 0
 Met asked others c v = Demand asked c v ⊎ On others c
 

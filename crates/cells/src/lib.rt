@@ -23,13 +23,13 @@ ghost use Rattle.carried.specs.Rows.{Ready};
 ghost use Rattle.cells.specs.Demands.{Asks, Wants, CodeAsks, ItemAsks, RuleAsks, LinesAsk, RulesAsk, HoldsAsked, HoldsConflicts};
 ghost use Rattle.cells.specs.Contents.{demandAt, GotoMeets};
 
-// An action that is asked of a cell is a number, 0 for none: so many times its kind, and its value.
+// What is asked of a cell, as a number: so many times the action's kind, and its value. 0 is nothing.
 pub const VALUES: usize = 256;
 
 pub const SHIFT: usize = 256;
-// And the rule.
+// The value is the rule.
 pub const ANNOUNCE: usize = 512;
-// And the length of the entry.
+// The value is the entry's length.
 pub const POP: usize = 768;
 
 // Asks for `demand` in the cell for code c. Where something else was asked first, `others` keeps the first that differs.
@@ -247,8 +247,8 @@ fn agree(others: &[usize]) -> bool
     true
 }
 
-// Fills in what the items of q ask of each code's cell: first `asked`, and the first that differs from it in `others`. The answer is no where
-// they ask two different things of one.
+// Fills in what the items of q ask of each code's cell: in `asked` the first action, in `others` the first that differs from it. The answer is
+// no where they ask two different actions of one.
 pub fn ask_cells(
     items: &[u8],
     kernels: &[u8],

@@ -1,16 +1,19 @@
 // explain_grammar GRAMMAR..: builds the tables of each grammar book, prints the reply's number and place, and tells in words why there are none.
 use build_memory::Built;
-use grammar::GrammarReply;
 use program::OUTPUT;
 use program::print_count;
 use program::print_text;
+use reply::Kind;
+use reply::Refusal;
 use reply::Reply;
 use symbol::SYMBOLS;
+use table::Counts;
 ghost use mathlib.Core.Path.{_≡_};
-ghost use Prim.Native.Nat.{_<_, _≤_};
+ghost use Prim.Native.Nat.{_+_, _<_, _≤_};
 ghost use lib.ListN.{length};
 ghost use Rattle.moves.specs.Moves.{Cells};
 ghost use Rattle.judge.specs.Given.{Sized};
+ghost use Rattle.table_writer.specs.MemoryTable as writer;
 
 // The most conflicts that are told in words.
 const MOST: usize = 20;
@@ -195,8 +198,64 @@ fn explain_conflicts(
     }
 }
 
-// A refusal of a grammar that is read: its tables are built again, in memory.
-fn explain_tables(out: &mut [u8; OUTPUT], grammar: &[u8]) {
+// The first line: the reply's number and place.
+fn print_reply(out: &mut [u8; OUTPUT], reply: Reply) {
+    program::print_pair(out, reply::number(reply), reply::place(reply) as u64);
+}
+
+fn print_refusal(out: &mut [u8; OUTPUT], kind: Kind, place: usize) {
+    print_reply(out, Reply::Refused(Refusal { kind, place }));
+}
+
+// A grammar book that is refused.
+fn explain_book(out: &mut [u8; OUTPUT], grammar: &[u8], why: Refusal) {
+    let reply = Reply::Refused(why);
+    print_reply(out, reply);
+    line_words::explain_grammar_book(out, grammar, reply::number(reply), reply::place(reply));
+}
+
+// A table without conflicts: its book may still be too long.
+fn explain_length(
+    out: &mut [u8; OUTPUT],
+    items: &[u8],
+    entries: &[u8],
+    kernels: &[u8],
+    lookaheads: &[u8],
+    kinds: &[u8],
+    values: &[u8],
+    gotos: &[u8],
+    counts: Counts,
+)
+    requires { ⌜ writer.Sized (now items) (now entries) (now kernels) (now lookaheads) (now kinds) (now values) (now gotos) (counts .grammar .rules) (counts .entries) (counts .kernels) (counts .states) (counts .grammar .terminals + 1) ⌝ }
+{
+    let heading = counts.grammar;
+    // Only the length is asked for.
+    let mut book = [0u8; 1];
+    let n = table_writer::write_table(
+        items,
+        entries,
+        kernels,
+        lookaheads,
+        kinds,
+        values,
+        gotos,
+        heading.rules,
+        counts.entries,
+        counts.kernels,
+        counts.states,
+        heading.terminals + 1,
+        &mut book,
+    );
+    if 65536 < n {
+        print_refusal(out, Kind::LimitExceeded, 0);
+        print_text(out, b"the table book would be longer than 65536 bytes\n");
+        return;
+    }
+    print_reply(out, Reply::Accepted(0));
+    print_text(out, b"the tables can be built\n");
+}
+
+fn show(grammar: &[u8]) {
     let mut items = [0u8; table::ITEMS];
     let mut entries = [0u8; table::ENTRY_STATES];
     let mut kernels = [0u8; table::KERNELS];
@@ -215,14 +274,18 @@ fn explain_tables(out: &mut [u8; OUTPUT], grammar: &[u8]) {
         &mut values,
         &mut gotos,
     );
+    let mut out = program::output();
     match built {
-        Built::Refused(_) => print_text(
-            out,
-            b"there would be more than 127 entries, 255 states or 1023 kernel lines\n",
-        ),
-        Built::Table(_) => print_text(out, b"the table book would be longer than 65536 bytes\n"),
-        Built::Conflict(q, counts) => explain_conflicts(
-            out,
+        Built::Refused(why) => explain_book(&mut out, grammar, why),
+        Built::TooLarge => {
+            print_refusal(&mut out, Kind::LimitExceeded, 0);
+            print_text(
+                &mut out,
+                b"there would be more than 127 entries, 255 states or 1023 kernel lines\n",
+            );
+        }
+        Built::Table(counts) => explain_length(
+            &mut out,
             &items,
             &entries,
             &kernels,
@@ -230,41 +293,29 @@ fn explain_tables(out: &mut [u8; OUTPUT], grammar: &[u8]) {
             &kinds,
             &values,
             &gotos,
-            &named,
-            counts.grammar.terminals,
-            counts.grammar.goal,
-            counts.grammar.rules,
-            counts.entries,
-            counts.kernels,
-            counts.states,
-            q,
+            counts,
         ),
-    }
-}
-
-// Why there are no tables.
-fn explain(out: &mut [u8; OUTPUT], grammar: &[u8], number: u64, place: usize) {
-    let mut items = [0u8; grammar::TABLE];
-    let answer = grammar::read_grammar(grammar, &mut items);
-    match answer {
-        GrammarReply::Refused(_) => {
-            line_words::explain_grammar_book(out, grammar, number, place)
+        Built::Conflict(q, counts) => {
+            print_refusal(&mut out, Kind::Conflict, q);
+            explain_conflicts(
+                &mut out,
+                &items,
+                &entries,
+                &kernels,
+                &lookaheads,
+                &kinds,
+                &values,
+                &gotos,
+                &named,
+                counts.grammar.terminals,
+                counts.grammar.goal,
+                counts.grammar.rules,
+                counts.entries,
+                counts.kernels,
+                counts.states,
+                q,
+            );
         }
-        GrammarReply::Read(_) => explain_tables(out, grammar),
-    }
-}
-
-fn show(grammar: &[u8]) {
-    let mut book = [0u8; 65536];
-    let built = builder::build_tables(grammar, &mut book);
-    let reply = built.reply;
-    let number = reply::number(reply);
-    let place = reply::place(reply);
-    let mut out = program::output();
-    program::print_pair(&mut out, number, place as u64);
-    match reply {
-        Reply::Accepted(_) => print_text(&mut out, b"the tables can be built\n"),
-        Reply::Refused(_) => explain(&mut out, grammar, number, place),
     }
     program::flush(&mut out);
 }

@@ -54,7 +54,7 @@ fn explain_tables(
     );
 }
 
-// Why a book is refused. Which of both it is, and what the other declares, the grammar book tells.
+// Why a book is refused: the grammar book, where it is refused by itself, else the table book.
 fn explain_book(out: &mut [u8; OUTPUT], grammar: &[u8], book: &[u8], number: u64, place: usize) {
     // Both lengths come before all else.
     if book.len() > 65536 {

@@ -1,6 +1,5 @@
 use native.Mathlib.Omega.{arith}
 use mathlib.Core.Path.{_∙_}
-use mathlib.Core.Logic.{inl, inr}
 use Rattle.build_memory.proofs.ReadLaws.{read-as, read-refused, blank-of, entered-of, too-large, listed-many}
 use borrow.Author.Needs.{needs}
 use Rattle.build_memory.proofs.build.Statement.{statement}
@@ -22,8 +21,7 @@ returns : tie.Need-returns
 returns c =
     let at-read-grammar = c .before .before .before .before .before in
     let L = at-read-grammar .before .before .before .before .before .before .before .before .before .before .pre in
-    inl
-    (read-refused _ _ (omega (arith, L .items-room)) (at-read-grammar .read-grammar .ensures .0) (c .before .answer2 .given .1))
+    read-refused _ _ (omega (arith, L .items-room)) (at-read-grammar .read-grammar .ensures .0) (c .before .answer2 .given .1)
 
 list-entries-requires : tie.Need-list-entries-requires
 list-entries-requires c κs =
@@ -33,22 +31,19 @@ list-entries-requires c κs =
     let R = read-as _ _ (omega (arith, L .items-room)) (w .ensures .0) (w .kept .1 .0) (w .ensures .1) (c .before .before .answer .given .1) in
     record { grammar = R .grammar; blank = blank-of R (omega (arith, w .kept .1 .0, L .items-room)) }
 
-refuse-size-requires : tie.Need-refuse-size-requires
-refuse-size-requires c κs = search needs
-
 same-length-2 : tie.Need-same-length-2
 same-length-2 c = search needs
 
 returns-2 : tie.Need-returns-2
 returns-2 c =
-    let at-list-entries = c .before .before .before .before in
+    let at-list-entries = c .before .before .before in
     let at-answer = at-list-entries .before .before .before in
     let at-read-grammar = at-answer .before .before .before .before in
     let L = at-read-grammar .before .before .before .before .before .before .before .before .before .before .pre in
     let w = at-read-grammar .read-grammar in
     let R = read-as _ _ (omega (arith, L .items-room)) (w .ensures .0) (w .kept .1 .0) (w .ensures .1) (at-answer .answer .given .1) in
     let M = at-list-entries .list-entries .ensures .1 (R .grammar) (blank-of R (omega (arith, w .kept .1 .0, L .items-room))) in
-    rw (c .refuse-size .ensures) (inr (too-large (R .book-is) (listed-many M (c .before .if1 .taken))))
+    too-large (R .book-is) (listed-many M (c .if1 .taken))
 
 build-entered-requires : tie.Need-build-entered-requires
 build-entered-requires c κs =
@@ -117,7 +112,6 @@ build-spec =
     same-length
     returns
     list-entries-requires
-    refuse-size-requires
     same-length-2
     returns-2
     build-entered-requires

@@ -1,5 +1,4 @@
 use native.Mathlib.Omega.{arith}
-use mathlib.Core.Logic.{inr}
 use Rattle.kernel_sets.proofs.CellLaws.{blank-zeros}
 use Rattle.build_memory.proofs.StateLaws.{few-rules, few-strings, grammar-of, stated-of}
 use Rattle.build_memory.proofs.ReadLaws.{too-large, too-many-states}
@@ -29,9 +28,6 @@ enum-known-found c = search needs
 enum-told : tie.Need-enum-told
 enum-told c = search needs
 
-refuse-size-requires : tie.Need-refuse-size-requires
-refuse-size-requires c κs = search needs
-
 same-length : tie.Need-same-length
 same-length c = search needs
 
@@ -46,10 +42,10 @@ same-length-4 c = search needs
 
 returns : tie.Need-returns
 returns c =
-    let at-find-states = c .before .before .before .before .before .before .before .before .before .before .before .before in
+    let at-find-states = c .before .before .before .before .before .before .before .before .before .before .before in
     λ gs g e E.
     let d = at-find-states .find-states .ensures .1 g (grammar-of E) in
-    rw (c .refuse-size .ensures) (inr (too-large e (too-many-states (rw (c .before .enum-told .given .1) at d))))
+    too-large e (too-many-states (rw (c .enum-told .given .1) at d))
 
 build-stated-requires : tie.Need-build-stated-requires
 build-stated-requires c κs =
@@ -106,7 +102,6 @@ build-entered-spec =
     find-states-requires
     enum-known-found
     enum-told
-    refuse-size-requires
     same-length
     same-length-2
     same-length-3

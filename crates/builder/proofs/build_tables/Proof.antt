@@ -2,7 +2,7 @@ use denote.Ref.{now}
 use mathlib.Core.Path.{refl, _∙_}
 use lib.ListN.{length}
 use Rattle.builder.proofs.BookLaws.{sized-of}
-use Rattle.builder.proofs.AnswerLaws.{zeros-again, build-refused, build-conflict, build-book}
+use Rattle.builder.proofs.AnswerLaws.{zeros-again, build-refused, build-many, build-conflict, build-book}
 use borrow.Author.Needs.{needs}
 use Rattle.builder.proofs.build_tables.Statement.{statement}
 use Rattle.builder.proofs.build_tables.Tie as tie
@@ -48,6 +48,12 @@ enum-known-built c = search needs
 
 refused-requires : tie.Need-refused-requires
 refused-requires c κs = search needs
+
+enum-told : tie.Need-enum-told
+enum-told c = search needs
+
+refused-requires-3 : tie.Need-refused-requires-3
+refused-requires-3 c κs = search needs
 
 enum-known-built-2 : tie.Need-enum-known-built-2
 enum-known-built-2 c = search needs
@@ -105,21 +111,31 @@ same-length-2 c = search needs
 
 returns-2 : tie.Need-returns-2
 returns-2 c =
-    let at-build = c .before .before .before .before .before .before .before .before .before .before .before in
+    let at-build = c .before .before .before .before .before .before .before .before .before .before in
     let b = at-build .build .ensures in
-    let C = rw (c .before .before .built2 .given .1) at b in
-    build-conflict _ _ (C .1) (C .0) (c .refused2 .ensures)
+    build-many _ _ (rw (c .before .enum-told .given .1) at b) (c .refused2 .ensures)
     (at-build .before .before .before .before .before .before .before .before .before .before .clear .ensures)
 
 same-length-3 : tie.Need-same-length-3
-same-length-3 c =
+same-length-3 c = search needs
+
+returns-3 : tie.Need-returns-3
+returns-3 c =
+    let at-build = c .before .before .before .before .before .before .before .before .before .before .before in
+    let b = at-build .build .ensures in
+    let C = rw (c .before .before .built2 .given .1) at b in
+    build-conflict _ _ (C .1) (C .0) (c .refused3 .ensures)
+    (at-build .before .before .before .before .before .before .before .before .before .before .clear .ensures)
+
+same-length-4 : tie.Need-same-length-4
+same-length-4 c =
     let w = c .before .before in
     w .write-book .kept .1 .1 .1 .1 .1 .1 .1 .1 .0
     ∙ w .before .before .before .before .before .before .before .before .before .before .before .before .before .before .before .before .before .before .before
     .before .before .before .before .before .before .before .before .before .before .clear .kept .0
 
-returns-3 : tie.Need-returns-3
-returns-3 c =
+returns-4 : tie.Need-returns-4
+returns-4 c =
     let at-built3 = c .before .before .before .before .before .before .before .before .before .before .before .before in
     let at-build = at-built3 .before .before .before .before .before .before .before .before .before in
     let b = at-build .build .ensures in
@@ -143,8 +159,10 @@ build-tables-spec =
     build-requires
     enum-known-built
     refused-requires
-    enum-known-built-2
+    enum-told
     refused-requires-2
+    enum-known-built-2
+    refused-requires-3
     enum-known-built-3
     slice-aggregate-write-book
     slice-aggregate-write-book-2
@@ -159,4 +177,6 @@ build-tables-spec =
     same-length-2
     returns-2
     same-length-3
-    returns-3)
+    returns-3
+    same-length-4
+    returns-4)

@@ -101,7 +101,7 @@ slice-aggregate-explain-tables-8 : tie.Need-slice-aggregate-explain-tables-8
 slice-aggregate-explain-tables-8 c = search needs
 
 explain-tables-requires : tie.Need-explain-tables-requires
-explain-tables-requires c κs = 
+explain-tables-requires c κs =
     let told = c .before .before .before .before .before .before .before .before .before .before in
     let judged = told .before .before .before .before .before .before .before .before .before .before .before .before .before .before .before in
     let begun = judged .before .before .before .before .before .before .before .before .before .before .before in
