@@ -1,7 +1,7 @@
 -- The slices that are lent, and the table that is left in them: safe to read, with a conflict or without one.
-use Prim.Native.Nat.{ℕ, zero, suc, _≤_}
+use Prim.Native.Nat.{ℕ, zero, suc, _+_, _≤_}
 use native.Mathlib.Omega.{arith}
-use mathlib.Core.Path.{_≡_, ap, subst, _∙_}
+use mathlib.Core.Path.{_≡_, refl, ap, subst, _∙_}
 use mathlib.Core.List.{List}
 use lib.ListN.{length, replicate, length-replicate}
 use Rattle.language.specs.Grammar.{Grammar}
@@ -51,11 +51,12 @@ constructed-of {g = g} {kernels = kernels} {lookaheads = lookaheads} {k = k} {v 
 }
 
 module _ {gs : List ℕ} {n : Counts} {q : ℕ} {items entries kernels lookaheads kinds values gotos : List ℕ} (C : Constructed gs n q items entries kernels lookaheads kinds values gotos) where
-  pub memory-sized : {named : List ℕ} → 256 ≤ length named → Sized items entries kernels lookaheads kinds values gotos named (n .grammar .rules) (n .entries) (n .kernels)
+  pub memory-sized : {named : List ℕ} → 256 ≤ length named → Sized items entries kernels lookaheads kinds values gotos named (n .grammar .rules + n .entries) (n .grammar .rules) (n .entries) (n .kernels)
   memory-sized room =
       let E = C .stated .entered in
       let R = C .rooms in
       record {
+        all-items = refl;
         shaped = E .shaped;
         some-lines = C .stated .safe .some-lines;
         cells-room = record { kinds-room = omega (arith, R .kinds-room); values-room = omega (arith, R .values-room); gotos-room = omega (arith, R .gotos-room) };

@@ -2,6 +2,7 @@
 // Inner: for `builder` and `explain_grammar`.
 use grammar::GrammarReply;
 use header::Heading;
+use memory::Totals;
 use reply::Refusal;
 use state_kernels::Discovery;
 use symbol::CODES;
@@ -44,9 +45,7 @@ fn settle_cells(
     entries: &[u8],
     kernels: &[u8],
     gotos: &[u8],
-    terminals: usize,
-    goal: usize,
-    rules: usize,
+    heading: Heading,
     strings: usize,
     all: usize,
     lines: usize,
@@ -54,53 +53,63 @@ fn settle_cells(
     kinds: &mut [u8],
     values: &mut [u8],
 ) -> usize
-    requires { ⌜ SomeStated (now items) (now kernels) (now kinds) (now values) (now gotos) terminals goal rules strings all lines ⌝ }
+    requires { ⌜ SomeStated (now items) (now kernels) (now kinds) (now values) (now gotos) (heading .terminals) (heading .goal) (heading .rules) strings all lines ⌝ }
     requires { ⌜ Rooms (now kernels) (now kinds) (now values) (now gotos) ⌝ }
     requires { ⌜ Numbered (now entries) strings ⌝ }
     requires { ⌜ length (now lookaheads) ≡ 65536 ⌝ }
     ensures { λ r. ⌜ (length (now (lookaheads .exit)) ≡ 65536) × Rooms (now (kernels .entry)) (now (kinds .exit)) (now (values .exit)) (now (gotos .entry)) ⌝ }
-    ensures { λ r. ⌜ ((g : Grammar) → Stated g (now (items .entry)) (now (kernels .entry)) (now (kinds .entry)) (now (values .entry)) (now (gotos .entry)) terminals goal rules strings all lines
+    ensures { λ r. ⌜ ((g : Grammar) → Stated g (now (items .entry)) (now (kernels .entry)) (now (kinds .entry)) (now (values .entry)) (now (gotos .entry)) (heading .terminals) (heading .goal) (heading .rules) strings all lines
         → Settled g (now (kernels .entry)) (now (lookaheads .exit)) (now (kinds .exit)) (now (values .exit)) (now (gotos .entry)) r) ⌝ }
 {
-    let count = rules + strings;
-    let codes = terminals + 1;
+    let count = heading.rules + strings;
+    let codes = heading.terminals + 1;
+    let totals = Totals {
+        items: count,
+        rules: heading.rules,
+        entries: strings,
+        lines,
+        codes,
+        states: all,
+    };
     let mut uses = [0u8; 2048];
-    let mut nul = [0u8; SYMBOLS];
-    let mut fst = [0u8; SYMBOLS * CODES];
+    let mut nullable = [0u8; SYMBOLS];
+    let mut first = [0u8; SYMBOLS * CODES];
     let mut starts = [0u8; 8192];
     let mut through = [0u8; 128];
     let mut links = [0usize; 1280];
-    entry_list::entries_meet(items, rules, strings, goal, &mut uses);
-    analysis::find_sets(items, terminals, rules, &mut nul, &mut fst);
+    entry_list::entries_meet(items, heading.rules, strings, heading.goal, &mut uses);
+    analysis::find_sets(
+        items,
+        heading.terminals,
+        heading.rules,
+        &mut nullable,
+        &mut first,
+    );
     closure::prepare_rules(
         items,
+        &nullable,
+        &first,
         count,
-        rules,
+        heading.rules,
         codes,
-        &nul,
-        &fst,
         &mut starts,
         &mut through,
     );
     kernel_lines::link_lines(kernels, lines, count, &mut links);
     least_lookaheads::find_lookaheads(
         items,
+        entries,
         kernels,
         &links,
         kinds,
         values,
         gotos,
-        entries,
         &uses,
-        &nul,
-        &fst,
+        &nullable,
+        &first,
         &starts,
         &through,
-        rules,
-        strings,
-        lines,
-        all,
-        codes,
+        totals,
         lookaheads,
     );
     table_cells::fill_cells(
@@ -108,15 +117,11 @@ fn settle_cells(
         kernels,
         &links,
         lookaheads,
-        &nul,
-        &fst,
+        &nullable,
+        &first,
         &starts,
         &through,
-        rules,
-        strings,
-        lines,
-        all,
-        codes,
+        totals,
         kinds,
         values,
     )
@@ -148,9 +153,7 @@ fn build_stated(
         entries,
         kernels,
         gotos,
-        heading.terminals,
-        heading.goal,
-        heading.rules,
+        heading,
         strings,
         all,
         lines,

@@ -42,7 +42,6 @@ fn write_book(
     requires { ⌜ now out ≡ replicate (length (now out)) 0 ⌝ }
     ensures { λ r. ⌜ Writes (memoryText (now (items .entry)) (now (entries .entry)) (now (kernels .entry)) (now (lookaheads .entry)) (now (kinds .entry)) (now (values .entry)) (now (gotos .entry)) (counts .grammar .rules) (counts .entries) (counts .kernels) (counts .states) (counts .grammar .terminals + 1)) (length (now (out .entry))) r (now (out .exit)) ⌝ }
 {
-    let heading = counts.grammar;
     let n = table_writer::write_table(
         items,
         entries,
@@ -51,11 +50,7 @@ fn write_book(
         kinds,
         values,
         gotos,
-        heading.rules,
-        counts.entries,
-        counts.kernels,
-        counts.states,
-        heading.terminals + 1,
+        counts,
         out,
     );
     if 65536 < n {

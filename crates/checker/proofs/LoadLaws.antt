@@ -80,7 +80,8 @@ module _ {gs s : List ℕ} {b a : Slices} {c : Counts} (l : BooksRead gs s b a c
 
   -- ---- what the judge asks
   module _ (room : hasRoom b ≡ true) where
-    pub read-sized : Sized (a .items) (a .states) (a .kernels) (a .lookaheads) (a .kinds) (a .values) (a .gotos) (a .named) (c .grammar .rules) (c .entries) (c .kernels)
+    pub read-sized : Sized (a .items) (a .states) (a .kernels) (a .lookaheads) (a .kinds) (a .values) (a .gotos) (a .named)
+        (c .grammar .rules + c .entries) (c .grammar .rules) (c .entries) (c .kernels)
     read-sized = let S = read-sound in rw (l .counts-are) (sized (l .holds) room (S .formed) (S .fits) (S .some-entry))
 
     pub read-given : Given (l .grammar) (l .table) (a .items) (a .states) (a .kernels) (a .lookaheads) (a .kinds) (a .values) (a .gotos) (a .named) (c .grammar .rules) (c .entries)

@@ -1,5 +1,6 @@
 // The checker of tables, over both books.
 // The door is `check_tables`; `load_tables` is inner, for `session`, and `judge_books`, for the program that explains.
+use memory::Totals;
 use reply::Reply;
 use table::TableReply;
 ghost use mathlib.Core.Path.{_≡_};
@@ -52,6 +53,16 @@ pub fn judge_books(
         };
     };
     let heading = counts.grammar;
+    let count = heading.rules + counts.entries;
+    let codes = heading.terminals + 1;
+    let totals = Totals {
+        items: count,
+        rules: heading.rules,
+        entries: counts.entries,
+        lines: counts.kernels,
+        codes,
+        states: counts.states,
+    };
     let verdict = judge::judge(
         items,
         entry_states,
@@ -61,12 +72,8 @@ pub fn judge_books(
         values,
         gotos,
         named,
-        heading.terminals,
+        totals,
         heading.goal,
-        heading.rules,
-        counts.entries,
-        counts.kernels,
-        counts.states,
     );
     Judged { answer, verdict }
 }

@@ -1,5 +1,6 @@
 // The closure of a state, computed from tables in memory.
 // Inner: for the checker and the builder.
+use memory::Totals;
 use symbol::CODES;
 use symbol::Symbol;
 ghost use mathlib.Core.Path.{_≡_};
@@ -21,15 +22,15 @@ ghost use Rattle.closure.specs.Kernel.{BeforeNonterminal, FollowsNonterm
 ghost use Rattle.closure.specs.Steps.{expansions, followings, LeftIn, FirstIs, Fires, Covered};
 
 // Whether item i's dot k stands before a symbol, and not at its recognition point.
-pub fn stands_before(m: &[u8], items: usize, i: usize, k: usize) -> bool
-    requires { ⌜ Shaped (now m) items ⌝ }
-    requires { ⌜ i ≤ items ⌝ }
-    ensures { λ b. ⌜ Decides (Before (now (m .entry)) i k) b ⌝ }
+pub fn stands_before(items: &[u8], count: usize, i: usize, k: usize) -> bool
+    requires { ⌜ Shaped (now items) count ⌝ }
+    requires { ⌜ i ≤ count ⌝ }
+    ensures { λ b. ⌜ Decides (Before (now (items .entry)) i k) b ⌝ }
 {
-    if items::length_of(m, items, i) <= k {
+    if items::length_of(items, count, i) <= k {
         return false;
     }
-    if items::mark_of(m, items, i) == k {
+    if items::mark_of(items, count, i) == k {
         return false;
     }
     true
@@ -37,26 +38,36 @@ pub fn stands_before(m: &[u8], items: usize, i: usize, k: usize) -> bool
 
 // Fills in, for each rule, what can begin after its first symbol: once, for the closures of all states.
 pub fn prepare_rules(
-    m: &[u8],
-    items: usize,
+    items: &[u8],
+    nullable: &[u8],
+    first: &[u8],
+    count: usize,
     rules: usize,
     codes: usize,
-    nul: &[u8],
-    fst: &[u8],
     starts: &mut [u8],
     through: &mut [u8],
 )
-    requires { ⌜ Shaped (now m) items ⌝ }
-    requires { ⌜ (rules ≤ items) × (rules ≤ 127) × (codes ≤ 64) ⌝ }
-    requires { ⌜ (length (now nul) ≡ 128) × (length (now fst) ≡ 8192) ⌝ }
+    requires { ⌜ Shaped (now items) count ⌝ }
+    requires { ⌜ (rules ≤ count) × (rules ≤ 127) × (codes ≤ 64) ⌝ }
+    requires { ⌜ (length (now nullable) ≡ 128) × (length (now first) ≡ 8192) ⌝ }
     requires { ⌜ (length (now starts) ≡ 8192) × (length (now through) ≡ 128) ⌝ }
-    ensures { λ _. ⌜ Prepared (now (m .entry)) (rules + 1) codes (now (nul .entry)) (now (fst .entry)) (now (starts .exit)) (now (through .exit)) ⌝ }
+    ensures { λ _. ⌜ Prepared (now (items .entry)) (rules + 1) codes (now (nullable .entry)) (now (first .entry)) (now (starts .exit)) (now (through .exit)) ⌝ }
 {
     reply::clear(starts);
     reply::clear(through);
     let mut i = 1;
     while i <= rules {
-        if analysis::rest_first(m, items, i, 1, codes, nul, fst, starts, i * CODES) {
+        if analysis::rest_first(
+            items,
+            count,
+            i,
+            1,
+            codes,
+            nullable,
+            first,
+            starts,
+            i * CODES,
+        ) {
             through[i] = 1;
         }
         i += 1;
@@ -65,29 +76,29 @@ pub fn prepare_rules(
 
 // What item i with dot k adds to its state's closure, where its lookaheads stand from `start` on.
 fn add_item(
-    m: &[u8],
-    items: usize,
+    items: &[u8],
+    lookaheads: &[u8],
+    nullable: &[u8],
+    first: &[u8],
+    count: usize,
+    codes: usize,
     i: usize,
     k: usize,
-    lookaheads: &[u8],
     start: usize,
-    codes: usize,
-    nul: &[u8],
-    fst: &[u8],
     present: &mut [u8],
     follow: &mut [u8],
 )
-    requires { ⌜ Shaped (now m) items ⌝ }
-    requires { ⌜ (i ≤ items) × (codes ≤ 64) × (start + 64 ≤ length (now lookaheads)) ⌝ }
-    requires { ⌜ (length (now nul) ≡ 128) × (length (now fst) ≡ 8192) ⌝ }
+    requires { ⌜ Shaped (now items) count ⌝ }
+    requires { ⌜ (i ≤ count) × (codes ≤ 64) × (start + 64 ≤ length (now lookaheads)) ⌝ }
+    requires { ⌜ (length (now nullable) ≡ 128) × (length (now first) ≡ 8192) ⌝ }
     requires { ⌜ (length (now present) ≡ 64) × (length (now follow) ≡ 4096) ⌝ }
-    ensures { λ _. ⌜ Adds (BeforeNonterminal (now (m .entry)) i k) (now (present .entry)) (now (present .exit)) ⌝ }
-    ensures { λ _. ⌜ Adds (FollowsNonterminal (now (m .entry)) codes (now (nul .entry)) (now (fst .entry)) (now (lookaheads .entry)) start i k) (now (follow .entry)) (now (follow .exit)) ⌝ }
+    ensures { λ _. ⌜ Adds (BeforeNonterminal (now (items .entry)) i k) (now (present .entry)) (now (present .exit)) ⌝ }
+    ensures { λ _. ⌜ Adds (FollowsNonterminal (now (items .entry)) codes (now (nullable .entry)) (now (first .entry)) (now (lookaheads .entry)) start i k) (now (follow .entry)) (now (follow .exit)) ⌝ }
 {
-    if !stands_before(m, items, i, k) {
+    if !stands_before(items, count, i, k) {
         return;
     }
-    let x = items::symbol_of(m, items, i, k);
+    let x = items::symbol_of(items, count, i, k);
     if x < Symbol::FIRST_NONTERMINAL {
         return;
     }
@@ -96,7 +107,17 @@ fn add_item(
     if !analysis::any_code(lookaheads, start, codes) {
         return;
     }
-    if !analysis::rest_first(m, items, i, k + 1, codes, nul, fst, follow, b * CODES) {
+    if !analysis::rest_first(
+        items,
+        count,
+        i,
+        k + 1,
+        codes,
+        nullable,
+        first,
+        follow,
+        b * CODES,
+    ) {
         return;
     }
     analysis::add_codes(lookaheads, start, codes, follow, b * CODES);
@@ -104,44 +125,42 @@ fn add_item(
 
 // What the kernel lines of state q add to its closure.
 fn add_kernel(
-    m: &[u8],
-    items: usize,
+    items: &[u8],
     kernels: &[u8],
     lookaheads: &[u8],
-    lines: usize,
+    nullable: &[u8],
+    first: &[u8],
+    totals: Totals,
     q: usize,
-    codes: usize,
-    nul: &[u8],
-    fst: &[u8],
     present: &mut [u8],
     follow: &mut [u8],
 )
-    requires { ⌜ Shaped (now m) items ⌝ }
-    requires { ⌜ Lines (now kernels) lines items ⌝ }
-    requires { ⌜ (lines * 64 ≤ length (now lookaheads)) × (codes ≤ 64) ⌝ }
-    requires { ⌜ (length (now nul) ≡ 128) × (length (now fst) ≡ 8192) ⌝ }
+    requires { ⌜ Shaped (now items) (totals .items) ⌝ }
+    requires { ⌜ Lines (now kernels) (totals .lines) (totals .items) ⌝ }
+    requires { ⌜ (totals .lines * 64 ≤ length (now lookaheads)) × (totals .codes ≤ 64) ⌝ }
+    requires { ⌜ (length (now nullable) ≡ 128) × (length (now first) ≡ 8192) ⌝ }
     requires { ⌜ (length (now present) ≡ 64) × (length (now follow) ≡ 4096) ⌝ }
-    ensures { λ _. ⌜ Adds (KernelBefore (now (m .entry)) (now (kernels .entry)) lines q) (now (present .entry)) (now (present .exit)) ⌝ }
-    ensures { λ _. ⌜ Adds (KernelFollows (now (m .entry)) codes (now (nul .entry)) (now (fst .entry)) (now (kernels .entry)) (now (lookaheads .entry)) lines q) (now (follow .entry)) (now (follow .exit)) ⌝ }
+    ensures { λ _. ⌜ Adds (KernelBefore (now (items .entry)) (now (kernels .entry)) (totals .lines) q) (now (present .entry)) (now (present .exit)) ⌝ }
+    ensures { λ _. ⌜ Adds (KernelFollows (now (items .entry)) (totals .codes) (now (nullable .entry)) (now (first .entry)) (now (kernels .entry)) (now (lookaheads .entry)) (totals .lines) q) (now (follow .entry)) (now (follow .exit)) ⌝ }
 {
     let mut l = 0;
-    while l < lines {
-        if kernel_lines::state_of(kernels, lines, items, l) != q {
+    while l < totals.lines {
+        if kernel_lines::state_of(kernels, totals.lines, totals.items, l) != q {
             l += 1;
             continue;
         }
-        let i = kernel_lines::item_of(kernels, lines, items, l);
-        let k = kernel_lines::dot_of(kernels, lines, items, l);
+        let i = kernel_lines::item_of(kernels, totals.lines, totals.items, l);
+        let k = kernel_lines::dot_of(kernels, totals.lines, totals.items, l);
         add_item(
-            m,
             items,
+            lookaheads,
+            nullable,
+            first,
+            totals.items,
+            totals.codes,
             i,
             k,
-            lookaheads,
             l * CODES,
-            codes,
-            nul,
-            fst,
             present,
             follow,
         );
@@ -150,13 +169,13 @@ fn add_kernel(
 }
 
 // Whether the left side of rule i is a nonterminal that is flagged.
-fn left_in(m: &[u8], items: usize, i: usize, present: &[u8]) -> bool
-    requires { ⌜ Shaped (now m) items ⌝ }
-    requires { ⌜ i ≤ items ⌝ }
+fn left_in(items: &[u8], present: &[u8], count: usize, i: usize) -> bool
+    requires { ⌜ Shaped (now items) count ⌝ }
+    requires { ⌜ i ≤ count ⌝ }
     requires { ⌜ length (now present) ≡ 64 ⌝ }
-    ensures { λ b. ⌜ Decides (LeftIn (now (m .entry)) i (now (present .entry))) b ⌝ }
+    ensures { λ b. ⌜ Decides (LeftIn (now (items .entry)) i (now (present .entry))) b ⌝ }
 {
-    let x = items::left_of(m, items, i);
+    let x = items::left_of(items, count, i);
     if x < Symbol::FIRST_NONTERMINAL {
         return false;
     }
@@ -167,15 +186,15 @@ fn left_in(m: &[u8], items: usize, i: usize, present: &[u8]) -> bool
 }
 
 // The nonterminal, less 64, that rule i begins with before its recognition point; 64 for none.
-fn first_nonterminal(m: &[u8], items: usize, i: usize) -> usize
-    requires { ⌜ Shaped (now m) items ⌝ }
-    requires { ⌜ i ≤ items ⌝ }
-    ensures { λ r. ⌜ FirstIs (now (m .entry)) i r ⌝ }
+fn first_nonterminal(items: &[u8], count: usize, i: usize) -> usize
+    requires { ⌜ Shaped (now items) count ⌝ }
+    requires { ⌜ i ≤ count ⌝ }
+    ensures { λ r. ⌜ FirstIs (now (items .entry)) i r ⌝ }
 {
-    if !stands_before(m, items, i, 0) {
+    if !stands_before(items, count, i, 0) {
         return CODES;
     }
-    let x = items::symbol_of(m, items, i, 0);
+    let x = items::symbol_of(items, count, i, 0);
     if x < Symbol::FIRST_NONTERMINAL {
         return CODES;
     }
@@ -183,21 +202,21 @@ fn first_nonterminal(m: &[u8], items: usize, i: usize) -> usize
 }
 
 // Flags what the rules of flagged nonterminals begin with, until a pass adds nothing.
-pub fn close_present(m: &[u8], items: usize, rules: usize, present: &mut [u8])
-    requires { ⌜ Shaped (now m) items ⌝ }
-    requires { ⌜ rules ≤ items ⌝ }
+pub fn close_present(items: &[u8], count: usize, rules: usize, present: &mut [u8])
+    requires { ⌜ Shaped (now items) count ⌝ }
+    requires { ⌜ rules ≤ count ⌝ }
     requires { ⌜ length (now present) ≡ 64 ⌝ }
-    ensures { λ _. ⌜ Marks (Least (expansions (now (m .entry)) rules) (On (now (present .entry)))) (now (present .exit)) ⌝ }
+    ensures { λ _. ⌜ Marks (Least (expansions (now (items .entry)) rules) (On (now (present .entry)))) (now (present .exit)) ⌝ }
 {
     'passes: loop {
         let mut added: usize = 0;
         let mut i = 1;
         'rules: while i <= rules {
-            if !left_in(m, items, i, present) {
+            if !left_in(items, present, count, i) {
                 i += 1;
                 continue 'rules;
             }
-            let b = first_nonterminal(m, items, i);
+            let b = first_nonterminal(items, count, i);
             if b >= CODES {
                 i += 1;
                 continue 'rules;
@@ -234,36 +253,36 @@ fn fires(starts: &[u8], through: &[u8], follow: &[u8], i: usize, a: usize, c: us
 
 // Flags what can follow the nonterminals that rules begin with, until a pass adds nothing.
 fn close_follow(
-    m: &[u8],
-    items: usize,
-    rules: usize,
-    codes: usize,
+    items: &[u8],
     starts: &[u8],
     through: &[u8],
     present: &[u8],
+    count: usize,
+    rules: usize,
+    codes: usize,
     follow: &mut [u8],
 )
-    requires { ⌜ Shaped (now m) items ⌝ }
-    requires { ⌜ (rules ≤ items) × (rules ≤ 127) × (codes ≤ 64) ⌝ }
+    requires { ⌜ Shaped (now items) count ⌝ }
+    requires { ⌜ (rules ≤ count) × (rules ≤ 127) × (codes ≤ 64) ⌝ }
     requires { ⌜ (length (now starts) ≡ 8192) × (length (now through) ≡ 128) ⌝ }
     requires { ⌜ (length (now present) ≡ 64) × (length (now follow) ≡ 4096) ⌝ }
-    requires { ⌜ Covered (now m) rules codes (now present) (now follow) ⌝ }
-    ensures { λ _. ⌜ Marks (Least (followings (now (m .entry)) rules codes (now (starts .entry)) (now (through .entry))) (On (now (follow .entry)))) (now (follow .exit)) ⌝ }
+    requires { ⌜ Covered (now items) rules codes (now present) (now follow) ⌝ }
+    ensures { λ _. ⌜ Marks (Least (followings (now (items .entry)) rules codes (now (starts .entry)) (now (through .entry))) (On (now (follow .entry)))) (now (follow .exit)) ⌝ }
 {
     'passes: loop {
         let mut added: usize = 0;
         let mut i = 1;
         'rules: while i <= rules {
-            if !left_in(m, items, i, present) {
+            if !left_in(items, present, count, i) {
                 i += 1;
                 continue 'rules;
             }
-            let b = first_nonterminal(m, items, i);
+            let b = first_nonterminal(items, count, i);
             if b >= CODES {
                 i += 1;
                 continue 'rules;
             }
-            let a = items::left_of(m, items, i) - Symbol::FIRST_NONTERMINAL;
+            let a = items::left_of(items, count, i) - Symbol::FIRST_NONTERMINAL;
             if !analysis::any_code(follow, a * CODES, codes) {
                 i += 1;
                 continue 'rules;
@@ -288,45 +307,49 @@ fn close_follow(
 
 // The closure of state q: which nonterminals are expanded in it, and which codes can follow each.
 pub fn close_state(
-    m: &[u8],
-    items: usize,
-    rules: usize,
+    items: &[u8],
     kernels: &[u8],
     lookaheads: &[u8],
-    lines: usize,
-    q: usize,
-    codes: usize,
-    nul: &[u8],
-    fst: &[u8],
+    nullable: &[u8],
+    first: &[u8],
     starts: &[u8],
     through: &[u8],
+    totals: Totals,
+    q: usize,
     present: &mut [u8],
     follow: &mut [u8],
 )
-    requires { ⌜ Shaped (now m) items ⌝ }
-    requires { ⌜ (rules ≤ items) × (rules ≤ 127) × (codes ≤ 64) ⌝ }
-    requires { ⌜ Lines (now kernels) lines items ⌝ }
-    requires { ⌜ lines * 64 ≤ length (now lookaheads) ⌝ }
-    requires { ⌜ (length (now nul) ≡ 128) × (length (now fst) ≡ 8192) × (length (now starts) ≡ 8192) × (length (now through) ≡ 128) ⌝ }
-    requires { ⌜ Prepared (now m) (rules + 1) codes (now nul) (now fst) (now starts) (now through) ⌝ }
+    requires { ⌜ Shaped (now items) (totals .items) ⌝ }
+    requires { ⌜ (totals .rules ≤ totals .items) × (totals .rules ≤ 127) × (totals .codes ≤ 64) ⌝ }
+    requires { ⌜ Lines (now kernels) (totals .lines) (totals .items) ⌝ }
+    requires { ⌜ totals .lines * 64 ≤ length (now lookaheads) ⌝ }
+    requires { ⌜ (length (now nullable) ≡ 128) × (length (now first) ≡ 8192) × (length (now starts) ≡ 8192) × (length (now through) ≡ 128) ⌝ }
+    requires { ⌜ Prepared (now items) (totals .rules + 1) (totals .codes) (now nullable) (now first) (now starts) (now through) ⌝ }
     requires { ⌜ (length (now present) ≡ 64) × (length (now follow) ≡ 4096) ⌝ }
-    ensures { λ _. ⌜ ((g : Grammar) (t : Table) → InMemory (now (m .entry)) (now (kernels .entry)) (now (lookaheads .entry)) rules lines codes g t → HoldsClosure g t (FirstBy codes (now (nul .entry)) (now (fst .entry))) q (now (present .exit)) (now (follow .exit))) ⌝ }
+    ensures { λ _. ⌜ ((g : Grammar) (t : Table) → InMemory (now (items .entry)) (now (kernels .entry)) (now (lookaheads .entry)) (totals .rules) (totals .lines) (totals .codes) g t → HoldsClosure g t (FirstBy (totals .codes) (now (nullable .entry)) (now (first .entry))) q (now (present .exit)) (now (follow .exit))) ⌝ }
 {
     reply::clear(present);
     reply::clear(follow);
     add_kernel(
-        m,
         items,
         kernels,
         lookaheads,
-        lines,
+        nullable,
+        first,
+        totals,
         q,
-        codes,
-        nul,
-        fst,
         present,
         follow,
     );
-    close_present(m, items, rules, present);
-    close_follow(m, items, rules, codes, starts, through, present, follow);
+    close_present(items, totals.items, totals.rules, present);
+    close_follow(
+        items,
+        starts,
+        through,
+        present,
+        totals.items,
+        totals.rules,
+        totals.codes,
+        follow,
+    );
 }

@@ -32,15 +32,15 @@ module _ {entries kernels : List ℕ} {rules lines q k s : ℕ} (is-s : s ≡ ge
   entry-extra e f m = f (m .only (sym is-s ∙ e))
 
 -- ---- the whole
-module _ {items entries kernels kinds values gotos named present symbols : List ℕ} {rules strings lines q : ℕ} where
+module _ {items entries kernels kinds values gotos named present symbols : List ℕ} {count rules strings lines q : ℕ} where
   -- named, with its entries' items: what is wrong is what is wrong with its moves
   pub by-moves : On named q → EntriesAtMeet entries kernels rules strings lines q → {r : ItemFault}
-      → MoveFaultIs items kernels present symbols kinds values gotos (rules + strings) rules lines q r
-      → ItemFaultIs items entries kernels kinds values gotos named present symbols rules strings lines q r
+      → MoveFaultIs items kernels present symbols kinds values gotos count rules lines q r
+      → ItemFaultIs items entries kernels kinds values gotos named present symbols count rules strings lines q r
   by-moves o a {r = r} f = record { is = go r (f .is) }
     where
-      go : (r : ItemFault) → MoveNamedIs items kernels present symbols kinds values gotos (rules + strings) rules lines q r
-          → ItemNamedIs items entries kernels kinds values gotos named present symbols rules strings lines q r
+      go : (r : ItemFault) → MoveNamedIs items kernels present symbols kinds values gotos count rules lines q r
+          → ItemNamedIs items entries kernels kinds values gotos named present symbols count rules strings lines q r
       go ItemFault.Unnamed h = absurd h
       go (ItemFault.Entry k) h = absurd h
       go (ItemFault.Lost i k) h = h
@@ -90,14 +90,14 @@ module _ (g : Grammar) (t : Table) {items entries kernels kinds values gotos nam
           here z = e ∙ ap (λ (u : ℕ). some (E u γ)) (sym (H .held .holds-entries .state-is k s e) ∙ z)
 
   -- no fault exactly where the state's items are those of the construction
-  pub items-decided : q < 256 → {r : ItemFault} → ItemFaultIs items entries kernels kinds values gotos named present symbols rules strings lines q r
+  pub items-decided : q < 256 → {count : ℕ} {r : ItemFault} → ItemFaultIs items entries kernels kinds values gotos named present symbols count rules strings lines q r
       → Decides (ItemsMeet g t q) (noFault r)
-  items-decided low {r = r} f = go r (f .is)
+  items-decided low {count} {r = r} f = go r (f .is)
     where
-      moves : (r : ItemFault) → MoveNamedIs items kernels present symbols kinds values gotos (rules + strings) rules lines q r → Decides (MovesMeet g t q) (noFault r)
+      moves : (r : ItemFault) → MoveNamedIs items kernels present symbols kinds values gotos count rules lines q r → Decides (MovesMeet g t q) (noFault r)
       moves r h = moves-decided g t (H .held) (H .holds-present) (H .holds-moves) low {r = r} (record { is = h })
 
-      go : (r : ItemFault) → ItemNamedIs items entries kernels kinds values gotos named present symbols rules strings lines q r → Decides (ItemsMeet g t q) (noFault r)
+      go : (r : ItemFault) → ItemNamedIs items entries kernels kinds values gotos named present symbols count rules strings lines q r → Decides (ItemsMeet g t q) (noFault r)
       go ItemFault.Unnamed h = is-no _ (λ w. meets-named w .nonzero h)
       go (ItemFault.Entry k) h = is-no _ (λ w. h .2 (meets-entries w k (h .0) (h .1)))
       go (ItemFault.Lost i k) h = is-no _ (λ w. moves (ItemFault.Lost i k) h .no refl (meets-moves w))
@@ -105,6 +105,6 @@ module _ (g : Grammar) (t : Table) {items entries kernels kinds values gotos nam
       go ItemFault.Nothing h = is-yes _ (meets-all (h .0) (h .1) (moves ItemFault.Nothing (h .2) .yes refl))
 
   -- a fault that is named shows that the state's items are not those of the construction
-  pub refutes : q < 256 → (r : ItemFault) → (r ≡ ItemFault.Nothing → ⊥)
-      → ItemFaultIs items entries kernels kinds values gotos named present symbols rules strings lines q r → ItemsMeet g t q → ⊥
+  pub refutes : q < 256 → {count : ℕ} (r : ItemFault) → (r ≡ ItemFault.Nothing → ⊥)
+      → ItemFaultIs items entries kernels kinds values gotos named present symbols count rules strings lines q r → ItemsMeet g t q → ⊥
   refutes low r n f = items-decided low f .no (is-named r n)

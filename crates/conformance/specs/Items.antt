@@ -38,20 +38,20 @@ abbrev pub EntriesAtMeet : (entries kernels : List ℕ) → ℕ → ℕ → ℕ 
 EntriesAtMeet entries kernels rules strings lines q = (k : ℕ) → 1 ≤ k → k < strings + 1 → EntryMeets entries kernels rules lines q k
 
 -- what is named is so, and where nothing is, q is named, has the items of its entries, and its moves are right
-abbrev pub ItemNamedIs : (items entries kernels kinds values gotos named present symbols : List ℕ) → ℕ → ℕ → ℕ → ℕ → ItemFault → Type 0
-ItemNamedIs items entries kernels kinds values gotos named present symbols rules strings lines q ItemFault.Unnamed = Off named q
-ItemNamedIs items entries kernels kinds values gotos named present symbols rules strings lines q (ItemFault.Entry k) =
+abbrev pub ItemNamedIs : (items entries kernels kinds values gotos named present symbols : List ℕ) → ℕ → ℕ → ℕ → ℕ → ℕ → ItemFault → Type 0
+ItemNamedIs items entries kernels kinds values gotos named present symbols count rules strings lines q ItemFault.Unnamed = Off named q
+ItemNamedIs items entries kernels kinds values gotos named present symbols count rules strings lines q (ItemFault.Entry k) =
     (1 ≤ k) × (k < strings + 1) × (EntryMeets entries kernels rules lines q k → ⊥)
-ItemNamedIs items entries kernels kinds values gotos named present symbols rules strings lines q (ItemFault.Lost i k) =
-    MoveNamedIs items kernels present symbols kinds values gotos (rules + strings) rules lines q (ItemFault.Lost i k)
-ItemNamedIs items entries kernels kinds values gotos named present symbols rules strings lines q (ItemFault.Extra X l) =
-    MoveNamedIs items kernels present symbols kinds values gotos (rules + strings) rules lines q (ItemFault.Extra X l)
-ItemNamedIs items entries kernels kinds values gotos named present symbols rules strings lines q ItemFault.Nothing =
+ItemNamedIs items entries kernels kinds values gotos named present symbols count rules strings lines q (ItemFault.Lost i k) =
+    MoveNamedIs items kernels present symbols kinds values gotos count rules lines q (ItemFault.Lost i k)
+ItemNamedIs items entries kernels kinds values gotos named present symbols count rules strings lines q (ItemFault.Extra X l) =
+    MoveNamedIs items kernels present symbols kinds values gotos count rules lines q (ItemFault.Extra X l)
+ItemNamedIs items entries kernels kinds values gotos named present symbols count rules strings lines q ItemFault.Nothing =
     On named q × EntriesAtMeet entries kernels rules strings lines q
-    × MoveNamedIs items kernels present symbols kinds values gotos (rules + strings) rules lines q ItemFault.Nothing
+    × MoveNamedIs items kernels present symbols kinds values gotos count rules lines q ItemFault.Nothing
 
-pub record ItemFaultIs (items entries kernels kinds values gotos named present symbols : List ℕ) (rules strings lines q : ℕ) (r : ItemFault) : Type 0 where
-  pub is : ItemNamedIs items entries kernels kinds values gotos named present symbols rules strings lines q r
+pub record ItemFaultIs (items entries kernels kinds values gotos named present symbols : List ℕ) (count rules strings lines q : ℕ) (r : ItemFault) : Type 0 where
+  pub is : ItemNamedIs items entries kernels kinds values gotos named present symbols count rules strings lines q r
 
 -- a grammar and its table in memory, and what was computed of state q: its closure and its moves
 pub record HeldAt (g : Grammar) (t : Table) (items entries kernels kinds values gotos named present symbols : List ℕ) (rules strings lines q : ℕ) : Type 0 where

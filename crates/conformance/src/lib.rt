@@ -1,6 +1,7 @@
 // Why the kernels at a state are not those of the construction.
 // Inner: for the checker and `explanation`.
 use fixpoint::Found;
+use memory::Totals;
 use targets::ItemFault;
 ghost use mathlib.Core.Path.{_≡_};
 ghost use Prim.Native.Nat.{_+_, _<_, _≤_};
@@ -108,22 +109,28 @@ pub fn find_item_fault(
     named: &[u8],
     present: &[u8],
     symbols: &[u8],
-    rules: usize,
-    strings: usize,
-    lines: usize,
+    totals: Totals,
     q: usize,
 ) -> ItemFault
-    requires { ⌜ Readable (now items) (now kernels) (now links) (now present) (rules + strings) rules lines ⌝ }
+    requires { ⌜ Readable (now items) (now kernels) (now links) (now present) (totals .items) (totals .rules) (totals .lines) ⌝ }
     requires { ⌜ Cells (now kinds) (now values) (now gotos) ⌝ }
     requires { ⌜ (q < length (now named)) × (length (now symbols) ≡ 128) ⌝ }
-    requires { ⌜ (q < 256) × (rules ≤ 127) × (strings ≤ 127) × (strings < length (now entries)) ⌝ }
-    ensures { λ r. ⌜ ItemFaultIs (now (items .entry)) (now (entries .entry)) (now (kernels .entry)) (now (kinds .entry)) (now (values .entry)) (now (gotos .entry)) (now (named .entry)) (now (present .entry)) (now (symbols .entry)) rules strings lines q r ⌝ }
+    requires { ⌜ (q < 256) × (totals .rules ≤ 127) × (totals .entries ≤ 127) × (totals .entries < length (now entries)) ⌝ }
+    ensures { λ r. ⌜ ItemFaultIs (now (items .entry)) (now (entries .entry)) (now (kernels .entry)) (now (kinds .entry)) (now (values .entry)) (now (gotos .entry)) (now (named .entry)) (now (present .entry)) (now (symbols .entry)) (totals .items) (totals .rules) (totals .entries) (totals .lines) q r ⌝ }
 {
-    let count = rules + strings;
     if named[q] == 0 {
         return ItemFault::Unnamed;
     }
-    let entry = find_entry_at(entries, kernels, links, rules, strings, lines, count, q);
+    let entry = find_entry_at(
+        entries,
+        kernels,
+        links,
+        totals.rules,
+        totals.entries,
+        totals.lines,
+        totals.items,
+        q,
+    );
     if let Found::At(k) = entry {
         return ItemFault::Entry(k);
     }
@@ -131,14 +138,12 @@ pub fn find_item_fault(
         items,
         kernels,
         links,
-        present,
-        symbols,
         kinds,
         values,
         gotos,
-        count,
-        rules,
-        lines,
+        present,
+        symbols,
+        totals,
         q,
     )
 }

@@ -1,5 +1,6 @@
 // explain_grammar GRAMMAR..: builds the tables of each grammar book, prints the reply's number and place, and tells in words why there are none.
 use build_memory::Built;
+use explanation::Question;
 use program::OUTPUT;
 use program::print_count;
 use program::print_text;
@@ -149,21 +150,21 @@ fn explain_conflicts(
     values: &[u8],
     gotos: &[u8],
     named: &[u8],
-    terminals: usize,
-    goal: usize,
-    rules: usize,
-    strings: usize,
-    lines: usize,
-    states: usize,
+    counts: Counts,
     first: usize,
 )
-    requires { ⌜ Sized (now items) (now entries) (now kernels) (now lookaheads) (now kinds) (now values) (now gotos) (now named) rules strings lines ⌝ }
-    requires { ⌜ (terminals ≤ 63) × (states ≤ 255) × (1 ≤ first) ⌝ }
+    requires { ⌜ Sized (now items) (now entries) (now kernels) (now lookaheads) (now kinds) (now values) (now gotos) (now named) (counts .grammar .rules + counts .entries) (counts .grammar .rules) (counts .entries) (counts .kernels) ⌝ }
+    requires { ⌜ (counts .grammar .terminals ≤ 63) × (counts .states ≤ 255) × (1 ≤ first) ⌝ }
     requires { ⌜ Cells (now kinds) (now values) (now gotos) ⌝ }
 {
     let mut found = 0;
     let mut q = first;
-    while q <= states {
+    while q <= counts.states {
+        let question = Question {
+            number: 9,
+            place: q,
+            room: room_after(found),
+        };
         let more = explanation::explain_memory(
             out,
             items,
@@ -174,19 +175,12 @@ fn explain_conflicts(
             values,
             gotos,
             named,
-            terminals,
-            goal,
-            rules,
-            strings,
-            lines,
-            states,
-            9,
-            q,
-            room_after(found),
+            counts,
+            question,
         );
         if more != 0 {
             if found < MOST {
-                print_way(out, kinds, values, gotos, strings, q);
+                print_way(out, kinds, values, gotos, counts.entries, q);
             }
         }
         found += more;
@@ -228,7 +222,6 @@ fn explain_length(
 )
     requires { ⌜ writer.Sized (now items) (now entries) (now kernels) (now lookaheads) (now kinds) (now values) (now gotos) (counts .grammar .rules) (counts .entries) (counts .kernels) (counts .states) (counts .grammar .terminals + 1) ⌝ }
 {
-    let heading = counts.grammar;
     // Only the length is asked for.
     let mut book = [0u8; 1];
     let n = table_writer::write_table(
@@ -239,11 +232,7 @@ fn explain_length(
         kinds,
         values,
         gotos,
-        heading.rules,
-        counts.entries,
-        counts.kernels,
-        counts.states,
-        heading.terminals + 1,
+        counts,
         &mut book,
     );
     if 65536 < n {
@@ -307,12 +296,7 @@ fn show(grammar: &[u8]) {
                 &values,
                 &gotos,
                 &named,
-                counts.grammar.terminals,
-                counts.grammar.goal,
-                counts.grammar.rules,
-                counts.entries,
-                counts.kernels,
-                counts.states,
+                counts,
                 q,
             );
         }

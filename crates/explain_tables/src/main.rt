@@ -1,12 +1,13 @@
 // explain_tables (GRAMMAR TABLES)..: checks each table book against its grammar book, prints the reply's number and place, and tells in words
 // why the tables are refused.
+use explanation::Question;
 use grammar::GrammarReply;
 use program::OUTPUT;
 use program::print_text;
 use symbol::CODES;
 use table::Counts;
 use table::TableReply;
-ghost use Prim.Native.Nat.{_≤_};
+ghost use Prim.Native.Nat.{_+_, _≤_};
 ghost use Rattle.judge.specs.Given.{Sized};
 
 // The tables in memory, by the reply to them: 0, or 7 to 10.
@@ -24,14 +25,13 @@ fn explain_tables(
     number: u64,
     place: usize,
 )
-    requires { ⌜ Sized (now items) (now entries) (now kernels) (now lookaheads) (now kinds) (now values) (now gotos) (now named) (counts .grammar .rules) (counts .entries) (counts .kernels) ⌝ }
+    requires { ⌜ Sized (now items) (now entries) (now kernels) (now lookaheads) (now kinds) (now values) (now gotos) (now named) (counts .grammar .rules + counts .entries) (counts .grammar .rules) (counts .entries) (counts .kernels) ⌝ }
     requires { ⌜ (counts .grammar .terminals ≤ 63) × (counts .states ≤ 255) ⌝ }
 {
     if number == 0 {
         print_text(out, b"the tables meet the construction\n");
         return;
     }
-    let heading = counts.grammar;
     explanation::explain_memory(
         out,
         items,
@@ -42,15 +42,12 @@ fn explain_tables(
         values,
         gotos,
         named,
-        heading.terminals,
-        heading.goal,
-        heading.rules,
-        counts.entries,
-        counts.kernels,
-        counts.states,
-        number,
-        place,
-        CODES,
+        counts,
+        Question {
+            number,
+            place,
+            room: CODES,
+        },
     );
 }
 

@@ -6,6 +6,7 @@ use cells::SHIFT;
 use cells::VALUES;
 use entry_list::EntryFault;
 use fixpoint::Found;
+use memory::Totals;
 use missing_lookaheads::Lack;
 use program::OUTPUT;
 use program::print_count;
@@ -13,6 +14,7 @@ use program::print_text;
 use symbol::CODES;
 use symbol::SYMBOLS;
 use symbol::Symbol;
+use table::Counts;
 use targets::ItemFault;
 ghost use mathlib.Core.Path.{_≡_};
 ghost use Prim.Native.Nat.{_+_, _*_, _<_, _≤_};
@@ -229,30 +231,28 @@ fn explain_entries(out: &mut [u8; OUTPUT], items: &[u8], rules: usize, strings: 
 fn print_demand(
     out: &mut [u8; OUTPUT],
     items: &[u8],
-    nul: &[u8],
-    fst: &[u8],
+    nullable: &[u8],
+    first: &[u8],
     from: &[u8],
-    count: usize,
-    rules: usize,
-    codes: usize,
+    totals: Totals,
     i: usize,
     k: usize,
     start: usize,
     c: usize,
 )
-    requires { ⌜ Ready (now items) (now nul) (now fst) count codes ⌝ }
-    requires { ⌜ (i ≤ count) × (i < 256) × (k ≤ 15) × (start + 64 ≤ length (now from)) × (c < 64) ⌝ }
+    requires { ⌜ Ready (now items) (now nullable) (now first) (totals .items) (totals .codes) ⌝ }
+    requires { ⌜ (i ≤ totals .items) × (i < 256) × (k ≤ 15) × (start + 64 ≤ length (now from)) × (c < 64) ⌝ }
 {
     let mut asked = [0usize; CODES];
     let mut others = [0usize; CODES];
     cells::ask_item(
         items,
-        nul,
-        fst,
+        nullable,
+        first,
         from,
-        count,
-        rules,
-        codes,
+        totals.items,
+        totals.rules,
+        totals.codes,
         i,
         k,
         start,
@@ -261,7 +261,7 @@ fn print_demand(
     );
     let mut demand = asked[c];
     if c != Symbol::END {
-        if moves::symbol_after(items, count, i, k) == c {
+        if moves::symbol_after(items, totals.items, i, k) == c {
             demand = SHIFT;
         }
     }
@@ -269,7 +269,7 @@ fn print_demand(
         return;
     }
     print_action(out, demand);
-    print_item(out, b": ", items, count, rules, i, k);
+    print_item(out, b": ", items, totals.items, totals.rules, i, k);
     print_text(out, b"\n");
 }
 
@@ -279,33 +279,28 @@ fn print_line_demands(
     items: &[u8],
     kernels: &[u8],
     lookaheads: &[u8],
-    nul: &[u8],
-    fst: &[u8],
-    count: usize,
-    rules: usize,
-    lines: usize,
-    codes: usize,
+    nullable: &[u8],
+    first: &[u8],
+    totals: Totals,
     q: usize,
     c: usize,
 )
-    requires { ⌜ Lines (now kernels) lines count ⌝ }
-    requires { ⌜ Ready (now items) (now nul) (now fst) count codes ⌝ }
-    requires { ⌜ (count < 256) × (lines * 64 ≤ length (now lookaheads)) × (c < 64) ⌝ }
+    requires { ⌜ Lines (now kernels) (totals .lines) (totals .items) ⌝ }
+    requires { ⌜ Ready (now items) (now nullable) (now first) (totals .items) (totals .codes) ⌝ }
+    requires { ⌜ (totals .items < 256) × (totals .lines * 64 ≤ length (now lookaheads)) × (c < 64) ⌝ }
 {
     let mut l = 0;
-    while l < lines {
-        if kernel_lines::state_of(kernels, lines, count, l) == q {
-            let i = kernel_lines::item_of(kernels, lines, count, l);
-            let k = kernel_lines::dot_of(kernels, lines, count, l);
+    while l < totals.lines {
+        if kernel_lines::state_of(kernels, totals.lines, totals.items, l) == q {
+            let i = kernel_lines::item_of(kernels, totals.lines, totals.items, l);
+            let k = kernel_lines::dot_of(kernels, totals.lines, totals.items, l);
             print_demand(
                 out,
                 items,
-                nul,
-                fst,
+                nullable,
+                first,
                 lookaheads,
-                count,
-                rules,
-                codes,
+                totals,
                 i,
                 k,
                 l * CODES,
@@ -322,30 +317,26 @@ fn print_rule_demands(
     items: &[u8],
     present: &[u8],
     follow: &[u8],
-    nul: &[u8],
-    fst: &[u8],
-    count: usize,
-    rules: usize,
-    codes: usize,
+    nullable: &[u8],
+    first: &[u8],
+    totals: Totals,
     c: usize,
 )
-    requires { ⌜ Ready (now items) (now nul) (now fst) count codes ⌝ }
-    requires { ⌜ (rules ≤ count) × (count < 256) × (c < 64) ⌝ }
+    requires { ⌜ Ready (now items) (now nullable) (now first) (totals .items) (totals .codes) ⌝ }
+    requires { ⌜ (totals .rules ≤ totals .items) × (totals .items < 256) × (c < 64) ⌝ }
     requires { ⌜ (length (now present) ≡ 64) × (length (now follow) ≡ 4096) ⌝ }
 {
     let mut i = 1;
-    while i <= rules {
-        if moves::is_present(items, present, count, i) {
-            let left = items::left_of(items, count, i);
+    while i <= totals.rules {
+        if moves::is_present(items, present, totals.items, i) {
+            let left = items::left_of(items, totals.items, i);
             print_demand(
                 out,
                 items,
-                nul,
-                fst,
+                nullable,
+                first,
                 follow,
-                count,
-                rules,
-                codes,
+                totals,
                 i,
                 0,
                 (left - Symbol::FIRST_NONTERMINAL) * CODES,
@@ -364,18 +355,15 @@ fn print_demands(
     lookaheads: &[u8],
     present: &[u8],
     follow: &[u8],
-    nul: &[u8],
-    fst: &[u8],
-    count: usize,
-    rules: usize,
-    lines: usize,
-    codes: usize,
+    nullable: &[u8],
+    first: &[u8],
+    totals: Totals,
     q: usize,
     c: usize,
 )
-    requires { ⌜ Lines (now kernels) lines count ⌝ }
-    requires { ⌜ Ready (now items) (now nul) (now fst) count codes ⌝ }
-    requires { ⌜ (rules ≤ count) × (count < 256) × (lines * 64 ≤ length (now lookaheads)) × (c < 64) ⌝ }
+    requires { ⌜ Lines (now kernels) (totals .lines) (totals .items) ⌝ }
+    requires { ⌜ Ready (now items) (now nullable) (now first) (totals .items) (totals .codes) ⌝ }
+    requires { ⌜ (totals .rules ≤ totals .items) × (totals .items < 256) × (totals .lines * 64 ≤ length (now lookaheads)) × (c < 64) ⌝ }
     requires { ⌜ (length (now present) ≡ 64) × (length (now follow) ≡ 4096) ⌝ }
 {
     print_line_demands(
@@ -383,27 +371,13 @@ fn print_demands(
         items,
         kernels,
         lookaheads,
-        nul,
-        fst,
-        count,
-        rules,
-        lines,
-        codes,
+        nullable,
+        first,
+        totals,
         q,
         c,
     );
-    print_rule_demands(
-        out,
-        items,
-        present,
-        follow,
-        nul,
-        fst,
-        count,
-        rules,
-        codes,
-        c,
-    );
+    print_rule_demands(out, items, present, follow, nullable, first, totals, c);
 }
 
 // Where a state goes.
@@ -428,17 +402,15 @@ fn explain_items(
     uses: &[u8],
     present: &[u8],
     symbols: &[u8],
-    rules: usize,
-    strings: usize,
-    lines: usize,
+    totals: Totals,
     q: usize,
 )
-    requires { ⌜ Readable (now items) (now kernels) (now links) (now present) (rules + strings) rules lines ⌝ }
+    requires { ⌜ Readable (now items) (now kernels) (now links) (now present) (totals .items) (totals .rules) (totals .lines) ⌝ }
     requires { ⌜ Cells (now kinds) (now values) (now gotos) ⌝ }
     requires { ⌜ (q < length (now named)) × (length (now symbols) ≡ 128) ⌝ }
-    requires { ⌜ (q < 256) × (rules ≤ 127) × (strings ≤ 127) × (strings < length (now entries)) ⌝ }
+    requires { ⌜ (q < 256) × (totals .rules ≤ 127) × (totals .entries ≤ 127) × (totals .entries < length (now entries)) ⌝ }
+    requires { ⌜ totals .items ≡ totals .rules + totals .entries ⌝ }
 {
-    let count = rules + strings;
     let fault = conformance::find_item_fault(
         items,
         entries,
@@ -450,9 +422,7 @@ fn explain_items(
         named,
         present,
         symbols,
-        rules,
-        strings,
-        lines,
+        totals,
         q,
     );
     match fault {
@@ -467,35 +437,35 @@ fn explain_items(
                 out,
                 b", and its kernel is not the one ",
                 items,
-                count,
-                rules,
-                rules + k,
+                totals.items,
+                totals.rules,
+                totals.rules + k,
                 0,
             );
             print_user(out, uses, k);
             print_text(out, b"\n");
         }
         ItemFault::Lost(i, k) => {
-            let x = moves::symbol_after(items, count, i, k);
+            let x = moves::symbol_after(items, totals.items, i, k);
             print_goes(out, x, q, moves::next_of(kinds, values, gotos, q, x));
-            print_item(out, b"lacks ", items, count, rules, i, k + 1);
-            print_item_user(out, uses, rules, i);
+            print_item(out, b"lacks ", items, totals.items, totals.rules, i, k + 1);
+            print_item_user(out, uses, totals.rules, i);
             print_text(out, b"\n");
         }
         ItemFault::Extra(x, l) => {
             print_goes(out, x, q, moves::next_of(kinds, values, gotos, q, x));
-            let i = kernel_lines::item_of(kernels, lines, count, l);
+            let i = kernel_lines::item_of(kernels, totals.lines, totals.items, l);
             print_item(
                 out,
                 b"has ",
                 items,
-                count,
-                rules,
+                totals.items,
+                totals.rules,
                 i,
-                kernel_lines::dot_of(kernels, lines, count, l),
+                kernel_lines::dot_of(kernels, totals.lines, totals.items, l),
             );
             print_text(out, b", which does not move there");
-            print_item_user(out, uses, rules, i);
+            print_item_user(out, uses, totals.rules, i);
             print_text(out, b"\n");
         }
         ItemFault::Nothing => {}
@@ -515,22 +485,17 @@ fn explain_lookaheads(
     gotos: &[u8],
     named: &[u8],
     uses: &[u8],
-    nul: &[u8],
-    fst: &[u8],
+    nullable: &[u8],
+    first: &[u8],
     starts: &[u8],
     through: &[u8],
-    rules: usize,
-    strings: usize,
-    lines: usize,
-    codes: usize,
-    states: usize,
+    totals: Totals,
     q: usize,
 )
-    requires { ⌜ Sized (now items) (now entries) (now kernels) (now lookaheads) (now kinds) (now values) (now gotos) (now named) rules strings lines ⌝ }
-    requires { ⌜ Computed (now items) (now kernels) (now links) (now uses) (now nul) (now fst) (now starts) (now through) rules lines codes ⌝ }
-    requires { ⌜ (1 ≤ codes) × (states ≤ 255) × (q < 256) ⌝ }
+    requires { ⌜ Sized (now items) (now entries) (now kernels) (now lookaheads) (now kinds) (now values) (now gotos) (now named) (totals .items) (totals .rules) (totals .entries) (totals .lines) ⌝ }
+    requires { ⌜ Computed (now items) (now kernels) (now links) (now uses) (now nullable) (now first) (now starts) (now through) (totals .rules) (totals .lines) (totals .codes) ⌝ }
+    requires { ⌜ (1 ≤ totals .codes) × (totals .states ≤ 255) × (q < 256) ⌝ }
 {
-    let count = rules + strings;
     let lack = missing_lookaheads::find_lack(
         items,
         entries,
@@ -542,29 +507,25 @@ fn explain_lookaheads(
         gotos,
         named,
         uses,
-        nul,
-        fst,
+        nullable,
+        first,
         starts,
         through,
-        rules,
-        strings,
-        lines,
-        codes,
-        states,
+        totals,
         q,
     );
     let Lack::Code(l, c, p) = lack else {
         return;
     };
-    let i = kernel_lines::item_of(kernels, lines, count, l);
+    let i = kernel_lines::item_of(kernels, totals.lines, totals.items, l);
     print_item(
         out,
         b"",
         items,
-        count,
-        rules,
+        totals.items,
+        totals.rules,
         i,
-        kernel_lines::dot_of(kernels, lines, count, l),
+        kernel_lines::dot_of(kernels, totals.lines, totals.items, l),
     );
     print_count(out, b": its context lacks code ", c);
     if p == 0 {
@@ -573,7 +534,7 @@ fn explain_lookaheads(
     }
     print_count(out, b", which the items of state ", p);
     print_text(out, b" ask for");
-    print_item_user(out, uses, rules, i);
+    print_item_user(out, uses, totals.rules, i);
     print_text(out, b"\n");
 }
 
@@ -595,20 +556,16 @@ fn explain_conflicts(
     lookaheads: &[u8],
     present: &[u8],
     follow: &[u8],
-    nul: &[u8],
-    fst: &[u8],
+    nullable: &[u8],
+    first: &[u8],
     asked: &[usize],
     others: &[usize],
-    count: usize,
-    rules: usize,
-    lines: usize,
-    codes: usize,
-    q: usize,
-    room: usize,
+    totals: Totals,
+    question: Question,
 ) -> usize
-    requires { ⌜ Lines (now kernels) lines count ⌝ }
-    requires { ⌜ Ready (now items) (now nul) (now fst) count codes ⌝ }
-    requires { ⌜ (rules ≤ count) × (count < 256) × (lines * 64 ≤ length (now lookaheads)) ⌝ }
+    requires { ⌜ Lines (now kernels) (totals .lines) (totals .items) ⌝ }
+    requires { ⌜ Ready (now items) (now nullable) (now first) (totals .items) (totals .codes) ⌝ }
+    requires { ⌜ (totals .rules ≤ totals .items) × (totals .items < 256) × (totals .lines * 64 ≤ length (now lookaheads)) ⌝ }
     requires { ⌜ (length (now present) ≡ 64) × (length (now follow) ≡ 4096) ⌝ }
     requires { ⌜ (length (now asked) ≡ 64) × (length (now others) ≡ 64) ⌝ }
     ensures { λ r. ⌜ r ≤ 64 ⌝ }
@@ -620,8 +577,8 @@ fn explain_conflicts(
             c += 1;
             continue;
         }
-        if found < room {
-            print_conflict(out, q, c, asked[c], others[c]);
+        if found < question.room {
+            print_conflict(out, question.place, c, asked[c], others[c]);
             print_demands(
                 out,
                 items,
@@ -629,13 +586,10 @@ fn explain_conflicts(
                 lookaheads,
                 present,
                 follow,
-                nul,
-                fst,
-                count,
-                rules,
-                lines,
-                codes,
-                q,
+                nullable,
+                first,
+                totals,
+                question.place,
                 c,
             );
         }
@@ -696,22 +650,19 @@ fn explain_cells(
     present: &[u8],
     follow: &[u8],
     symbols: &[u8],
-    nul: &[u8],
-    fst: &[u8],
+    nullable: &[u8],
+    first: &[u8],
     asked: &[usize],
-    count: usize,
-    rules: usize,
-    lines: usize,
-    codes: usize,
+    totals: Totals,
     q: usize,
 )
-    requires { ⌜ Lines (now kernels) lines count ⌝ }
-    requires { ⌜ Ready (now items) (now nul) (now fst) count codes ⌝ }
+    requires { ⌜ Lines (now kernels) (totals .lines) (totals .items) ⌝ }
+    requires { ⌜ Ready (now items) (now nullable) (now first) (totals .items) (totals .codes) ⌝ }
     requires { ⌜ Cells (now kinds) (now values) (now gotos) ⌝ }
-    requires { ⌜ (rules ≤ count) × (count < 256) × (q < 256) × (lines * 64 ≤ length (now lookaheads)) ⌝ }
+    requires { ⌜ (totals .rules ≤ totals .items) × (totals .items < 256) × (q < 256) × (totals .lines * 64 ≤ length (now lookaheads)) ⌝ }
     requires { ⌜ (length (now present) ≡ 64) × (length (now follow) ≡ 4096) × (length (now symbols) ≡ 128) × (length (now asked) ≡ 64) ⌝ }
 {
-    let cell = cells::find_cell(asked, kinds, values, codes, q);
+    let cell = cells::find_cell(asked, kinds, values, totals.codes, q);
     let Found::At(c) = cell else {
         explain_goto(out, symbols, gotos, q);
         return;
@@ -724,12 +675,9 @@ fn explain_cells(
         lookaheads,
         present,
         follow,
-        nul,
-        fst,
-        count,
-        rules,
-        lines,
-        codes,
+        nullable,
+        first,
+        totals,
         q,
         c,
     );
@@ -748,20 +696,15 @@ fn explain_asked(
     present: &[u8],
     follow: &[u8],
     symbols: &[u8],
-    nul: &[u8],
-    fst: &[u8],
-    count: usize,
-    rules: usize,
-    lines: usize,
-    codes: usize,
-    number: u64,
-    q: usize,
-    room: usize,
+    nullable: &[u8],
+    first: &[u8],
+    totals: Totals,
+    question: Question,
 ) -> usize
-    requires { ⌜ Readable (now items) (now kernels) (now links) (now present) count rules lines ⌝ }
-    requires { ⌜ Ready (now items) (now nul) (now fst) count codes ⌝ }
+    requires { ⌜ Readable (now items) (now kernels) (now links) (now present) (totals .items) (totals .rules) (totals .lines) ⌝ }
+    requires { ⌜ Ready (now items) (now nullable) (now first) (totals .items) (totals .codes) ⌝ }
     requires { ⌜ Cells (now kinds) (now values) (now gotos) ⌝ }
-    requires { ⌜ (count < 256) × (q < 256) × (lines * 64 ≤ length (now lookaheads)) ⌝ }
+    requires { ⌜ (totals .items < 256) × (question .place < 256) × (totals .lines * 64 ≤ length (now lookaheads)) ⌝ }
     requires { ⌜ (length (now follow) ≡ 4096) × (length (now symbols) ≡ 128) ⌝ }
     ensures { λ r. ⌜ r ≤ 64 ⌝ }
 {
@@ -775,17 +718,17 @@ fn explain_asked(
         present,
         follow,
         symbols,
-        nul,
-        fst,
-        count,
-        rules,
-        lines,
-        codes,
-        q,
+        nullable,
+        first,
+        totals.items,
+        totals.rules,
+        totals.lines,
+        totals.codes,
+        question.place,
         &mut asked,
         &mut others,
     );
-    if number == 9 {
+    if question.number == 9 {
         return explain_conflicts(
             out,
             items,
@@ -793,16 +736,12 @@ fn explain_asked(
             lookaheads,
             present,
             follow,
-            nul,
-            fst,
+            nullable,
+            first,
             &asked,
             &others,
-            count,
-            rules,
-            lines,
-            codes,
-            q,
-            room,
+            totals,
+            question,
         );
     }
     explain_cells(
@@ -816,16 +755,20 @@ fn explain_asked(
         present,
         follow,
         symbols,
-        nul,
-        fst,
+        nullable,
+        first,
         &asked,
-        count,
-        rules,
-        lines,
-        codes,
-        q,
+        totals,
+        question.place,
     );
     0
+}
+
+// Which reply is told, at which place, and for how many conflicts there is room.
+pub struct Question {
+    pub number: u64,
+    pub place: usize,
+    pub room: usize,
 }
 
 // A refusal at state q, where what the check computes of the grammar is at hand.
@@ -841,25 +784,19 @@ fn explain_state(
     gotos: &[u8],
     named: &[u8],
     uses: &[u8],
-    nul: &[u8],
-    fst: &[u8],
+    nullable: &[u8],
+    first: &[u8],
     starts: &[u8],
     through: &[u8],
-    rules: usize,
-    strings: usize,
-    lines: usize,
-    codes: usize,
-    states: usize,
-    number: u64,
-    q: usize,
-    room: usize,
+    totals: Totals,
+    question: Question,
 ) -> usize
-    requires { ⌜ Sized (now items) (now entries) (now kernels) (now lookaheads) (now kinds) (now values) (now gotos) (now named) rules strings lines ⌝ }
-    requires { ⌜ Computed (now items) (now kernels) (now links) (now uses) (now nul) (now fst) (now starts) (now through) rules lines codes ⌝ }
-    requires { ⌜ (1 ≤ codes) × (states ≤ 255) × (q < 256) ⌝ }
+    requires { ⌜ Sized (now items) (now entries) (now kernels) (now lookaheads) (now kinds) (now values) (now gotos) (now named) (totals .items) (totals .rules) (totals .entries) (totals .lines) ⌝ }
+    requires { ⌜ Computed (now items) (now kernels) (now links) (now uses) (now nullable) (now first) (now starts) (now through) (totals .rules) (totals .lines) (totals .codes) ⌝ }
+    requires { ⌜ (1 ≤ totals .codes) × (totals .states ≤ 255) × (question .place < 256) ⌝ }
     ensures { λ r. ⌜ r ≤ 64 ⌝ }
 {
-    if number == 8 {
+    if question.number == 8 {
         explain_lookaheads(
             out,
             items,
@@ -872,36 +809,28 @@ fn explain_state(
             gotos,
             named,
             uses,
-            nul,
-            fst,
+            nullable,
+            first,
             starts,
             through,
-            rules,
-            strings,
-            lines,
-            codes,
-            states,
-            q,
+            totals,
+            question.place,
         );
         return 0;
     }
-    let count = rules + strings;
     let mut present = [0u8; CODES];
     let mut follow = [0u8; 4096];
     let mut symbols = [0u8; SYMBOLS];
     closure::close_state(
         items,
-        count,
-        rules,
         kernels,
         lookaheads,
-        lines,
-        q,
-        codes,
-        nul,
-        fst,
+        nullable,
+        first,
         starts,
         through,
+        totals,
+        question.place,
         &mut present,
         &mut follow,
     );
@@ -910,13 +839,13 @@ fn explain_state(
         kernels,
         links,
         &present,
-        count,
-        rules,
-        lines,
-        q,
+        totals.items,
+        totals.rules,
+        totals.lines,
+        question.place,
         &mut symbols,
     );
-    if number == 7 {
+    if question.number == 7 {
         explain_items(
             out,
             items,
@@ -930,10 +859,8 @@ fn explain_state(
             uses,
             &present,
             &symbols,
-            rules,
-            strings,
-            lines,
-            q,
+            totals,
+            question.place,
         );
         return 0;
     }
@@ -949,15 +876,10 @@ fn explain_state(
         &present,
         &follow,
         &symbols,
-        nul,
-        fst,
-        count,
-        rules,
-        lines,
-        codes,
-        number,
-        q,
-        room,
+        nullable,
+        first,
+        totals,
+        question,
     )
 }
 
@@ -972,48 +894,62 @@ pub fn explain_memory(
     values: &[u8],
     gotos: &[u8],
     named: &[u8],
-    terminals: usize,
-    goal: usize,
-    rules: usize,
-    strings: usize,
-    lines: usize,
-    states: usize,
-    number: u64,
-    place: usize,
-    room: usize,
+    counts: Counts,
+    question: Question,
 ) -> usize
-    requires { ⌜ Sized (now items) (now entries) (now kernels) (now lookaheads) (now kinds) (now values) (now gotos) (now named) rules strings lines ⌝ }
-    requires { ⌜ (terminals ≤ 63) × (states ≤ 255) ⌝ }
+    requires { ⌜ Sized (now items) (now entries) (now kernels) (now lookaheads) (now kinds) (now values) (now gotos) (now named) (counts .grammar .rules + counts .entries) (counts .grammar .rules) (counts .entries) (counts .kernels) ⌝ }
+    requires { ⌜ (counts .grammar .terminals ≤ 63) × (counts .states ≤ 255) ⌝ }
     ensures { λ r. ⌜ r ≤ 64 ⌝ }
 {
-    if place == 0 {
-        explain_entries(out, items, rules, strings, goal);
+    let heading = counts.grammar;
+    if question.place == 0 {
+        explain_entries(out, items, heading.rules, counts.entries, heading.goal);
         return 0;
     }
-    if place > 255 {
+    if question.place > 255 {
         return 0;
     }
-    let count = rules + strings;
-    let codes = terminals + 1;
+    let count = heading.rules + counts.entries;
+    let codes = heading.terminals + 1;
+    let totals = Totals {
+        items: count,
+        rules: heading.rules,
+        entries: counts.entries,
+        lines: counts.kernels,
+        codes,
+        states: counts.states,
+    };
     let mut uses = [0u8; 2048];
-    let mut nul = [0u8; SYMBOLS];
-    let mut fst = [0u8; 8192];
+    let mut nullable = [0u8; SYMBOLS];
+    let mut first = [0u8; 8192];
     let mut starts = [0u8; 8192];
     let mut through = [0u8; 128];
     let mut links = [0usize; 1280];
-    entry_list::entries_meet(items, rules, strings, goal, &mut uses);
-    analysis::find_sets(items, terminals, rules, &mut nul, &mut fst);
+    entry_list::entries_meet(
+        items,
+        heading.rules,
+        counts.entries,
+        heading.goal,
+        &mut uses,
+    );
+    analysis::find_sets(
+        items,
+        heading.terminals,
+        heading.rules,
+        &mut nullable,
+        &mut first,
+    );
     closure::prepare_rules(
         items,
+        &nullable,
+        &first,
         count,
-        rules,
+        heading.rules,
         codes,
-        &nul,
-        &fst,
         &mut starts,
         &mut through,
     );
-    kernel_lines::link_lines(kernels, lines, count, &mut links);
+    kernel_lines::link_lines(kernels, counts.kernels, count, &mut links);
     explain_state(
         out,
         items,
@@ -1026,17 +962,11 @@ pub fn explain_memory(
         gotos,
         named,
         &uses,
-        &nul,
-        &fst,
+        &nullable,
+        &first,
         &starts,
         &through,
-        rules,
-        strings,
-        lines,
-        codes,
-        states,
-        number,
-        place,
-        room,
+        totals,
+        question,
     )
 }

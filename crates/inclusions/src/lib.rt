@@ -1,5 +1,6 @@
 // What the items of a state ask of the lookaheads of others, added as flags at line * 64 + code.
 // Inner: for the checker and the builder.
+use memory::Totals;
 use symbol::CODES;
 use symbol::Symbol;
 ghost use mathlib.Core.Path.{_≡_};
@@ -84,21 +85,19 @@ fn add_move(
     values: &[u8],
     gotos: &[u8],
     from: &[u8],
-    count: usize,
-    lines: usize,
-    codes: usize,
+    totals: Totals,
     p: usize,
     i: usize,
     k: usize,
     start: usize,
-    grown: &mut [u8],
+    asked: &mut [u8],
 )
-    requires { ⌜ Lined (now items) (now kernels) (now links) count lines ⌝ }
+    requires { ⌜ Lined (now items) (now kernels) (now links) (totals .items) (totals .lines) ⌝ }
     requires { ⌜ Cells (now kinds) (now values) (now gotos) ⌝ }
-    requires { ⌜ (codes ≤ 64) × (p < 256) × (i ≤ count) × (k ≤ 15) × (start + 64 ≤ length (now from)) × (lines * 64 ≤ length (now grown)) ⌝ }
-    ensures { λ _. ⌜ Adds (MoveAsks (now (items .entry)) (now (kernels .entry)) (now (kinds .entry)) (now (values .entry)) (now (gotos .entry)) (now (from .entry)) lines codes p i k start) (now (grown .entry)) (now (grown .exit)) ⌝ }
+    requires { ⌜ (totals .codes ≤ 64) × (p < 256) × (i ≤ totals .items) × (k ≤ 15) × (start + 64 ≤ length (now from)) × (totals .lines * 64 ≤ length (now asked)) ⌝ }
+    ensures { λ _. ⌜ Adds (MoveAsks (now (items .entry)) (now (kernels .entry)) (now (kinds .entry)) (now (values .entry)) (now (gotos .entry)) (now (from .entry)) (totals .lines) (totals .codes) p i k start) (now (asked .entry)) (now (asked .exit)) ⌝ }
 {
-    let x = moves::symbol_after(items, count, i, k);
+    let x = moves::symbol_after(items, totals.items, i, k);
     if x == 0 {
         return;
     }
@@ -110,108 +109,110 @@ fn add_move(
         kernels,
         links,
         from,
-        lines,
-        count,
-        codes,
+        totals.lines,
+        totals.items,
+        totals.codes,
         s,
         i,
         k + 1,
         start,
-        grown,
+        asked,
     );
 }
 
 // What a group of item i asks of entry e, where it ends before dot b.
 fn add_group(
     items: &[u8],
+    entries: &[u8],
     kernels: &[u8],
     links: &[usize],
-    entries: &[u8],
     uses: &[u8],
-    nul: &[u8],
-    fst: &[u8],
+    nullable: &[u8],
+    first: &[u8],
     from: &[u8],
-    count: usize,
-    rules: usize,
-    lines: usize,
-    codes: usize,
+    totals: Totals,
     i: usize,
     b: usize,
     e: usize,
     start: usize,
-    grown: &mut [u8],
+    asked: &mut [u8],
 )
-    requires { ⌜ Sourced (now items) (now kernels) (now links) (now entries) (now uses) (now nul) (now fst) count rules lines codes ⌝ }
-    requires { ⌜ (i ≤ count) × (e < 256) × (start + 64 ≤ length (now from)) × (lines * 64 ≤ length (now grown)) ⌝ }
-    ensures { λ _. ⌜ Adds (GroupAsks (now (items .entry)) (now (kernels .entry)) (now (entries .entry)) (now (nul .entry)) (now (fst .entry)) (now (from .entry)) rules lines codes i b e start) (now (grown .entry)) (now (grown .exit)) ⌝ }
+    requires { ⌜ Sourced (now items) (now kernels) (now links) (now entries) (now uses) (now nullable) (now first) (totals .items) (totals .rules) (totals .lines) (totals .codes) ⌝ }
+    requires { ⌜ (i ≤ totals .items) × (e < 256) × (start + 64 ≤ length (now from)) × (totals .lines * 64 ≤ length (now asked)) ⌝ }
+    ensures { λ _. ⌜ Adds (GroupAsks (now (items .entry)) (now (kernels .entry)) (now (entries .entry)) (now (nullable .entry)) (now (first .entry)) (now (from .entry)) (totals .rules) (totals .lines) (totals .codes) i b e start) (now (asked .entry)) (now (asked .exit)) ⌝ }
 {
     if e == 0 {
         return;
     }
     let mut row = [0u8; CODES];
-    carried::item_first(items, count, i, b, codes, nul, fst, from, start, &mut row);
+    carried::item_first(
+        items,
+        totals.items,
+        i,
+        b,
+        totals.codes,
+        nullable,
+        first,
+        from,
+        start,
+        &mut row,
+    );
     let s = wide(entries[e]);
     add_lines(
         kernels,
         links,
         &row,
-        lines,
-        count,
-        codes,
+        totals.lines,
+        totals.items,
+        totals.codes,
         s,
-        rules + e,
+        totals.rules + e,
         0,
         0,
-        grown,
+        asked,
     );
 }
 
 // What the groups of rule i ask.
 fn add_groups(
     items: &[u8],
+    entries: &[u8],
     kernels: &[u8],
     links: &[usize],
-    entries: &[u8],
     uses: &[u8],
-    nul: &[u8],
-    fst: &[u8],
+    nullable: &[u8],
+    first: &[u8],
     from: &[u8],
-    count: usize,
-    rules: usize,
-    lines: usize,
-    codes: usize,
+    totals: Totals,
     i: usize,
     start: usize,
-    grown: &mut [u8],
+    asked: &mut [u8],
 )
-    requires { ⌜ Sourced (now items) (now kernels) (now links) (now entries) (now uses) (now nul) (now fst) count rules lines codes ⌝ }
-    requires { ⌜ (i ≤ rules) × (start + 64 ≤ length (now from)) × (lines * 64 ≤ length (now grown)) ⌝ }
-    ensures { λ _. ⌜ Adds (GroupsAsk (now (items .entry)) (now (kernels .entry)) (now (entries .entry)) (now (uses .entry)) (now (nul .entry)) (now (fst .entry)) (now (from .entry)) rules lines codes i start) (now (grown .entry)) (now (grown .exit)) ⌝ }
+    requires { ⌜ Sourced (now items) (now kernels) (now links) (now entries) (now uses) (now nullable) (now first) (totals .items) (totals .rules) (totals .lines) (totals .codes) ⌝ }
+    requires { ⌜ (i ≤ totals .rules) × (start + 64 ≤ length (now from)) × (totals .lines * 64 ≤ length (now asked)) ⌝ }
+    ensures { λ _. ⌜ Adds (GroupsAsk (now (items .entry)) (now (kernels .entry)) (now (entries .entry)) (now (uses .entry)) (now (nullable .entry)) (now (first .entry)) (now (from .entry)) (totals .rules) (totals .lines) (totals .codes) i start) (now (asked .entry)) (now (asked .exit)) ⌝ }
 {
-    let n = items::length_of(items, count, i);
-    let mut a = items::mark_of(items, count, i);
+    let n = items::length_of(items, totals.items, i);
+    let mut a = items::mark_of(items, totals.items, i);
     let mut j: usize = 0;
     while a < n {
-        let b = entry_list::group_end(items, count, i, a, n);
+        let b = entry_list::group_end(items, totals.items, i, a, n);
         let e = wide(uses[i * 16 + j]);
         add_group(
             items,
+            entries,
             kernels,
             links,
-            entries,
             uses,
-            nul,
-            fst,
+            nullable,
+            first,
             from,
-            count,
-            rules,
-            lines,
-            codes,
+            totals,
             i,
             b,
             e,
             start,
-            grown,
+            asked,
         );
         a = b;
         j += 1;
@@ -221,30 +222,27 @@ fn add_groups(
 // What item i of p with dot k asks.
 fn add_item(
     items: &[u8],
+    entries: &[u8],
     kernels: &[u8],
     links: &[usize],
     kinds: &[u8],
     values: &[u8],
     gotos: &[u8],
-    entries: &[u8],
     uses: &[u8],
-    nul: &[u8],
-    fst: &[u8],
+    nullable: &[u8],
+    first: &[u8],
     from: &[u8],
-    count: usize,
-    rules: usize,
-    lines: usize,
-    codes: usize,
+    totals: Totals,
     p: usize,
     i: usize,
     k: usize,
     start: usize,
-    grown: &mut [u8],
+    asked: &mut [u8],
 )
-    requires { ⌜ Sourced (now items) (now kernels) (now links) (now entries) (now uses) (now nul) (now fst) count rules lines codes ⌝ }
+    requires { ⌜ Sourced (now items) (now kernels) (now links) (now entries) (now uses) (now nullable) (now first) (totals .items) (totals .rules) (totals .lines) (totals .codes) ⌝ }
     requires { ⌜ Cells (now kinds) (now values) (now gotos) ⌝ }
-    requires { ⌜ (p < 256) × (i ≤ count) × (k ≤ 15) × (start + 64 ≤ length (now from)) × (lines * 64 ≤ length (now grown)) ⌝ }
-    ensures { λ _. ⌜ Adds (ItemAsks (now (items .entry)) (now (kernels .entry)) (now (kinds .entry)) (now (values .entry)) (now (gotos .entry)) (now (entries .entry)) (now (uses .entry)) (now (nul .entry)) (now (fst .entry)) (now (from .entry)) rules lines codes p i k start) (now (grown .entry)) (now (grown .exit)) ⌝ }
+    requires { ⌜ (p < 256) × (i ≤ totals .items) × (k ≤ 15) × (start + 64 ≤ length (now from)) × (totals .lines * 64 ≤ length (now asked)) ⌝ }
+    ensures { λ _. ⌜ Adds (ItemAsks (now (items .entry)) (now (kernels .entry)) (now (kinds .entry)) (now (values .entry)) (now (gotos .entry)) (now (entries .entry)) (now (uses .entry)) (now (nullable .entry)) (now (first .entry)) (now (from .entry)) (totals .rules) (totals .lines) (totals .codes) p i k start) (now (asked .entry)) (now (asked .exit)) ⌝ }
 {
     add_move(
         items,
@@ -254,198 +252,175 @@ fn add_item(
         values,
         gotos,
         from,
-        count,
-        lines,
-        codes,
+        totals,
         p,
         i,
         k,
         start,
-        grown,
+        asked,
     );
-    if i > rules {
+    if i > totals.rules {
         return;
     }
-    if items::mark_of(items, count, i) != k {
+    if items::mark_of(items, totals.items, i) != k {
         return;
     }
     add_groups(
         items,
+        entries,
         kernels,
         links,
-        entries,
         uses,
-        nul,
-        fst,
+        nullable,
+        first,
         from,
-        count,
-        rules,
-        lines,
-        codes,
+        totals,
         i,
         start,
-        grown,
+        asked,
     );
 }
 
 // What the kernel items of p ask.
 fn add_kernel(
     items: &[u8],
+    entries: &[u8],
     kernels: &[u8],
     links: &[usize],
     lookaheads: &[u8],
     kinds: &[u8],
     values: &[u8],
     gotos: &[u8],
-    entries: &[u8],
     uses: &[u8],
-    nul: &[u8],
-    fst: &[u8],
-    count: usize,
-    rules: usize,
-    lines: usize,
-    codes: usize,
+    nullable: &[u8],
+    first: &[u8],
+    totals: Totals,
     p: usize,
-    grown: &mut [u8],
+    asked: &mut [u8],
 )
-    requires { ⌜ Sourced (now items) (now kernels) (now links) (now entries) (now uses) (now nul) (now fst) count rules lines codes ⌝ }
+    requires { ⌜ Sourced (now items) (now kernels) (now links) (now entries) (now uses) (now nullable) (now first) (totals .items) (totals .rules) (totals .lines) (totals .codes) ⌝ }
     requires { ⌜ Cells (now kinds) (now values) (now gotos) ⌝ }
-    requires { ⌜ (p < 256) × (lines * 64 ≤ length (now lookaheads)) × (lines * 64 ≤ length (now grown)) ⌝ }
-    ensures { λ _. ⌜ Adds (OfLine (KernelAsks (now (items .entry)) (now (kernels .entry)) (now (lookaheads .entry)) (now (kinds .entry)) (now (values .entry)) (now (gotos .entry)) (now (entries .entry)) (now (uses .entry)) (now (nul .entry)) (now (fst .entry)) rules lines codes p) (now (kernels .entry)) lines p) (now (grown .entry)) (now (grown .exit)) ⌝ }
+    requires { ⌜ (p < 256) × (totals .lines * 64 ≤ length (now lookaheads)) × (totals .lines * 64 ≤ length (now asked)) ⌝ }
+    ensures { λ _. ⌜ Adds (OfLine (KernelAsks (now (items .entry)) (now (kernels .entry)) (now (lookaheads .entry)) (now (kinds .entry)) (now (values .entry)) (now (gotos .entry)) (now (entries .entry)) (now (uses .entry)) (now (nullable .entry)) (now (first .entry)) (totals .rules) (totals .lines) (totals .codes) p) (now (kernels .entry)) (totals .lines) p) (now (asked .entry)) (now (asked .exit)) ⌝ }
 {
-    let mut next = kernel_lines::last_line(kernels, links, lines, p);
+    let mut next = kernel_lines::last_line(kernels, links, totals.lines, p);
     while 0 < next {
         let l = next - 1;
-        let i = kernel_lines::item_of(kernels, lines, count, l);
-        let k = kernel_lines::dot_of(kernels, lines, count, l);
+        let i = kernel_lines::item_of(kernels, totals.lines, totals.items, l);
+        let k = kernel_lines::dot_of(kernels, totals.lines, totals.items, l);
         add_item(
             items,
+            entries,
             kernels,
             links,
             kinds,
             values,
             gotos,
-            entries,
             uses,
-            nul,
-            fst,
+            nullable,
+            first,
             lookaheads,
-            count,
-            rules,
-            lines,
-            codes,
+            totals,
             p,
             i,
             k,
             l * CODES,
-            grown,
+            asked,
         );
-        next = kernel_lines::line_before(kernels, links, lines, l);
+        next = kernel_lines::line_before(kernels, links, totals.lines, l);
     }
 }
 
 // What rule i asks, which p's closure adds.
 fn add_rule(
     items: &[u8],
+    entries: &[u8],
     kernels: &[u8],
     links: &[usize],
     kinds: &[u8],
     values: &[u8],
     gotos: &[u8],
-    entries: &[u8],
     uses: &[u8],
-    nul: &[u8],
-    fst: &[u8],
+    nullable: &[u8],
+    first: &[u8],
     follow: &[u8],
-    count: usize,
-    rules: usize,
-    lines: usize,
-    codes: usize,
+    totals: Totals,
     p: usize,
     i: usize,
-    grown: &mut [u8],
+    asked: &mut [u8],
 )
-    requires { ⌜ Sourced (now items) (now kernels) (now links) (now entries) (now uses) (now nul) (now fst) count rules lines codes ⌝ }
+    requires { ⌜ Sourced (now items) (now kernels) (now links) (now entries) (now uses) (now nullable) (now first) (totals .items) (totals .rules) (totals .lines) (totals .codes) ⌝ }
     requires { ⌜ Cells (now kinds) (now values) (now gotos) ⌝ }
-    requires { ⌜ (p < 256) × (i ≤ count) × (64 ≤ leftAt (now items) i) × (length (now follow) ≡ 4096) × (lines * 64 ≤ length (now grown)) ⌝ }
-    ensures { λ _. ⌜ Adds (RuleAsks (now (items .entry)) (now (kernels .entry)) (now (kinds .entry)) (now (values .entry)) (now (gotos .entry)) (now (entries .entry)) (now (uses .entry)) (now (nul .entry)) (now (fst .entry)) (now (follow .entry)) rules lines codes p i) (now (grown .entry)) (now (grown .exit)) ⌝ }
+    requires { ⌜ (p < 256) × (i ≤ totals .items) × (64 ≤ leftAt (now items) i) × (length (now follow) ≡ 4096) × (totals .lines * 64 ≤ length (now asked)) ⌝ }
+    ensures { λ _. ⌜ Adds (RuleAsks (now (items .entry)) (now (kernels .entry)) (now (kinds .entry)) (now (values .entry)) (now (gotos .entry)) (now (entries .entry)) (now (uses .entry)) (now (nullable .entry)) (now (first .entry)) (now (follow .entry)) (totals .rules) (totals .lines) (totals .codes) p i) (now (asked .entry)) (now (asked .exit)) ⌝ }
 {
-    let left = items::left_of(items, count, i);
+    let left = items::left_of(items, totals.items, i);
     add_item(
         items,
+        entries,
         kernels,
         links,
         kinds,
         values,
         gotos,
-        entries,
         uses,
-        nul,
-        fst,
+        nullable,
+        first,
         follow,
-        count,
-        rules,
-        lines,
-        codes,
+        totals,
         p,
         i,
         0,
         (left - Symbol::FIRST_NONTERMINAL) * CODES,
-        grown,
+        asked,
     );
 }
 
 // What the rules ask that p's closure adds.
 fn add_rules(
     items: &[u8],
+    entries: &[u8],
     kernels: &[u8],
     links: &[usize],
     kinds: &[u8],
     values: &[u8],
     gotos: &[u8],
-    entries: &[u8],
     uses: &[u8],
-    nul: &[u8],
-    fst: &[u8],
+    nullable: &[u8],
+    first: &[u8],
     present: &[u8],
     follow: &[u8],
-    count: usize,
-    rules: usize,
-    lines: usize,
-    codes: usize,
+    totals: Totals,
     p: usize,
-    grown: &mut [u8],
+    asked: &mut [u8],
 )
-    requires { ⌜ Sourced (now items) (now kernels) (now links) (now entries) (now uses) (now nul) (now fst) count rules lines codes ⌝ }
+    requires { ⌜ Sourced (now items) (now kernels) (now links) (now entries) (now uses) (now nullable) (now first) (totals .items) (totals .rules) (totals .lines) (totals .codes) ⌝ }
     requires { ⌜ Cells (now kinds) (now values) (now gotos) ⌝ }
-    requires { ⌜ (p < 256) × (length (now present) ≡ 64) × (length (now follow) ≡ 4096) × (lines * 64 ≤ length (now grown)) ⌝ }
-    ensures { λ _. ⌜ Adds (RulesAsk (now (items .entry)) (now (kernels .entry)) (now (kinds .entry)) (now (values .entry)) (now (gotos .entry)) (now (entries .entry)) (now (uses .entry)) (now (nul .entry)) (now (fst .entry)) (now (present .entry)) (now (follow .entry)) rules lines codes p) (now (grown .entry)) (now (grown .exit)) ⌝ }
+    requires { ⌜ (p < 256) × (length (now present) ≡ 64) × (length (now follow) ≡ 4096) × (totals .lines * 64 ≤ length (now asked)) ⌝ }
+    ensures { λ _. ⌜ Adds (RulesAsk (now (items .entry)) (now (kernels .entry)) (now (kinds .entry)) (now (values .entry)) (now (gotos .entry)) (now (entries .entry)) (now (uses .entry)) (now (nullable .entry)) (now (first .entry)) (now (present .entry)) (now (follow .entry)) (totals .rules) (totals .lines) (totals .codes) p) (now (asked .entry)) (now (asked .exit)) ⌝ }
 {
     let mut i = 1;
-    while i <= rules {
-        if !moves::is_present(items, present, count, i) {
+    while i <= totals.rules {
+        if !moves::is_present(items, present, totals.items, i) {
             i += 1;
             continue;
         }
         add_rule(
             items,
+            entries,
             kernels,
             links,
             kinds,
             values,
             gotos,
-            entries,
             uses,
-            nul,
-            fst,
+            nullable,
+            first,
             follow,
-            count,
-            rules,
-            lines,
-            codes,
+            totals,
             p,
             i,
-            grown,
+            asked,
         );
         i += 1;
     }
@@ -454,68 +429,59 @@ fn add_rules(
 // Sets the flags of all that the items of p ask.
 pub fn add_inclusions(
     items: &[u8],
+    entries: &[u8],
     kernels: &[u8],
     links: &[usize],
     lookaheads: &[u8],
     kinds: &[u8],
     values: &[u8],
     gotos: &[u8],
-    entries: &[u8],
     uses: &[u8],
-    nul: &[u8],
-    fst: &[u8],
+    nullable: &[u8],
+    first: &[u8],
     present: &[u8],
     follow: &[u8],
-    count: usize,
-    rules: usize,
-    lines: usize,
-    codes: usize,
+    totals: Totals,
     p: usize,
-    grown: &mut [u8],
+    asked: &mut [u8],
 )
-    requires { ⌜ Sourced (now items) (now kernels) (now links) (now entries) (now uses) (now nul) (now fst) count rules lines codes ⌝ }
+    requires { ⌜ Sourced (now items) (now kernels) (now links) (now entries) (now uses) (now nullable) (now first) (totals .items) (totals .rules) (totals .lines) (totals .codes) ⌝ }
     requires { ⌜ Cells (now kinds) (now values) (now gotos) ⌝ }
-    requires { ⌜ (p < 256) × (length (now present) ≡ 64) × (length (now follow) ≡ 4096) × (lines * 64 ≤ length (now lookaheads)) × (lines * 64 ≤ length (now grown)) ⌝ }
-    ensures { λ _. ⌜ Adds (StateAsks (now (items .entry)) (now (kernels .entry)) (now (lookaheads .entry)) (now (kinds .entry)) (now (values .entry)) (now (gotos .entry)) (now (entries .entry)) (now (uses .entry)) (now (nul .entry)) (now (fst .entry)) (now (present .entry)) (now (follow .entry)) rules lines codes p) (now (grown .entry)) (now (grown .exit)) ⌝ }
-    ensures { λ _. ⌜ ((g : Grammar) (t : Table) (strings : ℕ) → Held g t (now (items .entry)) (now (entries .entry)) (now (kernels .entry)) (now (lookaheads .entry)) (now (kinds .entry)) (now (values .entry)) (now (gotos .entry)) rules strings lines → codes ≡ suc (g .terminals) → HoldsClosure g t (FirstBy codes (now (nul .entry)) (now (fst .entry))) p (now (present .entry)) (now (follow .entry)) → HoldsUses (now (uses .entry)) g t → Adds (FlagAsked (Includes g t (FirstBy codes (now (nul .entry)) (now (fst .entry))) p) (now (kernels .entry)) lines codes) (now (grown .entry)) (now (grown .exit))) ⌝ }
+    requires { ⌜ (p < 256) × (length (now present) ≡ 64) × (length (now follow) ≡ 4096) × (totals .lines * 64 ≤ length (now lookaheads)) × (totals .lines * 64 ≤ length (now asked)) ⌝ }
+    ensures { λ _. ⌜ Adds (StateAsks (now (items .entry)) (now (kernels .entry)) (now (lookaheads .entry)) (now (kinds .entry)) (now (values .entry)) (now (gotos .entry)) (now (entries .entry)) (now (uses .entry)) (now (nullable .entry)) (now (first .entry)) (now (present .entry)) (now (follow .entry)) (totals .rules) (totals .lines) (totals .codes) p) (now (asked .entry)) (now (asked .exit)) ⌝ }
+    ensures { λ _. ⌜ ((g : Grammar) (t : Table) (strings : ℕ) → Held g t (now (items .entry)) (now (entries .entry)) (now (kernels .entry)) (now (lookaheads .entry)) (now (kinds .entry)) (now (values .entry)) (now (gotos .entry)) (totals .rules) strings (totals .lines) → totals .codes ≡ suc (g .terminals) → HoldsClosure g t (FirstBy (totals .codes) (now (nullable .entry)) (now (first .entry))) p (now (present .entry)) (now (follow .entry)) → HoldsUses (now (uses .entry)) g t → Adds (FlagAsked (Includes g t (FirstBy (totals .codes) (now (nullable .entry)) (now (first .entry))) p) (now (kernels .entry)) (totals .lines) (totals .codes)) (now (asked .entry)) (now (asked .exit))) ⌝ }
 {
     add_kernel(
         items,
+        entries,
         kernels,
         links,
         lookaheads,
         kinds,
         values,
         gotos,
-        entries,
         uses,
-        nul,
-        fst,
-        count,
-        rules,
-        lines,
-        codes,
+        nullable,
+        first,
+        totals,
         p,
-        grown,
+        asked,
     );
     add_rules(
         items,
+        entries,
         kernels,
         links,
         kinds,
         values,
         gotos,
-        entries,
         uses,
-        nul,
-        fst,
+        nullable,
+        first,
         present,
         follow,
-        count,
-        rules,
-        lines,
-        codes,
+        totals,
         p,
-        grown,
+        asked,
     );
 }

@@ -1,5 +1,5 @@
 -- The pass over the states, and what it finds in the end.
-use Prim.Native.Nat.{ℕ, suc, _+_, _*_, _≤_, _<_}
+use Prim.Native.Nat.{ℕ, suc, _+_, _*_, _-_, _≤_, _<_}
 use native.Mathlib.Omega.{arith}
 use mathlib.Core.Path.{_≡_, sym, subst}
 use mathlib.Core.Bool.{Bool}
@@ -58,19 +58,19 @@ pub two-of : {n : ℕ} → 256 ≤ n → 2 ≤ n
 two-of a = omega (arith, a)
 
 -- fewer items
-pub shaped-less : {m : List ℕ} {rules : ℕ} (strings : ℕ) → Shaped m (rules + strings) → Shaped m rules
-shaped-less strings S = record {
-  room = omega (arith, S .room);
-  lengths = λ i l. S .lengths i (omega (arith, l));
-  lefts = λ i l. S .lefts i (omega (arith, l));
-  symbols = λ i k l h. S .symbols i k (omega (arith, l)) h;
+pub shaped-less : {m : List ℕ} {rules count : ℕ} → rules ≤ count → Shaped m count → Shaped m rules
+shaped-less few S = record {
+  room = omega (arith, few, S .room);
+  lengths = λ i l. S .lengths i (omega (arith, few, l));
+  lefts = λ i l. S .lefts i (omega (arith, few, l));
+  symbols = λ i k l h. S .symbols i k (omega (arith, few, l)) h;
 }
 
 pub holds-of : {g : Grammar} {t : Table} {items entries kernels lookaheads kinds values gotos : List ℕ} {rules strings lines : ℕ}
     → Held g t items entries kernels lookaheads kinds values gotos rules strings lines → Holds items rules g
 holds-of H = record { count = H .rule-count; rule-in = H .holds-items .rule-row }
 
-pub terminals-are : {n m : ℕ} → n + 1 ≡ suc m → m ≡ n
+pub terminals-are : {n m : ℕ} → n ≡ suc m → m ≡ n - 1
 terminals-are e = omega (arith, e)
 
 -- the reply to what the pass found

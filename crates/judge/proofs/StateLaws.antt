@@ -28,26 +28,31 @@ within a b = omega arith
 pub in-room : {q n m : ℕ} → q < n → n ≤ m → q < m
 in-room a b = omega (arith, a, b)
 
-pub few-items : {a b : ℕ} → a ≤ 127 → b ≤ 127 → a + b < 256
-few-items a b = omega (arith, a, b)
+module _ {items entries kernels lookaheads kinds values gotos named : List ℕ} {count rules strings lines : ℕ}
+    (S : Sized items entries kernels lookaheads kinds values gotos named count rules strings lines) where
+  pub few-of : rules ≤ count
+  few-of = omega (arith, S .all-items)
 
-module _ {items entries kernels lookaheads kinds values gotos named links uses nul fst starts through : List ℕ} {rules strings lines codes : ℕ}
-    (S : Sized items entries kernels lookaheads kinds values gotos named rules strings lines) (C : Computed items kernels links uses nul fst starts through rules lines codes) where
-  pub lined-of : Lined items kernels links (rules + strings) lines
+  pub few-items : count < 256
+  few-items = omega (arith, S .all-items, S .few-rules, S .few-strings)
+
+module _ {items entries kernels lookaheads kinds values gotos named links uses nul fst starts through : List ℕ} {count rules strings lines codes : ℕ}
+    (S : Sized items entries kernels lookaheads kinds values gotos named count rules strings lines) (C : Computed items kernels links uses nul fst starts through rules lines codes) where
+  pub lined-of : Lined items kernels links count lines
   lined-of = record { shaped = S .shaped; some-lines = S .some-lines; linked = C .linked }
 
-  pub readable-of : {present : List ℕ} → length present ≡ 64 → Readable items kernels links present (rules + strings) rules lines
-  readable-of e = record { lined = lined-of; few = within rules strings; room = e }
+  pub readable-of : {present : List ℕ} → length present ≡ 64 → Readable items kernels links present count rules lines
+  readable-of e = record { lined = lined-of; few = few-of S; room = e }
 
-  pub ready-of : Ready items nul fst (rules + strings) codes
+  pub ready-of : Ready items nul fst count codes
   ready-of = record { shaped = S .shaped; few-codes = C .few-codes; nul-room = C .nul-room; fst-room = C .fst-room }
 
-  pub sourced-of : Sourced items kernels links entries uses nul fst (rules + strings) rules lines codes
+  pub sourced-of : Sourced items kernels links entries uses nul fst count rules lines codes
   sourced-of = record {
     lined = lined-of;
     ready = ready-of;
     few-rules = S .few-rules;
-    rules-within = within rules strings;
+    rules-within = few-of S;
     entries-room = S .entries-room;
     uses-room = omega (arith, C .uses-room);
   }

@@ -13,9 +13,10 @@ use Rattle.moves.specs.Moves.{Cells}
 use Rattle.conformance.specs.Items.{HoldsNamed}
 
 -- memory that is safe to read
-pub record Sized (items entries kernels lookaheads kinds values gotos named : List ℕ) (rules strings lines : ℕ) : Type 0 where
-  pub shaped : Shaped items (rules + strings)
-  pub some-lines : Lines kernels lines (rules + strings)
+pub record Sized (items entries kernels lookaheads kinds values gotos named : List ℕ) (count rules strings lines : ℕ) : Type 0 where
+  pub all-items : count ≡ rules + strings
+  pub shaped : Shaped items count
+  pub some-lines : Lines kernels lines count
   pub cells-room : Cells kinds values gotos
   pub codes-room : lines * 64 ≤ length lookaheads
   pub entries-room : 256 ≤ length entries

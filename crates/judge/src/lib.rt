@@ -1,5 +1,6 @@
 // The verdict on tables in memory.
 // Inner: for `checker`.
+use memory::Totals;
 use reply::Kind;
 use reply::Reply;
 use symbol::CODES;
@@ -37,43 +38,36 @@ fn judge_state(
     gotos: &[u8],
     named: &[u8],
     uses: &[u8],
-    nul: &[u8],
-    fst: &[u8],
+    nullable: &[u8],
+    first: &[u8],
     starts: &[u8],
     through: &[u8],
-    rules: usize,
-    strings: usize,
-    lines: usize,
-    codes: usize,
+    totals: Totals,
     q: usize,
-    grown: &mut [u8],
+    asked: &mut [u8],
 ) -> State
-    requires { ⌜ Sized (now items) (now entries) (now kernels) (now lookaheads) (now kinds) (now values) (now gotos) (now named) rules strings lines ⌝ }
-    requires { ⌜ Computed (now items) (now kernels) (now links) (now uses) (now nul) (now fst) (now starts) (now through) rules lines codes ⌝ }
-    requires { ⌜ (1 ≤ q) × (q < 256) × (length (now grown) ≡ 65536) ⌝ }
-    ensures { λ s. ⌜ length (now (grown .exit)) ≡ 65536 ⌝ }
-    ensures { λ s. ⌜ ((g : Grammar) (t : Table) (states : ℕ) → Given g t (now (items .entry)) (now (entries .entry)) (now (kernels .entry)) (now (lookaheads .entry)) (now (kinds .entry)) (now (values .entry)) (now (gotos .entry)) (now (named .entry)) rules strings lines states codes → HoldsUses (now (uses .entry)) g t → q ≤ states
-        → StateJudged g t (FirstBy codes (now (nul .entry)) (now (fst .entry))) (now (kernels .entry)) lines codes q (s .items) (s .agree) (s .cells) (now (grown .entry)) (now (grown .exit))) ⌝ }
+    requires { ⌜ Sized (now items) (now entries) (now kernels) (now lookaheads) (now kinds) (now values) (now gotos) (now named) (totals .items) (totals .rules) (totals .entries) (totals .lines) ⌝ }
+    requires { ⌜ Computed (now items) (now kernels) (now links) (now uses) (now nullable) (now first) (now starts) (now through) (totals .rules) (totals .lines) (totals .codes) ⌝ }
+    requires { ⌜ (1 ≤ q) × (q < 256) × (length (now asked) ≡ 65536) ⌝ }
+    ensures { λ s. ⌜ length (now (asked .exit)) ≡ 65536 ⌝ }
+    ensures { λ s. ⌜ ((g : Grammar) (t : Table) (states : ℕ) → Given g t (now (items .entry)) (now (entries .entry)) (now (kernels .entry)) (now (lookaheads .entry)) (now (kinds .entry)) (now (values .entry)) (now (gotos .entry)) (now (named .entry)) (totals .rules) (totals .entries) (totals .lines) states (totals .codes) → HoldsUses (now (uses .entry)) g t → q ≤ states
+        → StateJudged g t (FirstBy (totals .codes) (now (nullable .entry)) (now (first .entry))) (now (kernels .entry)) (totals .lines) (totals .codes) q (s .items) (s .agree) (s .cells) (now (asked .entry)) (now (asked .exit))) ⌝ }
 {
-    let count = rules + strings;
     let mut present = [0u8; CODES];
     let mut follow = [0u8; CODES * CODES];
     let mut symbols = [0u8; SYMBOLS];
-    let mut asked = [0usize; CODES];
+    let mut demands = [0usize; CODES];
     let mut others = [0usize; CODES];
     closure::close_state(
         items,
-        count,
-        rules,
         kernels,
         lookaheads,
-        lines,
-        q,
-        codes,
-        nul,
-        fst,
+        nullable,
+        first,
         starts,
         through,
+        totals,
+        q,
         &mut present,
         &mut follow,
     );
@@ -82,9 +76,9 @@ fn judge_state(
         kernels,
         links,
         &present,
-        count,
-        rules,
-        lines,
+        totals.items,
+        totals.rules,
+        totals.lines,
         q,
         &mut symbols,
     );
@@ -99,32 +93,27 @@ fn judge_state(
         named,
         &present,
         &symbols,
-        rules,
-        strings,
-        lines,
+        totals,
         q,
     );
     let met = targets::is_nothing(fault);
     inclusions::add_inclusions(
         items,
+        entries,
         kernels,
         links,
         lookaheads,
         kinds,
         values,
         gotos,
-        entries,
         uses,
-        nul,
-        fst,
+        nullable,
+        first,
         &present,
         &follow,
-        count,
-        rules,
-        lines,
-        codes,
+        totals,
         q,
-        grown,
+        asked,
     );
     let agree = cells::ask_cells(
         items,
@@ -134,17 +123,17 @@ fn judge_state(
         &present,
         &follow,
         &symbols,
-        nul,
-        fst,
-        count,
-        rules,
-        lines,
-        codes,
+        nullable,
+        first,
+        totals.items,
+        totals.rules,
+        totals.lines,
+        totals.codes,
         q,
-        &mut asked,
+        &mut demands,
         &mut others,
     );
-    let filled = cells::cells_meet(&asked, &symbols, kinds, values, gotos, codes, q);
+    let filled = cells::cells_meet(&demands, &symbols, kinds, values, gotos, totals.codes, q);
     State {
         items: met,
         agree,
@@ -218,29 +207,25 @@ fn judge_states(
     gotos: &[u8],
     named: &[u8],
     uses: &[u8],
-    nul: &[u8],
-    fst: &[u8],
+    nullable: &[u8],
+    first: &[u8],
     starts: &[u8],
     through: &[u8],
-    rules: usize,
-    strings: usize,
-    lines: usize,
-    codes: usize,
-    states: usize,
-    grown: &mut [u8],
+    totals: Totals,
+    asked: &mut [u8],
 ) -> Faults
-    requires { ⌜ Sized (now items) (now entries) (now kernels) (now lookaheads) (now kinds) (now values) (now gotos) (now named) rules strings lines ⌝ }
-    requires { ⌜ Computed (now items) (now kernels) (now links) (now uses) (now nul) (now fst) (now starts) (now through) rules lines codes ⌝ }
-    requires { ⌜ (states ≤ 255) × (now grown ≡ replicate 65536 0) ⌝ }
-    ensures { λ f. ⌜ length (now (grown .exit)) ≡ 65536 ⌝ }
-    ensures { λ f. ⌜ ((g : Grammar) (t : Table) → Given g t (now (items .entry)) (now (entries .entry)) (now (kernels .entry)) (now (lookaheads .entry)) (now (kinds .entry)) (now (values .entry)) (now (gotos .entry)) (now (named .entry)) rules strings lines states codes → HoldsUses (now (uses .entry)) g t
-        → Found g t (FirstBy codes (now (nul .entry)) (now (fst .entry))) (now (kernels .entry)) lines codes (states + 1) (f .items) (f .agree) (f .cells) (now (grown .exit))) ⌝ }
+    requires { ⌜ Sized (now items) (now entries) (now kernels) (now lookaheads) (now kinds) (now values) (now gotos) (now named) (totals .items) (totals .rules) (totals .entries) (totals .lines) ⌝ }
+    requires { ⌜ Computed (now items) (now kernels) (now links) (now uses) (now nullable) (now first) (now starts) (now through) (totals .rules) (totals .lines) (totals .codes) ⌝ }
+    requires { ⌜ (totals .states ≤ 255) × (now asked ≡ replicate 65536 0) ⌝ }
+    ensures { λ f. ⌜ length (now (asked .exit)) ≡ 65536 ⌝ }
+    ensures { λ f. ⌜ ((g : Grammar) (t : Table) → Given g t (now (items .entry)) (now (entries .entry)) (now (kernels .entry)) (now (lookaheads .entry)) (now (kinds .entry)) (now (values .entry)) (now (gotos .entry)) (now (named .entry)) (totals .rules) (totals .entries) (totals .lines) (totals .states) (totals .codes) → HoldsUses (now (uses .entry)) g t
+        → Found g t (FirstBy (totals .codes) (now (nullable .entry)) (now (first .entry))) (now (kernels .entry)) (totals .lines) (totals .codes) (totals .states + 1) (f .items) (f .agree) (f .cells) (now (asked .exit))) ⌝ }
 {
     let mut wrong = 0;
     let mut clash = 0;
     let mut other = 0;
     let mut q = 1;
-    while q <= states {
+    while q <= totals.states {
         let s = judge_state(
             items,
             entries,
@@ -252,16 +237,13 @@ fn judge_states(
             gotos,
             named,
             uses,
-            nul,
-            fst,
+            nullable,
+            first,
             starts,
             through,
-            rules,
-            strings,
-            lines,
-            codes,
+            totals,
             q,
-            grown,
+            asked,
         );
         wrong = note(wrong, s.items, q);
         clash = note(clash, s.agree, q);
@@ -286,38 +268,38 @@ fn judge_entered(
     gotos: &[u8],
     named: &[u8],
     uses: &[u8],
-    terminals: usize,
-    rules: usize,
-    strings: usize,
-    lines: usize,
-    states: usize,
+    totals: Totals,
 ) -> Reply
-    requires { ⌜ Sized (now items) (now entries) (now kernels) (now lookaheads) (now kinds) (now values) (now gotos) (now named) rules strings lines ⌝ }
-    requires { ⌜ (terminals ≤ 63) × (states ≤ 255) × (length (now uses) ≡ 2048) ⌝ }
-    ensures { λ r. ⌜ ((g : Grammar) (t : Table) → Given g t (now (items .entry)) (now (entries .entry)) (now (kernels .entry)) (now (lookaheads .entry)) (now (kinds .entry)) (now (values .entry)) (now (gotos .entry)) (now (named .entry)) rules strings lines states (terminals + 1) → HoldsUses (now (uses .entry)) g t → EntriesMeet g t
+    requires { ⌜ Sized (now items) (now entries) (now kernels) (now lookaheads) (now kinds) (now values) (now gotos) (now named) (totals .items) (totals .rules) (totals .entries) (totals .lines) ⌝ }
+    requires { ⌜ (1 ≤ totals .codes) × (totals .codes ≤ 64) × (totals .states ≤ 255) × (length (now uses) ≡ 2048) ⌝ }
+    ensures { λ r. ⌜ ((g : Grammar) (t : Table) → Given g t (now (items .entry)) (now (entries .entry)) (now (kernels .entry)) (now (lookaheads .entry)) (now (kinds .entry)) (now (values .entry)) (now (gotos .entry)) (now (named .entry)) (totals .rules) (totals .entries) (totals .lines) (totals .states) (totals .codes) → HoldsUses (now (uses .entry)) g t → EntriesMeet g t
         → r ≡ tableVerdict g t) ⌝ }
 {
-    let count = rules + strings;
-    let codes = terminals + 1;
-    let mut nul = [0u8; SYMBOLS];
-    let mut fst = [0u8; SYMBOLS * CODES];
+    let mut nullable = [0u8; SYMBOLS];
+    let mut first = [0u8; SYMBOLS * CODES];
     let mut starts = [0u8; 8192];
     let mut through = [0u8; 128];
     let mut links = [0usize; 1280];
-    let mut grown = [0u8; 65536];
+    let mut asked = [0u8; 65536];
     let mut narrow = [0u8; 256];
-    analysis::find_sets(items, terminals, rules, &mut nul, &mut fst);
+    analysis::find_sets(
+        items,
+        totals.codes - 1,
+        totals.rules,
+        &mut nullable,
+        &mut first,
+    );
     closure::prepare_rules(
         items,
-        count,
-        rules,
-        codes,
-        &nul,
-        &fst,
+        &nullable,
+        &first,
+        totals.items,
+        totals.rules,
+        totals.codes,
         &mut starts,
         &mut through,
     );
-    kernel_lines::link_lines(kernels, lines, count, &mut links);
+    kernel_lines::link_lines(kernels, totals.lines, totals.items, &mut links);
     let found = judge_states(
         items,
         entries,
@@ -329,24 +311,20 @@ fn judge_entered(
         gotos,
         named,
         uses,
-        &nul,
-        &fst,
+        &nullable,
+        &first,
         &starts,
         &through,
-        rules,
-        strings,
-        lines,
-        codes,
-        states,
-        &mut grown,
+        totals,
+        &mut asked,
     );
     lookaheads::mark_narrow(
         kernels,
-        &grown,
+        &asked,
         lookaheads,
-        lines,
-        count,
-        codes,
+        totals.lines,
+        totals.items,
+        totals.codes,
         &mut narrow,
     );
     lookaheads::mark_goal(
@@ -354,13 +332,13 @@ fn judge_entered(
         &links,
         lookaheads,
         entries,
-        lines,
-        count,
-        rules,
-        strings,
+        totals.lines,
+        totals.items,
+        totals.rules,
+        totals.entries,
         &mut narrow,
     );
-    let low = lowest_set(&narrow, states);
+    let low = lowest_set(&narrow, totals.states);
     answer(found.items, low, found.agree, found.cells)
 }
 
@@ -374,20 +352,16 @@ pub fn judge(
     values: &[u8],
     gotos: &[u8],
     named: &[u8],
-    terminals: usize,
+    totals: Totals,
     goal: usize,
-    rules: usize,
-    strings: usize,
-    lines: usize,
-    states: usize,
 ) -> Reply
-    requires { ⌜ Sized (now items) (now entries) (now kernels) (now lookaheads) (now kinds) (now values) (now gotos) (now named) rules strings lines ⌝ }
-    requires { ⌜ (terminals ≤ 63) × (states ≤ 255) ⌝ }
-    ensures { λ r. ⌜ ((g : Grammar) (t : Table) → Given g t (now (items .entry)) (now (entries .entry)) (now (kernels .entry)) (now (lookaheads .entry)) (now (kinds .entry)) (now (values .entry)) (now (gotos .entry)) (now (named .entry)) rules strings lines states (terminals + 1) → g .goal ≡ goal
+    requires { ⌜ Sized (now items) (now entries) (now kernels) (now lookaheads) (now kinds) (now values) (now gotos) (now named) (totals .items) (totals .rules) (totals .entries) (totals .lines) ⌝ }
+    requires { ⌜ (1 ≤ totals .codes) × (totals .codes ≤ 64) × (totals .states ≤ 255) ⌝ }
+    ensures { λ r. ⌜ ((g : Grammar) (t : Table) → Given g t (now (items .entry)) (now (entries .entry)) (now (kernels .entry)) (now (lookaheads .entry)) (now (kinds .entry)) (now (values .entry)) (now (gotos .entry)) (now (named .entry)) (totals .rules) (totals .entries) (totals .lines) (totals .states) (totals .codes) → g .goal ≡ goal
         → r ≡ tableVerdict g t) ⌝ }
 {
     let mut uses = [0u8; 2048];
-    if !entry_list::entries_meet(items, rules, strings, goal, &mut uses) {
+    if !entry_list::entries_meet(items, totals.rules, totals.entries, goal, &mut uses) {
         return reply::refuse(Kind::ItemMismatch, 0);
     }
     judge_entered(
@@ -400,10 +374,6 @@ pub fn judge(
         gotos,
         named,
         &uses,
-        terminals,
-        rules,
-        strings,
-        lines,
-        states,
+        totals,
     )
 }

@@ -1,5 +1,6 @@
 // The builder's lookaheads: the smallest that satisfy the inclusions, by passes over the states.
 // Inner: for `build_memory`.
+use memory::Totals;
 use symbol::CODES;
 use symbol::Symbol;
 ghost use mathlib.Core.Path.{_≡_};
@@ -18,129 +19,113 @@ ghost use Rattle.least_lookaheads.specs.Passes.{StateAdds, StatesAdd, Me
 // Flags what the items of p ask.
 fn ask_state(
     items: &[u8],
+    entries: &[u8],
     kernels: &[u8],
     links: &[usize],
     lookaheads: &[u8],
     kinds: &[u8],
     values: &[u8],
     gotos: &[u8],
-    entries: &[u8],
     uses: &[u8],
-    nul: &[u8],
-    fst: &[u8],
+    nullable: &[u8],
+    first: &[u8],
     starts: &[u8],
     through: &[u8],
-    count: usize,
-    rules: usize,
-    lines: usize,
-    codes: usize,
+    totals: Totals,
     p: usize,
-    grown: &mut [u8],
+    asked: &mut [u8],
 )
-    requires { ⌜ Sourced (now items) (now kernels) (now links) (now entries) (now uses) (now nul) (now fst) count rules lines codes ⌝ }
+    requires { ⌜ Sourced (now items) (now kernels) (now links) (now entries) (now uses) (now nullable) (now first) (totals .items) (totals .rules) (totals .lines) (totals .codes) ⌝ }
     requires { ⌜ Cells (now kinds) (now values) (now gotos) ⌝ }
     requires { ⌜ (length (now starts) ≡ 8192) × (length (now through) ≡ 128) ⌝ }
-    requires { ⌜ Prepared (now items) (rules + 1) codes (now nul) (now fst) (now starts) (now through) ⌝ }
-    requires { ⌜ (p < 256) × (lines * 64 ≤ length (now lookaheads)) × (lines * 64 ≤ length (now grown)) ⌝ }
-    ensures { λ _. ⌜ StateAdds (now (items .entry)) (now (kernels .entry)) (now (lookaheads .entry)) (now (kinds .entry)) (now (values .entry)) (now (gotos .entry)) (now (entries .entry)) (now (uses .entry)) (now (nul .entry)) (now (fst .entry)) rules lines codes p (now (grown .entry)) (now (grown .exit)) ⌝ }
+    requires { ⌜ Prepared (now items) (totals .rules + 1) (totals .codes) (now nullable) (now first) (now starts) (now through) ⌝ }
+    requires { ⌜ (p < 256) × (totals .lines * 64 ≤ length (now lookaheads)) × (totals .lines * 64 ≤ length (now asked)) ⌝ }
+    ensures { λ _. ⌜ StateAdds (now (items .entry)) (now (kernels .entry)) (now (lookaheads .entry)) (now (kinds .entry)) (now (values .entry)) (now (gotos .entry)) (now (entries .entry)) (now (uses .entry)) (now (nullable .entry)) (now (first .entry)) (totals .rules) (totals .lines) (totals .codes) p (now (asked .entry)) (now (asked .exit)) ⌝ }
 {
     let mut present = [0u8; CODES];
     let mut follow = [0u8; CODES * CODES];
     closure::close_state(
         items,
-        count,
-        rules,
         kernels,
         lookaheads,
-        lines,
-        p,
-        codes,
-        nul,
-        fst,
+        nullable,
+        first,
         starts,
         through,
+        totals,
+        p,
         &mut present,
         &mut follow,
     );
     inclusions::add_inclusions(
         items,
+        entries,
         kernels,
         links,
         lookaheads,
         kinds,
         values,
         gotos,
-        entries,
         uses,
-        nul,
-        fst,
+        nullable,
+        first,
         &present,
         &follow,
-        count,
-        rules,
-        lines,
-        codes,
+        totals,
         p,
-        grown,
+        asked,
     );
 }
 
 // Flags what the items of the states ask that are flagged in `changed`.
 fn ask_states(
     items: &[u8],
+    entries: &[u8],
     kernels: &[u8],
     links: &[usize],
     lookaheads: &[u8],
     kinds: &[u8],
     values: &[u8],
     gotos: &[u8],
-    entries: &[u8],
     uses: &[u8],
-    nul: &[u8],
-    fst: &[u8],
+    nullable: &[u8],
+    first: &[u8],
     starts: &[u8],
     through: &[u8],
     changed: &[u8],
-    count: usize,
-    rules: usize,
-    lines: usize,
-    codes: usize,
-    all: usize,
-    grown: &mut [u8],
+    totals: Totals,
+    asked: &mut [u8],
 )
-    requires { ⌜ Sourced (now items) (now kernels) (now links) (now entries) (now uses) (now nul) (now fst) count rules lines codes ⌝ }
+    requires { ⌜ Sourced (now items) (now kernels) (now links) (now entries) (now uses) (now nullable) (now first) (totals .items) (totals .rules) (totals .lines) (totals .codes) ⌝ }
     requires { ⌜ Cells (now kinds) (now values) (now gotos) ⌝ }
     requires { ⌜ (length (now starts) ≡ 8192) × (length (now through) ≡ 128) ⌝ }
-    requires { ⌜ Prepared (now items) (rules + 1) codes (now nul) (now fst) (now starts) (now through) ⌝ }
-    requires { ⌜ (all ≤ 255) × (length (now changed) ≡ 256) × (lines * 64 ≤ length (now lookaheads)) × (lines * 64 ≤ length (now grown)) ⌝ }
-    ensures { λ _. ⌜ StatesAdd (now (items .entry)) (now (kernels .entry)) (now (lookaheads .entry)) (now (kinds .entry)) (now (values .entry)) (now (gotos .entry)) (now (entries .entry)) (now (uses .entry)) (now (nul .entry)) (now (fst .entry)) rules lines codes (now (changed .entry)) all (all + 1) (now (grown .entry)) (now (grown .exit)) ⌝ }
+    requires { ⌜ Prepared (now items) (totals .rules + 1) (totals .codes) (now nullable) (now first) (now starts) (now through) ⌝ }
+    requires { ⌜ (totals .states ≤ 255) × (length (now changed) ≡ 256) × (totals .lines * 64 ≤ length (now lookaheads)) × (totals .lines * 64 ≤ length (now asked)) ⌝ }
+    ensures { λ _. ⌜ StatesAdd (now (items .entry)) (now (kernels .entry)) (now (lookaheads .entry)) (now (kinds .entry)) (now (values .entry)) (now (gotos .entry)) (now (entries .entry)) (now (uses .entry)) (now (nullable .entry)) (now (first .entry)) (totals .rules) (totals .lines) (totals .codes) (now (changed .entry)) (totals .states) (totals .states + 1) (now (asked .entry)) (now (asked .exit)) ⌝ }
 {
     let mut p = 1;
-    while p <= all {
+    while p <= totals.states {
         if changed[p] == 0 {
             p += 1;
             continue;
         }
         ask_state(
             items,
+            entries,
             kernels,
             links,
             lookaheads,
             kinds,
             values,
             gotos,
-            entries,
             uses,
-            nul,
-            fst,
+            nullable,
+            first,
             starts,
             through,
-            count,
-            rules,
-            lines,
-            codes,
+            totals,
             p,
-            grown,
+            asked,
         );
         p += 1;
     }
@@ -183,88 +168,82 @@ fn add_flags(
 // One pass; the number of lookaheads that it adds.
 fn make_pass(
     items: &[u8],
+    entries: &[u8],
     kernels: &[u8],
     links: &[usize],
     kinds: &[u8],
     values: &[u8],
     gotos: &[u8],
-    entries: &[u8],
     uses: &[u8],
-    nul: &[u8],
-    fst: &[u8],
+    nullable: &[u8],
+    first: &[u8],
     starts: &[u8],
     through: &[u8],
-    count: usize,
-    rules: usize,
-    lines: usize,
-    codes: usize,
-    all: usize,
+    totals: Totals,
     changed: &mut [u8],
-    grown: &mut [u8],
+    asked: &mut [u8],
     lookaheads: &mut [u8],
 ) -> usize
-    requires { ⌜ Sourced (now items) (now kernels) (now links) (now entries) (now uses) (now nul) (now fst) count rules lines codes ⌝ }
+    requires { ⌜ Sourced (now items) (now kernels) (now links) (now entries) (now uses) (now nullable) (now first) (totals .items) (totals .rules) (totals .lines) (totals .codes) ⌝ }
     requires { ⌜ Cells (now kinds) (now values) (now gotos) ⌝ }
     requires { ⌜ (length (now starts) ≡ 8192) × (length (now through) ≡ 128) ⌝ }
-    requires { ⌜ Prepared (now items) (rules + 1) codes (now nul) (now fst) (now starts) (now through) ⌝ }
-    requires { ⌜ (all ≤ 255) × (length (now changed) ≡ 256) × (lines * 64 ≤ length (now grown)) × (lines * 64 ≤ length (now lookaheads)) ⌝ }
-    ensures { λ r. ⌜ PassMade (now (items .entry)) (now (kernels .entry)) (now (kinds .entry)) (now (values .entry)) (now (gotos .entry)) (now (entries .entry)) (now (uses .entry)) (now (nul .entry)) (now (fst .entry)) rules lines codes all (now (changed .entry)) (now (changed .exit)) (now (grown .entry)) (now (grown .exit)) (now (lookaheads .entry)) (now (lookaheads .exit)) r ⌝ }
+    requires { ⌜ Prepared (now items) (totals .rules + 1) (totals .codes) (now nullable) (now first) (now starts) (now through) ⌝ }
+    requires { ⌜ (totals .states ≤ 255) × (length (now changed) ≡ 256) × (totals .lines * 64 ≤ length (now asked)) × (totals .lines * 64 ≤ length (now lookaheads)) ⌝ }
+    ensures { λ r. ⌜ PassMade (now (items .entry)) (now (kernels .entry)) (now (kinds .entry)) (now (values .entry)) (now (gotos .entry)) (now (entries .entry)) (now (uses .entry)) (now (nullable .entry)) (now (first .entry)) (totals .rules) (totals .lines) (totals .codes) (totals .states) (now (changed .entry)) (now (changed .exit)) (now (asked .entry)) (now (asked .exit)) (now (lookaheads .entry)) (now (lookaheads .exit)) r ⌝ }
 {
     ask_states(
         items,
+        entries,
         kernels,
         links,
         lookaheads,
         kinds,
         values,
         gotos,
-        entries,
         uses,
-        nul,
-        fst,
+        nullable,
+        first,
         starts,
         through,
         changed,
-        count,
-        rules,
-        lines,
-        codes,
-        all,
-        grown,
+        totals,
+        asked,
     );
     reply::clear(changed);
-    add_flags(kernels, grown, lines, count, lookaheads, changed)
+    add_flags(
+        kernels,
+        asked,
+        totals.lines,
+        totals.items,
+        lookaheads,
+        changed,
+    )
 }
 
 // The lookaheads of each kernel line.
 pub fn find_lookaheads(
     items: &[u8],
+    entries: &[u8],
     kernels: &[u8],
     links: &[usize],
     kinds: &[u8],
     values: &[u8],
     gotos: &[u8],
-    entries: &[u8],
     uses: &[u8],
-    nul: &[u8],
-    fst: &[u8],
+    nullable: &[u8],
+    first: &[u8],
     starts: &[u8],
     through: &[u8],
-    rules: usize,
-    strings: usize,
-    lines: usize,
-    all: usize,
-    codes: usize,
+    totals: Totals,
     lookaheads: &mut [u8],
 )
-    requires { ⌜ Sourced (now items) (now kernels) (now links) (now entries) (now uses) (now nul) (now fst) (rules + strings) rules lines codes ⌝ }
+    requires { ⌜ Sourced (now items) (now kernels) (now links) (now entries) (now uses) (now nullable) (now first) (totals .items) (totals .rules) (totals .lines) (totals .codes) ⌝ }
     requires { ⌜ Cells (now kinds) (now values) (now gotos) ⌝ }
     requires { ⌜ (length (now starts) ≡ 8192) × (length (now through) ≡ 128) ⌝ }
-    requires { ⌜ Prepared (now items) (rules + 1) codes (now nul) (now fst) (now starts) (now through) ⌝ }
-    requires { ⌜ (all ≤ 255) × (strings ≤ 127) × (lines * 64 ≤ length (now lookaheads)) ⌝ }
-    ensures { λ _. ⌜ ((g : Grammar) → StatesHeld g (now (items .entry)) (now (entries .entry)) (now (uses .entry)) (now (kernels .entry)) (now (kinds .entry)) (now (values .entry)) (now (gotos .entry)) rules strings lines all codes → HoldsLookaheads (Lookahead g (FirstBy codes (now (nul .entry)) (now (fst .entry)))) (now (kernels .entry)) (now (lookaheads .exit)) lines) ⌝ }
+    requires { ⌜ Prepared (now items) (totals .rules + 1) (totals .codes) (now nullable) (now first) (now starts) (now through) ⌝ }
+    requires { ⌜ (totals .states ≤ 255) × (totals .lines * 64 ≤ length (now lookaheads)) ⌝ }
+    ensures { λ _. ⌜ ((g : Grammar) → StatesHeld g (now (items .entry)) (now (entries .entry)) (now (uses .entry)) (now (kernels .entry)) (now (kinds .entry)) (now (values .entry)) (now (gotos .entry)) (totals .rules) (totals .entries) (totals .lines) (totals .states) (totals .codes) → HoldsLookaheads (Lookahead g (FirstBy (totals .codes) (now (nullable .entry)) (now (first .entry)))) (now (kernels .entry)) (now (lookaheads .exit)) (totals .lines)) ⌝ }
 {
-    let count = rules + strings;
     reply::clear(lookaheads);
     let mut row = [0u8; CODES];
     row[Symbol::END] = 1;
@@ -272,38 +251,34 @@ pub fn find_lookaheads(
         kernels,
         links,
         &row,
-        lines,
-        count,
+        totals.lines,
+        totals.items,
         1,
         1,
-        rules + 1,
+        totals.rules + 1,
         0,
         0,
         lookaheads,
     );
     let mut changed = [1u8; 256];
-    let mut grown = [0u8; 65536];
+    let mut asked = [0u8; 65536];
     'passes: loop {
         let added = make_pass(
             items,
+            entries,
             kernels,
             links,
             kinds,
             values,
             gotos,
-            entries,
             uses,
-            nul,
-            fst,
+            nullable,
+            first,
             starts,
             through,
-            count,
-            rules,
-            lines,
-            codes,
-            all,
+            totals,
             &mut changed,
-            &mut grown,
+            &mut asked,
             lookaheads,
         );
         if added == 0 {

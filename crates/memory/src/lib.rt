@@ -1,4 +1,11 @@
-// Tables in memory, what their slices hold: theory only, in specs/.
+// Tables in memory: how many there are of each thing; what the slices hold stands in specs/.
 
-// Where the definitions stand; the crate has no code of its own.
-pub fn theory() {}
+// The numbers of items, which are the rules and the entries, of kernel lines, of codes and of states.
+pub struct Totals {
+    pub items: usize,
+    pub rules: usize,
+    pub entries: usize,
+    pub lines: usize,
+    pub codes: usize,
+    pub states: usize,
+}

@@ -1,6 +1,7 @@
 // Which lookahead a kernel line of a state lacks.
 // Inner: for `explanation`.
 use fixpoint::Found;
+use memory::Totals;
 use symbol::CODES;
 ghost use mathlib.Core.Path.{_≡_};
 ghost use mathlib.Core.List.{List};
@@ -85,62 +86,52 @@ fn find_from(
     gotos: &[u8],
     named: &[u8],
     uses: &[u8],
-    nul: &[u8],
-    fst: &[u8],
+    nullable: &[u8],
+    first: &[u8],
     starts: &[u8],
     through: &[u8],
-    rules: usize,
-    strings: usize,
-    lines: usize,
-    codes: usize,
+    totals: Totals,
     p: usize,
     q: usize,
 ) -> Lack
-    requires { ⌜ Sized (now items) (now entries) (now kernels) (now lookaheads) (now kinds) (now values) (now gotos) (now named) rules strings lines ⌝ }
-    requires { ⌜ Computed (now items) (now kernels) (now links) (now uses) (now nul) (now fst) (now starts) (now through) rules lines codes ⌝ }
+    requires { ⌜ Sized (now items) (now entries) (now kernels) (now lookaheads) (now kinds) (now values) (now gotos) (now named) (totals .items) (totals .rules) (totals .entries) (totals .lines) ⌝ }
+    requires { ⌜ Computed (now items) (now kernels) (now links) (now uses) (now nullable) (now first) (now starts) (now through) (totals .rules) (totals .lines) (totals .codes) ⌝ }
     requires { ⌜ (1 ≤ p) × (p < 256) × (q < 256) ⌝ }
-    ensures { λ r. ⌜ LackAt (now (kernels .entry)) (now (lookaheads .entry)) lines codes q r ⌝ }
-    ensures { λ r. ⌜ ((g : Grammar) (t : Table) (states : ℕ) → Given g t (now (items .entry)) (now (entries .entry)) (now (kernels .entry)) (now (lookaheads .entry)) (now (kinds .entry)) (now (values .entry)) (now (gotos .entry)) (now (named .entry)) rules strings lines states codes
-        → HoldsUses (now (uses .entry)) g t → LackIs g t (FirstBy codes (now (nul .entry)) (now (fst .entry))) (LookaheadsFrom g t (FirstBy codes (now (nul .entry)) (now (fst .entry))) p q) q r) ⌝ }
+    ensures { λ r. ⌜ LackAt (now (kernels .entry)) (now (lookaheads .entry)) (totals .lines) (totals .codes) q r ⌝ }
+    ensures { λ r. ⌜ ((g : Grammar) (t : Table) (states : ℕ) → Given g t (now (items .entry)) (now (entries .entry)) (now (kernels .entry)) (now (lookaheads .entry)) (now (kinds .entry)) (now (values .entry)) (now (gotos .entry)) (now (named .entry)) (totals .rules) (totals .entries) (totals .lines) states (totals .codes)
+        → HoldsUses (now (uses .entry)) g t → LackIs g t (FirstBy (totals .codes) (now (nullable .entry)) (now (first .entry))) (LookaheadsFrom g t (FirstBy (totals .codes) (now (nullable .entry)) (now (first .entry))) p q) q r) ⌝ }
 {
-    let count = rules + strings;
     let mut present = [0u8; CODES];
     let mut follow = [0u8; 4096];
     let mut asked = [0u8; 65536];
     closure::close_state(
         items,
-        count,
-        rules,
         kernels,
         lookaheads,
-        lines,
-        p,
-        codes,
-        nul,
-        fst,
+        nullable,
+        first,
         starts,
         through,
+        totals,
+        p,
         &mut present,
         &mut follow,
     );
     inclusions::add_inclusions(
         items,
+        entries,
         kernels,
         links,
         lookaheads,
         kinds,
         values,
         gotos,
-        entries,
         uses,
-        nul,
-        fst,
+        nullable,
+        first,
         &present,
         &follow,
-        count,
-        rules,
-        lines,
-        codes,
+        totals,
         p,
         &mut asked,
     );
@@ -149,9 +140,9 @@ fn find_from(
         links,
         lookaheads,
         &asked,
-        lines,
-        count,
-        codes,
+        totals.lines,
+        totals.items,
+        totals.codes,
         q,
         p,
     )
@@ -192,39 +183,35 @@ pub fn find_lack(
     gotos: &[u8],
     named: &[u8],
     uses: &[u8],
-    nul: &[u8],
-    fst: &[u8],
+    nullable: &[u8],
+    first: &[u8],
     starts: &[u8],
     through: &[u8],
-    rules: usize,
-    strings: usize,
-    lines: usize,
-    codes: usize,
-    states: usize,
+    totals: Totals,
     q: usize,
 ) -> Lack
-    requires { ⌜ Sized (now items) (now entries) (now kernels) (now lookaheads) (now kinds) (now values) (now gotos) (now named) rules strings lines ⌝ }
-    requires { ⌜ Computed (now items) (now kernels) (now links) (now uses) (now nul) (now fst) (now starts) (now through) rules lines codes ⌝ }
-    requires { ⌜ (1 ≤ codes) × (states ≤ 255) × (q < 256) ⌝ }
-    ensures { λ r. ⌜ LackAt (now (kernels .entry)) (now (lookaheads .entry)) lines codes q r ⌝ }
-    ensures { λ r. ⌜ ((g : Grammar) (t : Table) → Given g t (now (items .entry)) (now (entries .entry)) (now (kernels .entry)) (now (lookaheads .entry)) (now (kinds .entry)) (now (values .entry)) (now (gotos .entry)) (now (named .entry)) rules strings lines states codes
-        → HoldsUses (now (uses .entry)) g t → LackIs g t (FirstBy codes (now (nul .entry)) (now (fst .entry))) (LookaheadsMeet g t (FirstBy codes (now (nul .entry)) (now (fst .entry))) q) q r) ⌝ }
+    requires { ⌜ Sized (now items) (now entries) (now kernels) (now lookaheads) (now kinds) (now values) (now gotos) (now named) (totals .items) (totals .rules) (totals .entries) (totals .lines) ⌝ }
+    requires { ⌜ Computed (now items) (now kernels) (now links) (now uses) (now nullable) (now first) (now starts) (now through) (totals .rules) (totals .lines) (totals .codes) ⌝ }
+    requires { ⌜ (1 ≤ totals .codes) × (totals .states ≤ 255) × (q < 256) ⌝ }
+    ensures { λ r. ⌜ LackAt (now (kernels .entry)) (now (lookaheads .entry)) (totals .lines) (totals .codes) q r ⌝ }
+    ensures { λ r. ⌜ ((g : Grammar) (t : Table) → Given g t (now (items .entry)) (now (entries .entry)) (now (kernels .entry)) (now (lookaheads .entry)) (now (kinds .entry)) (now (values .entry)) (now (gotos .entry)) (now (named .entry)) (totals .rules) (totals .entries) (totals .lines) (totals .states) (totals .codes)
+        → HoldsUses (now (uses .entry)) g t → LackIs g t (FirstBy (totals .codes) (now (nullable .entry)) (now (first .entry))) (LookaheadsMeet g t (FirstBy (totals .codes) (now (nullable .entry)) (now (first .entry))) q) q r) ⌝ }
 {
     let goal = find_goal(
         entries,
         kernels,
         links,
         lookaheads,
-        rules,
-        lines,
-        rules + strings,
+        totals.rules,
+        totals.lines,
+        totals.items,
         q,
     );
     let Lack::Nothing = goal else {
         return goal;
     };
     let mut p = 1;
-    while p <= states {
+    while p <= totals.states {
         let lack = find_from(
             items,
             entries,
@@ -236,14 +223,11 @@ pub fn find_lack(
             gotos,
             named,
             uses,
-            nul,
-            fst,
+            nullable,
+            first,
             starts,
             through,
-            rules,
-            strings,
-            lines,
-            codes,
+            totals,
             p,
             q,
         );

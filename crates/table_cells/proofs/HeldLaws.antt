@@ -101,10 +101,10 @@ pub in-memory-of : {g : Grammar} {t : Table} {m entries kernels lookaheads kinds
     → Held g t m entries kernels lookaheads kinds values gotos rules strings lines → codes ≡ suc (g .terminals) → InMemory m kernels lookaheads rules lines codes g t
 in-memory-of H e = in-memory (H .formed) (H .fits) (H .holds-items) (H .holds-kernels) (H .rule-count) (H .line-count) (omega (arith, e))
 
-module _ {m kernels links lookaheads nul fst starts through : List ℕ} {rules strings lines codes : ℕ}
-    (Z : Sized m kernels links lookaheads nul fst starts through rules strings lines codes) where
-  pub readable-of : {present : List ℕ} → length present ≡ 64 → Readable m kernels links present (rules + strings) rules lines
-  readable-of e = record { lined = Z .lined; few = omega arith; room = e }
+module _ {m kernels links lookaheads nul fst starts through : List ℕ} {count rules strings lines codes : ℕ}
+    (Z : Sized m kernels links lookaheads nul fst starts through count rules strings lines codes) where
+  pub readable-of : {present : List ℕ} → length present ≡ 64 → Readable m kernels links present count rules lines
+  readable-of e = record { lined = Z .lined; few = omega (arith, Z .all-items); room = e }
 
-  pub ready-of : Ready m nul fst (rules + strings) codes
+  pub ready-of : Ready m nul fst count codes
   ready-of = record { shaped = Z .lined .shaped; few-codes = Z .few-codes; nul-room = Z .nul-room; fst-room = Z .fst-room }

@@ -98,8 +98,9 @@ module _ (g : Grammar) where
   Filled kinds values gotos (suc q) = (suc q ≤ length (states g)) × (Agree (suc q) → ⊥) × ((k : ℕ) → k < suc q → Agree k)
 
 -- memory that is safe to read and to fill
-pub record Sized (m kernels links lookaheads nul fst starts through : List ℕ) (rules strings lines codes : ℕ) : Type 0 where
-  pub lined : Lined m kernels links (rules + strings) lines
+pub record Sized (m kernels links lookaheads nul fst starts through : List ℕ) (count rules strings lines codes : ℕ) : Type 0 where
+  pub all-items : count ≡ rules + strings
+  pub lined : Lined m kernels links count lines
   pub codes-room : lines * 64 ≤ length lookaheads
   pub nul-room : length nul ≡ 128
   pub fst-room : length fst ≡ 8192

@@ -3,6 +3,7 @@
 use cells::ANNOUNCE;
 use cells::POP;
 use cells::VALUES;
+use memory::Totals;
 use symbol::CODES;
 use symbol::SYMBOLS;
 ghost use mathlib.Core.Path.{_≡_};
@@ -53,41 +54,34 @@ fn ask_state(
     kernels: &[u8],
     links: &[usize],
     lookaheads: &[u8],
-    nul: &[u8],
-    fst: &[u8],
+    nullable: &[u8],
+    first: &[u8],
     starts: &[u8],
     through: &[u8],
-    rules: usize,
-    strings: usize,
-    lines: usize,
-    codes: usize,
+    totals: Totals,
     q: usize,
     asked: &mut [usize],
 ) -> bool
-    requires { ⌜ Sized (now items) (now kernels) (now links) (now lookaheads) (now nul) (now fst) (now starts) (now through) rules strings lines codes ⌝ }
+    requires { ⌜ Sized (now items) (now kernels) (now links) (now lookaheads) (now nullable) (now first) (now starts) (now through) (totals .items) (totals .rules) (totals .entries) (totals .lines) (totals .codes) ⌝ }
     requires { ⌜ (q < 256) × (now asked ≡ replicate 64 0) ⌝ }
     ensures { λ b. ⌜ length (now (asked .exit)) ≡ 64 ⌝ }
-    ensures { λ b. ⌜ ((g : Grammar) (t : Table) (entries kinds values gotos : List ℕ) → Held g t (now (items .entry)) entries (now (kernels .entry)) (now (lookaheads .entry)) kinds values gotos rules strings lines → codes ≡ suc (g .terminals)
-        → Decides (CellsAgree g t (FirstBy codes (now (nul .entry)) (now (fst .entry))) q) b × (b ≡ true → HoldsAsked g t (FirstBy codes (now (nul .entry)) (now (fst .entry))) q (now (asked .exit)))) ⌝ }
+    ensures { λ b. ⌜ ((g : Grammar) (t : Table) (entries kinds values gotos : List ℕ) → Held g t (now (items .entry)) entries (now (kernels .entry)) (now (lookaheads .entry)) kinds values gotos (totals .rules) (totals .entries) (totals .lines) → totals .codes ≡ suc (g .terminals)
+        → Decides (CellsAgree g t (FirstBy (totals .codes) (now (nullable .entry)) (now (first .entry))) q) b × (b ≡ true → HoldsAsked g t (FirstBy (totals .codes) (now (nullable .entry)) (now (first .entry))) q (now (asked .exit)))) ⌝ }
 {
-    let count = rules + strings;
     let mut present = [0u8; CODES];
     let mut follow = [0u8; CODES * CODES];
     let mut symbols = [0u8; SYMBOLS];
     let mut others = [0usize; CODES];
     closure::close_state(
         items,
-        count,
-        rules,
         kernels,
         lookaheads,
-        lines,
-        q,
-        codes,
-        nul,
-        fst,
+        nullable,
+        first,
         starts,
         through,
+        totals,
+        q,
         &mut present,
         &mut follow,
     );
@@ -96,9 +90,9 @@ fn ask_state(
         kernels,
         links,
         &present,
-        count,
-        rules,
-        lines,
+        totals.items,
+        totals.rules,
+        totals.lines,
         q,
         &mut symbols,
     );
@@ -110,12 +104,12 @@ fn ask_state(
         &present,
         &follow,
         &symbols,
-        nul,
-        fst,
-        count,
-        rules,
-        lines,
-        codes,
+        nullable,
+        first,
+        totals.items,
+        totals.rules,
+        totals.lines,
+        totals.codes,
         q,
         asked,
         &mut others,
@@ -128,22 +122,19 @@ fn settle_state(
     kernels: &[u8],
     links: &[usize],
     lookaheads: &[u8],
-    nul: &[u8],
-    fst: &[u8],
+    nullable: &[u8],
+    first: &[u8],
     starts: &[u8],
     through: &[u8],
-    rules: usize,
-    strings: usize,
-    lines: usize,
-    codes: usize,
+    totals: Totals,
     q: usize,
     kinds: &mut [u8],
     values: &mut [u8],
 ) -> bool
-    requires { ⌜ Sized (now items) (now kernels) (now links) (now lookaheads) (now nul) (now fst) (now starts) (now through) rules strings lines codes ⌝ }
+    requires { ⌜ Sized (now items) (now kernels) (now links) (now lookaheads) (now nullable) (now first) (now starts) (now through) (totals .items) (totals .rules) (totals .entries) (totals .lines) (totals .codes) ⌝ }
     requires { ⌜ (q < 256) × (16384 ≤ length (now kinds)) × (16384 ≤ length (now values)) ⌝ }
     ensures { λ b. ⌜ (length (now (kinds .exit)) ≡ length (now (kinds .entry))) × (length (now (values .exit)) ≡ length (now (values .entry))) ⌝ }
-    ensures { λ b. ⌜ ((g : Grammar) (entries : List ℕ) (all : ℕ) → HoldsLines g (now (items .entry)) entries (now (kernels .entry)) (now (lookaheads .entry)) (now (nul .entry)) (now (fst .entry)) rules strings lines all codes
+    ensures { λ b. ⌜ ((g : Grammar) (entries : List ℕ) (all : ℕ) → HoldsLines g (now (items .entry)) entries (now (kernels .entry)) (now (lookaheads .entry)) (now (nullable .entry)) (now (first .entry)) (totals .rules) (totals .entries) (totals .lines) all (totals .codes)
         → Decides (Agree g q) b × (b ≡ true → StateFilled g q (now (kinds .entry)) (now (values .entry)) (now (kinds .exit)) (now (values .exit)))) ⌝ }
 {
     let mut asked = [0usize; CODES];
@@ -152,14 +143,11 @@ fn settle_state(
         kernels,
         links,
         lookaheads,
-        nul,
-        fst,
+        nullable,
+        first,
         starts,
         through,
-        rules,
-        strings,
-        lines,
-        codes,
+        totals,
         q,
         &mut asked,
     ) {
@@ -176,39 +164,32 @@ pub fn fill_cells(
     kernels: &[u8],
     links: &[usize],
     lookaheads: &[u8],
-    nul: &[u8],
-    fst: &[u8],
+    nullable: &[u8],
+    first: &[u8],
     starts: &[u8],
     through: &[u8],
-    rules: usize,
-    strings: usize,
-    lines: usize,
-    all: usize,
-    codes: usize,
+    totals: Totals,
     kinds: &mut [u8],
     values: &mut [u8],
 ) -> usize
-    requires { ⌜ Sized (now items) (now kernels) (now links) (now lookaheads) (now nul) (now fst) (now starts) (now through) rules strings lines codes ⌝ }
-    requires { ⌜ (all ≤ 255) × (16384 ≤ length (now kinds)) × (16384 ≤ length (now values)) ⌝ }
+    requires { ⌜ Sized (now items) (now kernels) (now links) (now lookaheads) (now nullable) (now first) (now starts) (now through) (totals .items) (totals .rules) (totals .entries) (totals .lines) (totals .codes) ⌝ }
+    requires { ⌜ (totals .states ≤ 255) × (16384 ≤ length (now kinds)) × (16384 ≤ length (now values)) ⌝ }
     ensures { λ r. ⌜ (length (now (kinds .exit)) ≡ length (now (kinds .entry))) × (length (now (values .exit)) ≡ length (now (values .entry))) ⌝ }
-    ensures { λ r. ⌜ ((g : Grammar) (entries gotos : List ℕ) → HoldsLines g (now (items .entry)) entries (now (kernels .entry)) (now (lookaheads .entry)) (now (nul .entry)) (now (fst .entry)) rules strings lines all codes → HoldsMoves g (now (kinds .entry)) (now (values .entry)) gotos
+    ensures { λ r. ⌜ ((g : Grammar) (entries gotos : List ℕ) → HoldsLines g (now (items .entry)) entries (now (kernels .entry)) (now (lookaheads .entry)) (now (nullable .entry)) (now (first .entry)) (totals .rules) (totals .entries) (totals .lines) (totals .states) (totals .codes) → HoldsMoves g (now (kinds .entry)) (now (values .entry)) gotos
         → Filled g (now (kinds .exit)) (now (values .exit)) gotos r) ⌝ }
 {
     let mut q = 1;
-    while q <= all {
+    while q <= totals.states {
         if !settle_state(
             items,
             kernels,
             links,
             lookaheads,
-            nul,
-            fst,
+            nullable,
+            first,
             starts,
             through,
-            rules,
-            strings,
-            lines,
-            codes,
+            totals,
             q,
             kinds,
             values,

@@ -51,8 +51,10 @@ module _ {g : Grammar} {t : Table} {b a : Slices} (h : Holds (whole g t) b a) wh
     holds-named = entries.holds-named g t F (length (b .named)) (rooms .named-room) (h .named-are)
 
     pub sized : 1 ≤ length (t .entries)
-        → Sized (a .items) (a .states) (a .kernels) (a .lookaheads) (a .kinds) (a .values) (a .gotos) (a .named) (length (g .rules)) (length (t .entries)) (length (t .kernels))
+        → Sized (a .items) (a .states) (a .kernels) (a .lookaheads) (a .kinds) (a .values) (a .gotos) (a .named)
+        (length (g .rules) + length (t .entries)) (length (g .rules)) (length (t .entries)) (length (t .kernels))
     sized some = record {
+      all-items = refl;
       shaped =
           subst (λ (m : List ℕ). Shaped m (length (g .rules) + length (t .entries))) (sym (h .items-are))
           (items.items-shaped g t W F (length (b .items)) (rooms .items-room));

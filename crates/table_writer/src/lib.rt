@@ -2,6 +2,7 @@
 // Inner: for `builder`.
 use symbol::CODES;
 use symbol::Symbol;
+use table::Counts;
 ghost use mathlib.Core.Path.{_≡_};
 ghost use mathlib.Core.List.{[], _∷_, map};
 ghost use Prim.Native.Nat.{_+_, _*_, _<_, _≤_, min};
@@ -307,20 +308,18 @@ pub fn write_table(
     kinds: &[u8],
     values: &[u8],
     gotos: &[u8],
-    rules: usize,
-    strings: usize,
-    lines: usize,
-    states: usize,
-    codes: usize,
+    counts: Counts,
     out: &mut [u8],
 ) -> usize
-    requires { ⌜ Sized (now items) (now entries) (now kernels) (now lookaheads) (now kinds) (now values) (now gotos) rules strings lines states codes ⌝ }
+    requires { ⌜ Sized (now items) (now entries) (now kernels) (now lookaheads) (now kinds) (now values) (now gotos) (counts .grammar .rules) (counts .entries) (counts .kernels) (counts .states) (counts .grammar .terminals + 1) ⌝ }
     requires { ⌜ now out ≡ replicate (length (now out)) 0 ⌝ }
-    ensures { λ r. ⌜ r ≡ min (length (memoryText (now (items .entry)) (now (entries .entry)) (now (kernels .entry)) (now (lookaheads .entry)) (now (kinds .entry)) (now (values .entry)) (now (gotos .entry)) rules strings lines states codes)) 65537 ⌝ }
-    ensures { λ r. ⌜ now (out .exit) ≡ inRoom (length (now (out .entry))) (memoryText (now (items .entry)) (now (entries .entry)) (now (kernels .entry)) (now (lookaheads .entry)) (now (kinds .entry)) (now (values .entry)) (now (gotos .entry)) rules strings lines states codes) ⌝ }
+    ensures { λ r. ⌜ r ≡ min (length (memoryText (now (items .entry)) (now (entries .entry)) (now (kernels .entry)) (now (lookaheads .entry)) (now (kinds .entry)) (now (values .entry)) (now (gotos .entry)) (counts .grammar .rules) (counts .entries) (counts .kernels) (counts .states) (counts .grammar .terminals + 1))) 65537 ⌝ }
+    ensures { λ r. ⌜ now (out .exit) ≡ inRoom (length (now (out .entry))) (memoryText (now (items .entry)) (now (entries .entry)) (now (kernels .entry)) (now (lookaheads .entry)) (now (kinds .entry)) (now (values .entry)) (now (gotos .entry)) (counts .grammar .rules) (counts .entries) (counts .kernels) (counts .states) (counts .grammar .terminals + 1)) ⌝ }
 {
-    let first = put_header(out, states, strings);
-    let second = put_entries(items, entries, rules, strings, out, first);
-    let third = put_kernels(kernels, lookaheads, lines, codes, out, second);
-    put_actions(kinds, values, gotos, states, out, third)
+    let heading = counts.grammar;
+    let codes = heading.terminals + 1;
+    let first = put_header(out, counts.states, counts.entries);
+    let second = put_entries(items, entries, heading.rules, counts.entries, out, first);
+    let third = put_kernels(kernels, lookaheads, counts.kernels, codes, out, second);
+    put_actions(kinds, values, gotos, counts.states, out, third)
 }

@@ -1,6 +1,7 @@
 // The moves from a state, against the kernels of the states that they lead to.
 // Inner: for the checker and `explanation`.
 use fixpoint::Found;
+use memory::Totals;
 use symbol::SYMBOLS;
 ghost use mathlib.Core.Path.{_≡_};
 ghost use Prim.Native.Nat.{_+_, _<_, _≤_};
@@ -46,18 +47,17 @@ fn arrives(
     kinds: &[u8],
     values: &[u8],
     gotos: &[u8],
-    count: usize,
-    lines: usize,
+    totals: Totals,
     q: usize,
     i: usize,
     k: usize,
 ) -> bool
-    requires { ⌜ Lined (now items) (now kernels) (now links) count lines ⌝ }
+    requires { ⌜ Lined (now items) (now kernels) (now links) (totals .items) (totals .lines) ⌝ }
     requires { ⌜ Cells (now kinds) (now values) (now gotos) ⌝ }
-    requires { ⌜ (q < 256) × (i ≤ count) × (k ≤ 15) ⌝ }
-    ensures { λ b. ⌜ Decides (Arrives (now (items .entry)) (now (kernels .entry)) (now (kinds .entry)) (now (values .entry)) (now (gotos .entry)) lines q i k) b ⌝ }
+    requires { ⌜ (q < 256) × (i ≤ totals .items) × (k ≤ 15) ⌝ }
+    ensures { λ b. ⌜ Decides (Arrives (now (items .entry)) (now (kernels .entry)) (now (kinds .entry)) (now (values .entry)) (now (gotos .entry)) (totals .lines) q i k) b ⌝ }
 {
-    let x = moves::symbol_after(items, count, i, k);
+    let x = moves::symbol_after(items, totals.items, i, k);
     if x == 0 {
         return true;
     }
@@ -65,7 +65,7 @@ fn arrives(
     if s == 0 {
         return true;
     }
-    if !kernel_lines::has_line(kernels, links, lines, count, s, i, k + 1) {
+    if !kernel_lines::has_line(kernels, links, totals.lines, totals.items, s, i, k + 1) {
         return false;
     }
     true
@@ -79,31 +79,18 @@ fn line_arrives(
     kinds: &[u8],
     values: &[u8],
     gotos: &[u8],
-    count: usize,
-    lines: usize,
+    totals: Totals,
     q: usize,
     l: usize,
 ) -> bool
-    requires { ⌜ Lined (now items) (now kernels) (now links) count lines ⌝ }
+    requires { ⌜ Lined (now items) (now kernels) (now links) (totals .items) (totals .lines) ⌝ }
     requires { ⌜ Cells (now kinds) (now values) (now gotos) ⌝ }
-    requires { ⌜ (q < 256) × (l < lines) ⌝ }
-    ensures { λ b. ⌜ Decides (Arrives (now (items .entry)) (now (kernels .entry)) (now (kinds .entry)) (now (values .entry)) (now (gotos .entry)) lines q (itemAt (now (kernels .entry)) l) (dotAt (now (kernels .entry)) l)) b ⌝ }
+    requires { ⌜ (q < 256) × (l < totals .lines) ⌝ }
+    ensures { λ b. ⌜ Decides (Arrives (now (items .entry)) (now (kernels .entry)) (now (kinds .entry)) (now (values .entry)) (now (gotos .entry)) (totals .lines) q (itemAt (now (kernels .entry)) l) (dotAt (now (kernels .entry)) l)) b ⌝ }
 {
-    let i = kernel_lines::item_of(kernels, lines, count, l);
-    let k = kernel_lines::dot_of(kernels, lines, count, l);
-    if !arrives(
-        items,
-        kernels,
-        links,
-        kinds,
-        values,
-        gotos,
-        count,
-        lines,
-        q,
-        i,
-        k,
-    ) {
+    let i = kernel_lines::item_of(kernels, totals.lines, totals.items, l);
+    let k = kernel_lines::dot_of(kernels, totals.lines, totals.items, l);
+    if !arrives(items, kernels, links, kinds, values, gotos, totals, q, i, k) {
         return false;
     }
     true
@@ -117,33 +104,21 @@ fn find_lost_line(
     kinds: &[u8],
     values: &[u8],
     gotos: &[u8],
-    count: usize,
-    lines: usize,
+    totals: Totals,
     q: usize,
 ) -> Found
-    requires { ⌜ Lined (now items) (now kernels) (now links) count lines ⌝ }
+    requires { ⌜ Lined (now items) (now kernels) (now links) (totals .items) (totals .lines) ⌝ }
     requires { ⌜ Cells (now kinds) (now values) (now gotos) ⌝ }
     requires { ⌜ q < 256 ⌝ }
-    ensures { λ r. ⌜ Misses (λ l. stateAt (now (kernels .entry)) l ≡ q) (λ l. Arrives (now (items .entry)) (now (kernels .entry)) (now (kinds .entry)) (now (values .entry)) (now (gotos .entry)) lines q (itemAt (now (kernels .entry)) l) (dotAt (now (kernels .entry)) l)) 0 lines r ⌝ }
+    ensures { λ r. ⌜ Misses (λ l. stateAt (now (kernels .entry)) l ≡ q) (λ l. Arrives (now (items .entry)) (now (kernels .entry)) (now (kinds .entry)) (now (values .entry)) (now (gotos .entry)) (totals .lines) q (itemAt (now (kernels .entry)) l) (dotAt (now (kernels .entry)) l)) 0 (totals .lines) r ⌝ }
 {
-    let mut p = kernel_lines::last_line(kernels, links, lines, q);
+    let mut p = kernel_lines::last_line(kernels, links, totals.lines, q);
     while 0 < p {
         let l = p - 1;
-        if !line_arrives(
-            items,
-            kernels,
-            links,
-            kinds,
-            values,
-            gotos,
-            count,
-            lines,
-            q,
-            l,
-        ) {
+        if !line_arrives(items, kernels, links, kinds, values, gotos, totals, q, l) {
             return Found::At(l);
         }
-        p = kernel_lines::line_before(kernels, links, lines, l);
+        p = kernel_lines::line_before(kernels, links, totals.lines, l);
     }
     Found::Nothing
 }
@@ -153,39 +128,25 @@ fn find_lost_rule(
     items: &[u8],
     kernels: &[u8],
     links: &[usize],
-    present: &[u8],
     kinds: &[u8],
     values: &[u8],
     gotos: &[u8],
-    count: usize,
-    rules: usize,
-    lines: usize,
+    present: &[u8],
+    totals: Totals,
     q: usize,
 ) -> Found
-    requires { ⌜ Readable (now items) (now kernels) (now links) (now present) count rules lines ⌝ }
+    requires { ⌜ Readable (now items) (now kernels) (now links) (now present) (totals .items) (totals .rules) (totals .lines) ⌝ }
     requires { ⌜ Cells (now kinds) (now values) (now gotos) ⌝ }
     requires { ⌜ q < 256 ⌝ }
-    ensures { λ r. ⌜ Misses (Present (now (items .entry)) (now (present .entry))) (λ i. Arrives (now (items .entry)) (now (kernels .entry)) (now (kinds .entry)) (now (values .entry)) (now (gotos .entry)) lines q i 0) 1 (rules + 1) r ⌝ }
+    ensures { λ r. ⌜ Misses (Present (now (items .entry)) (now (present .entry))) (λ i. Arrives (now (items .entry)) (now (kernels .entry)) (now (kinds .entry)) (now (values .entry)) (now (gotos .entry)) (totals .lines) q i 0) 1 (totals .rules + 1) r ⌝ }
 {
     let mut i = 1;
-    while i <= rules {
-        if !moves::is_present(items, present, count, i) {
+    while i <= totals.rules {
+        if !moves::is_present(items, present, totals.items, i) {
             i += 1;
             continue;
         }
-        if !arrives(
-            items,
-            kernels,
-            links,
-            kinds,
-            values,
-            gotos,
-            count,
-            lines,
-            q,
-            i,
-            0,
-        ) {
+        if !arrives(items, kernels, links, kinds, values, gotos, totals, q, i, 0) {
             return Found::At(i);
         }
         i += 1;
@@ -199,24 +160,33 @@ fn find_stray(
     kernels: &[u8],
     links: &[usize],
     present: &[u8],
-    count: usize,
-    rules: usize,
-    lines: usize,
+    totals: Totals,
     q: usize,
     x: usize,
     s: usize,
 ) -> Found
-    requires { ⌜ Readable (now items) (now kernels) (now links) (now present) count rules lines ⌝ }
+    requires { ⌜ Readable (now items) (now kernels) (now links) (now present) (totals .items) (totals .rules) (totals .lines) ⌝ }
     requires { ⌜ (q < 256) × (s < 256) ⌝ }
-    ensures { λ r. ⌜ Misses (λ l. stateAt (now (kernels .entry)) l ≡ s) (λ l. MovedAt (now (items .entry)) (now (kernels .entry)) (now (present .entry)) rules lines q x (itemAt (now (kernels .entry)) l) (dotAt (now (kernels .entry)) l)) 0 lines r ⌝ }
+    ensures { λ r. ⌜ Misses (λ l. stateAt (now (kernels .entry)) l ≡ s) (λ l. MovedAt (now (items .entry)) (now (kernels .entry)) (now (present .entry)) (totals .rules) (totals .lines) q x (itemAt (now (kernels .entry)) l) (dotAt (now (kernels .entry)) l)) 0 (totals .lines) r ⌝ }
 {
-    let mut p = kernel_lines::last_line(kernels, links, lines, s);
+    let mut p = kernel_lines::last_line(kernels, links, totals.lines, s);
     while 0 < p {
         let l = p - 1;
-        if !moves::line_came(items, kernels, links, present, count, rules, lines, q, x, l) {
+        if !moves::line_came(
+            items,
+            kernels,
+            links,
+            present,
+            totals.items,
+            totals.rules,
+            totals.lines,
+            q,
+            x,
+            l,
+        ) {
             return Found::At(l);
         }
-        p = kernel_lines::line_before(kernels, links, lines, l);
+        p = kernel_lines::line_before(kernels, links, totals.lines, l);
     }
     Found::Nothing
 }
@@ -226,21 +196,19 @@ fn find_extra_at(
     items: &[u8],
     kernels: &[u8],
     links: &[usize],
-    present: &[u8],
-    symbols: &[u8],
     kinds: &[u8],
     values: &[u8],
     gotos: &[u8],
-    count: usize,
-    rules: usize,
-    lines: usize,
+    present: &[u8],
+    symbols: &[u8],
+    totals: Totals,
     q: usize,
     x: usize,
 ) -> Found
-    requires { ⌜ Readable (now items) (now kernels) (now links) (now present) count rules lines ⌝ }
+    requires { ⌜ Readable (now items) (now kernels) (now links) (now present) (totals .items) (totals .rules) (totals .lines) ⌝ }
     requires { ⌜ Cells (now kinds) (now values) (now gotos) ⌝ }
     requires { ⌜ (length (now symbols) ≡ 128) × (q < 256) × (x < 128) ⌝ }
-    ensures { λ r. ⌜ FindsExtra (now (items .entry)) (now (kernels .entry)) (now (present .entry)) (now (symbols .entry)) (now (kinds .entry)) (now (values .entry)) (now (gotos .entry)) rules lines q x r ⌝ }
+    ensures { λ r. ⌜ FindsExtra (now (items .entry)) (now (kernels .entry)) (now (present .entry)) (now (symbols .entry)) (now (kinds .entry)) (now (values .entry)) (now (gotos .entry)) (totals .rules) (totals .lines) q x r ⌝ }
 {
     if symbols[x] == 0 {
         return Found::Nothing;
@@ -249,7 +217,7 @@ fn find_extra_at(
     if s == 0 {
         return Found::Nothing;
     }
-    find_stray(items, kernels, links, present, count, rules, lines, q, x, s)
+    find_stray(items, kernels, links, present, totals, q, x, s)
 }
 
 // The first symbol with such a line, where all of q's items arrive.
@@ -257,20 +225,18 @@ fn find_extra(
     items: &[u8],
     kernels: &[u8],
     links: &[usize],
-    present: &[u8],
-    symbols: &[u8],
     kinds: &[u8],
     values: &[u8],
     gotos: &[u8],
-    count: usize,
-    rules: usize,
-    lines: usize,
+    present: &[u8],
+    symbols: &[u8],
+    totals: Totals,
     q: usize,
 ) -> ItemFault
-    requires { ⌜ Readable (now items) (now kernels) (now links) (now present) count rules lines ⌝ }
+    requires { ⌜ Readable (now items) (now kernels) (now links) (now present) (totals .items) (totals .rules) (totals .lines) ⌝ }
     requires { ⌜ Cells (now kinds) (now values) (now gotos) ⌝ }
     requires { ⌜ (length (now symbols) ≡ 128) × (q < 256) ⌝ }
-    ensures { λ r. ⌜ (LinesArrive (now (items .entry)) (now (kernels .entry)) (now (kinds .entry)) (now (values .entry)) (now (gotos .entry)) lines q → RulesArrive (now (items .entry)) (now (kernels .entry)) (now (present .entry)) (now (kinds .entry)) (now (values .entry)) (now (gotos .entry)) rules lines q → MoveFaultIs (now (items .entry)) (now (kernels .entry)) (now (present .entry)) (now (symbols .entry)) (now (kinds .entry)) (now (values .entry)) (now (gotos .entry)) count rules lines q r) ⌝ }
+    ensures { λ r. ⌜ (LinesArrive (now (items .entry)) (now (kernels .entry)) (now (kinds .entry)) (now (values .entry)) (now (gotos .entry)) (totals .lines) q → RulesArrive (now (items .entry)) (now (kernels .entry)) (now (present .entry)) (now (kinds .entry)) (now (values .entry)) (now (gotos .entry)) (totals .rules) (totals .lines) q → MoveFaultIs (now (items .entry)) (now (kernels .entry)) (now (present .entry)) (now (symbols .entry)) (now (kinds .entry)) (now (values .entry)) (now (gotos .entry)) (totals .items) (totals .rules) (totals .lines) q r) ⌝ }
 {
     let mut x = 1;
     while x < SYMBOLS {
@@ -278,14 +244,12 @@ fn find_extra(
             items,
             kernels,
             links,
-            present,
-            symbols,
             kinds,
             values,
             gotos,
-            count,
-            rules,
-            lines,
+            present,
+            symbols,
+            totals,
             q,
             x,
         );
@@ -302,37 +266,36 @@ pub fn find_move_fault(
     items: &[u8],
     kernels: &[u8],
     links: &[usize],
-    present: &[u8],
-    symbols: &[u8],
     kinds: &[u8],
     values: &[u8],
     gotos: &[u8],
-    count: usize,
-    rules: usize,
-    lines: usize,
+    present: &[u8],
+    symbols: &[u8],
+    totals: Totals,
     q: usize,
 ) -> ItemFault
-    requires { ⌜ Readable (now items) (now kernels) (now links) (now present) count rules lines ⌝ }
+    requires { ⌜ Readable (now items) (now kernels) (now links) (now present) (totals .items) (totals .rules) (totals .lines) ⌝ }
     requires { ⌜ Cells (now kinds) (now values) (now gotos) ⌝ }
     requires { ⌜ (length (now symbols) ≡ 128) × (q < 256) ⌝ }
-    ensures { λ r. ⌜ MoveFaultIs (now (items .entry)) (now (kernels .entry)) (now (present .entry)) (now (symbols .entry)) (now (kinds .entry)) (now (values .entry)) (now (gotos .entry)) count rules lines q r ⌝ }
+    ensures { λ r. ⌜ MoveFaultIs (now (items .entry)) (now (kernels .entry)) (now (present .entry)) (now (symbols .entry)) (now (kinds .entry)) (now (values .entry)) (now (gotos .entry)) (totals .items) (totals .rules) (totals .lines) q r ⌝ }
 {
-    let line = find_lost_line(items, kernels, links, kinds, values, gotos, count, lines, q);
+    let line = find_lost_line(items, kernels, links, kinds, values, gotos, totals, q);
     if let Found::At(l) = line {
-        let i = kernel_lines::item_of(kernels, lines, count, l);
-        return ItemFault::Lost(i, kernel_lines::dot_of(kernels, lines, count, l));
+        let i = kernel_lines::item_of(kernels, totals.lines, totals.items, l);
+        return ItemFault::Lost(
+            i,
+            kernel_lines::dot_of(kernels, totals.lines, totals.items, l),
+        );
     }
     let rule = find_lost_rule(
         items,
         kernels,
         links,
-        present,
         kinds,
         values,
         gotos,
-        count,
-        rules,
-        lines,
+        present,
+        totals,
         q,
     );
     if let Found::At(i) = rule {
@@ -342,14 +305,12 @@ pub fn find_move_fault(
         items,
         kernels,
         links,
-        present,
-        symbols,
         kinds,
         values,
         gotos,
-        count,
-        rules,
-        lines,
+        present,
+        symbols,
+        totals,
         q,
     )
 }

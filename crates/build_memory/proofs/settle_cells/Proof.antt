@@ -19,7 +19,7 @@ slice-aggregate-entries-meet c = search needs
 
 entries-meet-requires : tie.Need-entries-meet-requires
 entries-meet-requires c κs =
-    let S = c .before .before .before .before .before .before .before .before .pre .0 .is in
+    let S = c .before .before .before .before .before .before .before .before .before .before .pre .0 .is in
     let E = S .entered in
     (E .shaped, ((few-rules E, some-strings E, few-strings E), refl))
 
@@ -31,9 +31,9 @@ slice-aggregate-find-sets-2 c = search needs
 
 find-sets-requires : tie.Need-find-sets-requires
 find-sets-requires c κs =
-    let S = c .before .before .before .before .before .before .before .before .before .before .before .before .pre .0 .is in
+    let S = c .before .before .before .before .before .before .before .before .before .before .before .before .before .before .pre .0 .is in
     let E = S .entered in
-    (shaped-less _ (E .shaped), (few-terminals E, (refl, refl)))
+    (shaped-less (within _ _) (E .shaped), (few-terminals E, (refl, refl)))
 
 slice-aggregate-prepare-rules : tie.Need-slice-aggregate-prepare-rules
 slice-aggregate-prepare-rules c = search needs
@@ -50,7 +50,7 @@ slice-aggregate-prepare-rules-4 c = search needs
 prepare-rules-requires : tie.Need-prepare-rules-requires
 prepare-rules-requires c κs =
     let at-find-sets = c .before .before .before .before .before .before in
-    let S = at-find-sets .before .before .before .before .before .before .before .before .before .before .before .before .before .pre .0 .is in
+    let S = at-find-sets .before .before .before .before .before .before .before .before .before .before .before .before .before .before .before .pre .0 .is in
     let E = S .entered in
     let k = at-find-sets .find-sets .kept in (
       E .shaped,
@@ -62,8 +62,7 @@ slice-aggregate-link-lines c = search needs
 
 link-lines-requires : tie.Need-link-lines-requires
 link-lines-requires c κs =
-    let S = c .before .before .before .before .before .before .before .before .before .before .before .before .before .before .before .before .before .before
-    .before .before .before .before .before .pre .0 .is in
+    let S = c .before .before .before .before .before .before .before .before .before .before .before .before .before .before .before .before .before .before .before .before .before .before .before .before .before .pre .0 .is in
     (S .safe .some-lines, refl)
 
 slice-aggregate-find-lookaheads : tie.Need-slice-aggregate-find-lookaheads
@@ -90,7 +89,7 @@ find-lookaheads-requires c κs =
     let at-prepare-rules = at-link-lines .before .before .before .before in
     let at-find-sets = at-prepare-rules .before .before .before .before .before .before .before in
     let at-entries-meet = at-find-sets .before .before .before .before in
-    let start = at-entries-meet .before .before .before .before .before .before .before .before .before in
+    let start = at-entries-meet .before .before .before .before .before .before .before .before .before .before .before in
     let S = start .pre .0 .is in
     let E = S .entered in
     let R = start .pre .1 .0 in
@@ -113,7 +112,7 @@ find-lookaheads-requires c κs =
         record { kinds-room = omega (arith, R .kinds-room); values-room = omega (arith, R .values-room); gotos-room = omega (arith, R .gotos-room) },
         (
           (m .kept .1 .1 .1 .1 .1 .1 .0, m .kept .1 .1 .1 .1 .1 .1 .1 .0),
-          (m .ensures, (S .safe .few-states, few-strings E, few-flags S (start .pre .1 .1 .1))),
+          (m .ensures, (S .safe .few-states, few-flags S (start .pre .1 .1 .1))),
         ),
       ),
     )
@@ -123,14 +122,12 @@ slice-aggregate-fill-cells c = search needs
 
 slice-aggregate-fill-cells-2 : tie.Need-slice-aggregate-fill-cells-2
 slice-aggregate-fill-cells-2 c =
-    let at-find-sets = c .before .before .before .before .before .before .before .before .before .before .before .before .before .before .before .before
-    .before .before .before .before .before .before .before .before .before .before .before in
+    let at-find-sets = c .before .before .before .before .before .before .before .before .before .before .before .before .before .before .before .before .before .before .before .before .before .before .before .before .before .before .before in
     sym (at-find-sets .find-sets .kept .1 .1 .1 .0)
 
 slice-aggregate-fill-cells-3 : tie.Need-slice-aggregate-fill-cells-3
 slice-aggregate-fill-cells-3 c =
-    let at-find-sets = c .before .before .before .before .before .before .before .before .before .before .before .before .before .before .before .before
-    .before .before .before .before .before .before .before .before .before .before .before .before in
+    let at-find-sets = c .before .before .before .before .before .before .before .before .before .before .before .before .before .before .before .before .before .before .before .before .before .before .before .before .before .before .before .before in
     sym (at-find-sets .find-sets .kept .1 .1 .1 .1 .0)
 
 slice-aggregate-fill-cells-4 : tie.Need-slice-aggregate-fill-cells-4
@@ -145,16 +142,17 @@ fill-cells-requires c κs =
     let at-link-lines = at-find-lookaheads .before .before .before .before .before .before .before .before .before .before .before in
     let at-prepare-rules = at-link-lines .before .before .before .before in
     let at-find-sets = at-prepare-rules .before .before .before .before .before .before .before in
-    let start = at-find-sets .before .before .before .before .before .before .before .before .before .before .before .before .before in
+    let start = at-find-sets .before .before .before .before .before .before .before .before .before .before .before .before .before .before .before in
     let S = start .pre .0 .is in
     let E = S .entered in
     let R = start .pre .1 .0 in
     let m = at-prepare-rules .prepare-rules in
     let k = at-find-sets .find-sets .kept in (
       record {
+        all-items = refl;
         lined = record { shaped = E .shaped; some-lines = S .safe .some-lines; linked = at-link-lines .link-lines .ensures };
         codes-room = few-flags S
-            (at-find-lookaheads .find-lookaheads .kept .1 .1 .1 .1 .1 .1 .1 .1 .1 .1 .1 .1 .1 .1 .1 .1 .1 .0 ∙ start .pre .1 .1 .1);
+            (at-find-lookaheads .find-lookaheads .kept .1 .1 .1 .1 .1 .1 .1 .1 .1 .1 .1 .1 .1 .0 ∙ start .pre .1 .1 .1);
         nul-room = k .1 .1 .1 .0;
         fst-room = k .1 .1 .1 .1 .0;
         starts-room = m .kept .1 .1 .1 .1 .1 .1 .0;
@@ -180,15 +178,14 @@ returns : tie.Need-returns
 returns c =
     let at-fill-cells = c .before .before .before .before in
     let at-find-lookaheads = at-fill-cells .before .before .before .before .before .before .before .before .before .before .before in
-    let at-find-sets = at-find-lookaheads .before .before .before .before .before .before .before .before .before .before .before .before .before .before
-    .before .before .before .before .before .before .before .before in
+    let at-find-sets = at-find-lookaheads .before .before .before .before .before .before .before .before .before .before .before .before .before .before .before .before .before .before .before .before .before .before in
     let at-entries-meet = at-find-sets .before .before .before .before in
-    let start = at-entries-meet .before .before .before .before .before .before .before .before .before in
+    let start = at-entries-meet .before .before .before .before .before .before .before .before .before .before .before in
     let R = start .pre .1 .0 in
     let N = start .pre .1 .1 .0 in
     let f = at-fill-cells .fill-cells .ensures in (
       (
-        at-find-lookaheads .find-lookaheads .kept .1 .1 .1 .1 .1 .1 .1 .1 .1 .1 .1 .1 .1 .1 .1 .1 .1 .0 ∙ start .pre .1 .1 .1,
+        at-find-lookaheads .find-lookaheads .kept .1 .1 .1 .1 .1 .1 .1 .1 .1 .1 .1 .1 .1 .0 ∙ start .pre .1 .1 .1,
         record {
           kernels-room = R .kernels-room;
           kinds-room = f .0 .0 ∙ R .kinds-room;

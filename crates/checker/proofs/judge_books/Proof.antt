@@ -2,6 +2,7 @@
 use mathlib.Core.Path.{_≡_, sym, _∙_}
 use mathlib.Core.Bool.{true}
 use denote.Ref.{now}
+use native.Mathlib.Omega.{arith}
 use borrow.Author.Needs.{needs}
 use Rattle.table.specs.Book.{tablesOf}
 use Rattle.table.specs.Memory.{Slices, slices, hasRoom, replyOf, Holds}
@@ -18,7 +19,7 @@ abbrev read-of : tie.After-slice-known16 → tie.After-read-tables
 read-of c = c .before .before .before .before .before .before .before .before .before .before .before .before .before .before .before .before
 
 abbrev told-of : tie.After-judge → tie.After-known-told
-told-of c = c .before .before .before .before .before .before .before .before .before .before
+told-of c = c .before .before .before .before .before .before .before .before .before .before .before .before .before
 
 abbrev books-of : tie.After-known-told → tie.After-read-tables
 books-of c = read-of (c .before .before .before)
@@ -116,10 +117,22 @@ returns c =
     let h = answered r in
     (h .0, (h .1, c .as-reply .ensures ∙ not-read (now (a .grammar)) (now (a .book)) (h .0) (c .before .enum-told .given .1)))
 
+add-count : tie.Need-add-count
+add-count c =
+    let k : tie.After-known-told = c .before .before .before in
+    let S = read-sized (load k) (room (start-of (books-of k))) in
+    omega (arith, S .few-rules, S .few-strings)
+
+add-codes : tie.Need-add-codes
+add-codes c =
+    let k : tie.After-known-told = c .before .before .before .before in
+    omega (arith, read-low (load k) .0)
+
 judge-requires : tie.Need-judge-requires
 judge-requires c κs =
-    let k : tie.After-known-told = c .before .before .before .before .before .before .before .before .before in
-    (read-sized (load k) (room (start-of (books-of k))), read-low (load k))
+    let k : tie.After-known-told = c .before .before .before .before .before .before .before .before .before .before .before .before in
+    let low = read-low (load k) in
+    (read-sized (load k) (room (start-of (books-of k))), (omega arith, omega (arith, low .0), low .1))
 
 same-length-9 : tie.Need-same-length-9
 same-length-9 c = alike (books-of (told-of c)) .items-same
@@ -169,6 +182,8 @@ judge-books-spec =
     same-length-7
     same-length-8
     returns
+    add-count
+    add-codes
     judge-requires
     same-length-9
     same-length-10

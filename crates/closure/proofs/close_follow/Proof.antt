@@ -19,35 +19,35 @@ use Rattle.closure.proofs.close_follow.Statement.{statement}
 use Rattle.closure.proofs.close_follow.Tie as tie
 
 abbrev Inv-codes : tie.InvT-codes
-Inv-codes m items rules codes starts through present follow₀ added₀ i b a c₀ follow added c =
+Inv-codes items starts through present count rules codes follow₀ added₀ i b a c₀ follow added c =
     (c ≤ codes)
-    × Pass 4096 (Least (followings m rules codes starts through) (On follow₀)) follow₀ follow added₀ added
+    × Pass 4096 (Least (followings items rules codes starts through) (On follow₀)) follow₀ follow added₀ added
     (λ fs.
-    ((j : ℕ) → 1 ≤ j → j < i → FollowingMet m rules codes starts through j fs)
-    × ((k : ℕ) → k < c → CodeMet m rules codes starts through i k fs))
+    ((j : ℕ) → 1 ≤ j → j < i → FollowingMet items rules codes starts through j fs)
+    × ((k : ℕ) → k < c → CodeMet items rules codes starts through i k fs))
 
 abbrev μ-codes : tie.MeasureT-codes
-μ-codes m items rules codes starts through present follow₀ added₀ i b a c₀ follow added c = codes - c
+μ-codes items starts through present count rules codes follow₀ added₀ i b a c₀ follow added c = codes - c
 
 abbrev Inv-rules : tie.InvT-rules
-Inv-rules m items rules codes starts through present follow₀ added₀ i₀ follow added i =
+Inv-rules items starts through present count rules codes follow₀ added₀ i₀ follow added i =
     (1 ≤ i)
     × (i ≤ rules + 1)
-    × Pass 4096 (Least (followings m rules codes starts through) (On follow₀)) follow₀ follow added₀ added
-    (λ fs. (j : ℕ) → 1 ≤ j → j < i → FollowingMet m rules codes starts through j fs)
+    × Pass 4096 (Least (followings items rules codes starts through) (On follow₀)) follow₀ follow added₀ added
+    (λ fs. (j : ℕ) → 1 ≤ j → j < i → FollowingMet items rules codes starts through j fs)
 
 abbrev μ-rules : tie.MeasureT-rules
-μ-rules m items rules codes starts through present follow₀ added₀ i₀ follow added i = rules + 1 - i
+μ-rules items starts through present count rules codes follow₀ added₀ i₀ follow added i = rules + 1 - i
 
 abbrev Inv-passes : tie.InvT-passes
-Inv-passes m items rules codes starts through present follow₀ follow =
+Inv-passes items starts through present count rules codes follow₀ follow =
     (length follow ≡ 4096)
-    × ((y : ℕ) → On follow y → Least (followings m rules codes starts through) (On follow₀) y)
+    × ((y : ℕ) → On follow y → Least (followings items rules codes starts through) (On follow₀) y)
     × ((y : ℕ) → On follow₀ y → On follow y)
-    × Covered m rules codes present follow
+    × Covered items rules codes present follow
 
 abbrev μ-passes : tie.MeasureT-passes
-μ-passes m items rules codes starts through present follow₀ follow = zeros follow
+μ-passes items starts through present count rules codes follow₀ follow = zeros follow
 
 passes-holds : tie.Need-passes-holds Inv-codes μ-codes Inv-rules μ-rules Inv-passes μ-passes
 passes-holds c = let p = c .before .before .before .before .before .pre .1 .1 .1 in
@@ -214,7 +214,7 @@ codes-again c =
     let b = at-if2 .before .first-nonterminal .result in
     let a = at-left-of .left-of .result - 64 in
     let f = at-if2 .before .first-nonterminal .ensures .found (omega (arith, at-if2 .if2 .left)) in
-    let e : leftAt (start .args .m .now) (at-rules .rules .i) ≡ 64 + a = omega (
+    let e : leftAt (start .args .items .now) (at-rules .rules .i) ≡ 64 + a = omega (
       arith,
       (at-if1 .before .left-in .ensures .yes (not-false _ (at-if1 .if1 .left))) .is,
       at-left-of .left-of .ensures .0,

@@ -17,23 +17,23 @@ use Rattle.closure.proofs.close_present.Statement.{statement}
 use Rattle.closure.proofs.close_present.Tie as tie
 
 abbrev Inv-rules : tie.InvT-rules
-Inv-rules m items rules present₀ added₀ i₀ present added i =
+Inv-rules items count rules present₀ added₀ i₀ present added i =
     (1 ≤ i)
     × (i ≤ rules + 1)
-    × Pass 64 (Least (expansions m rules) (On present₀)) present₀ present added₀ added
-    (λ fs. (j : ℕ) → 1 ≤ j → j < i → ExpansionMet m rules j fs)
+    × Pass 64 (Least (expansions items rules) (On present₀)) present₀ present added₀ added
+    (λ fs. (j : ℕ) → 1 ≤ j → j < i → ExpansionMet items rules j fs)
 
 abbrev μ-rules : tie.MeasureT-rules
-μ-rules m items rules present₀ added₀ i₀ present added i = rules + 1 - i
+μ-rules items count rules present₀ added₀ i₀ present added i = rules + 1 - i
 
 abbrev Inv-passes : tie.InvT-passes
-Inv-passes m items rules present₀ present =
+Inv-passes items count rules present₀ present =
     (length present ≡ 64)
-    × ((y : ℕ) → On present y → Least (expansions m rules) (On present₀) y)
+    × ((y : ℕ) → On present y → Least (expansions items rules) (On present₀) y)
     × ((y : ℕ) → On present₀ y → On present y)
 
 abbrev μ-passes : tie.MeasureT-passes
-μ-passes m items rules present₀ present = zeros present
+μ-passes items count rules present₀ present = zeros present
 
 passes-holds : tie.Need-passes-holds Inv-rules μ-rules Inv-passes μ-passes
 passes-holds c = (c .before .before .pre .1 .1, λ y on. seed on, λ y on. on)

@@ -13,15 +13,15 @@ use Rattle.closure.proofs.prepare_rules.Statement.{statement}
 use Rattle.closure.proofs.prepare_rules.Tie as tie
 
 abbrev Inv-loop : tie.InvT-loop
-Inv-loop m items rules codes nul fst starts₀ through₀ i₀ starts through i =
+Inv-loop items nullable first count rules codes starts₀ through₀ i₀ starts through i =
     (1 ≤ i)
     × (i ≤ rules + 1)
     × (length starts ≡ 8192)
     × (length through ≡ 128)
-    × Filled m codes nul fst i starts through
+    × Filled items codes nullable first i starts through
 
 abbrev μ-loop : tie.MeasureT-loop
-μ-loop m items rules codes nul fst starts₀ through₀ i₀ starts through i = rules + 1 - i
+μ-loop items nullable first count rules codes starts₀ through₀ i₀ starts through i = rules + 1 - i
 
 clear-requires : tie.Need-clear-requires Inv-loop μ-loop
 clear-requires c κs = search needs

@@ -4,9 +4,6 @@ use Rattle.conformance.proofs.ItemLaws.{by-moves}
 use Rattle.conformance.proofs.find_item_fault.Statement.{statement}
 use Rattle.conformance.proofs.find_item_fault.Tie as tie
 
-add-count : tie.Need-add-count
-add-count c = search needs
-
 shared-slice-read-if1 : tie.Need-shared-slice-read-if1
 shared-slice-read-if1 c = search needs
 
@@ -35,7 +32,6 @@ pub find-item-fault-spec : {M : Type 1} → statement M
 find-item-fault-spec =
     tie.close
     (tie.spec
-    add-count
     shared-slice-read-if1
     returns
     find-entry-at-requires

@@ -20,7 +20,7 @@ slice-aggregate-explain-conflicts-2 c = search needs
 
 explain-conflicts-requires : tie.Need-explain-conflicts-requires
 explain-conflicts-requires c κs =
-    let asking = c .before .before .before .before .before .before in
+    let asking = c .before .before .before .before .before .before .before in
     let p = asking .before .before .before .before .before .before .before .before .before .before .before .before .before .before .before .pre in
     let s = p .1 .1 .1 in
     (p .0 .lined .some-lines, (p .1 .0, ((p .0 .few, s .0 .0, s .0 .2), ((p .0 .room, s .1 .0), asking .ask-cells .ensures .0))))
@@ -33,7 +33,7 @@ slice-aggregate-explain-cells c = search needs
 
 explain-cells-requires : tie.Need-explain-cells-requires
 explain-cells-requires c κs =
-    let asking = c .before .before .before .before .before in
+    let asking = c .before .before .before .before .before .before in
     let p = asking .before .before .before .before .before .before .before .before .before .before .before .before .before .before .before .pre in
     let s = p .1 .1 .1 in
     (p .0 .lined .some-lines, (p .1 .0, (p .1 .1 .0, ((p .0 .few, s .0 .0, s .0 .1, s .0 .2), (p .0 .room, s .1 .0, s .1 .1, asking .ask-cells .ensures .0 .0)))))

@@ -5,10 +5,10 @@ use Rattle.explanation.proofs.explain_conflicts.Statement.{statement}
 use Rattle.explanation.proofs.explain_conflicts.Tie as tie
 
 abbrev Inv-loop : tie.InvT-loop
-Inv-loop out₀ items kernels lookaheads present follow nul fst asked others count rules lines codes q room found₀ c₀ out found c = (found ≤ c) × (c ≤ 64)
+Inv-loop out₀ items kernels lookaheads present follow nullable first asked others totals question found₀ c₀ out found c = (found ≤ c) × (c ≤ 64)
 
 abbrev μ-loop : tie.MeasureT-loop
-μ-loop out₀ items kernels lookaheads present follow nul fst asked others count rules lines codes q room found₀ c₀ out found c = 64 - c
+μ-loop out₀ items kernels lookaheads present follow nullable first asked others totals question found₀ c₀ out found c = 64 - c
 
 loop-holds : tie.Need-loop-holds Inv-loop μ-loop
 loop-holds c = search needs
@@ -45,7 +45,7 @@ print-conflict-requires c κs = search needs
 
 print-demands-requires : tie.Need-print-demands-requires Inv-loop μ-loop
 print-demands-requires c κs =
-    let at-loop-test = c .before .before .before .before .before .before .before .before in
+    let at-loop-test = c .before .before .before .before .before .before .before .before .before in
     let p = at-loop-test .before .before .before .before .before .before .before .before .before .before .before .pre in
     let s = p .1 .1 in
     (p .0, (p .1 .0, ((s .0 .0, s .0 .1, s .0 .2, at-loop-test .loop-test .taken), s .1 .0)))

@@ -3,13 +3,11 @@ use borrow.Author.Needs.{needs}
 use Rattle.explanation.proofs.explain_items.Statement.{statement}
 use Rattle.explanation.proofs.explain_items.Tie as tie
 
-add-count : tie.Need-add-count
-add-count c = search needs
-
 find-item-fault-requires : tie.Need-find-item-fault-requires
 find-item-fault-requires c κs =
     let start = c .before .before .before .before .before .before .before .before .before .before .before in
-    start .pre
+    let p = start .pre in
+    (p .0, (p .1 .0, (p .1 .1 .0, p .1 .1 .1 .0)))
 
 enum-told : tie.Need-enum-told
 enum-told c = search needs
@@ -46,21 +44,21 @@ slice-aggregate-print-item c = search needs
 
 add-print-item : tie.Need-add-print-item
 add-print-item c =
-    let at-fault = c .before .before .before .before .before .before .before .before .before in
+    let at-fault = c .before .before .before .before .before .before .before .before .before .before in
     let start = at-fault .before .before .before .before .before .before .before .before .before .before .before .before .before .before in
     let f = at-fault .before .before .find-item-fault .ensures .is in
     let e = at-fault .fault .given .1 in
     let h = rw e at f in
-    omega (arith, h .1, start .pre .1 .1 .1 .1, start .pre .1 .1 .1 .2)
+    omega (arith, h .1, start .pre .1 .1 .1 .0 .1, start .pre .1 .1 .1 .0 .2)
 
 print-item-requires : tie.Need-print-item-requires
 print-item-requires c κs =
-    let at-fault = c .before .before .before .before .before .before .before .before .before in
+    let at-fault = c .before .before .before .before .before .before .before .before .before .before in
     let start = at-fault .before .before .before .before .before .before .before .before .before .before .before .before .before .before in
     let f = at-fault .before .before .find-item-fault .ensures .is in
     let e = at-fault .fault .given .1 in
     let h = rw e at f in
-    (start .pre .0 .lined .shaped, omega (arith, h .1))
+    (start .pre .0 .lined .shaped, omega (arith, h .1, start .pre .1 .1 .1 .1))
 
 print-user-requires : tie.Need-print-user-requires
 print-user-requires c κs = search needs
@@ -85,7 +83,7 @@ symbol-after-requires c κs =
 next-of-requires : tie.Need-next-of-requires
 next-of-requires c κs =
     let start = c .before .before .before .before .before .before .before .before .before .before .before .before .before .before .before .before .before in
-    (start .pre .1 .0, (start .pre .1 .1 .1 .0, c .before .symbol-after .ensures .1))
+    (start .pre .1 .0, (start .pre .1 .1 .1 .0 .0, c .before .symbol-after .ensures .1))
 
 print-goes-requires : tie.Need-print-goes-requires
 print-goes-requires c κs = search needs
@@ -129,7 +127,7 @@ next-of-requires-2 c κs =
     let f = at-fault3 .before .before .find-item-fault .ensures .is in
     let e = at-fault3 .fault3 .given .1 in
     let h = rw e at f in
-    (start .pre .1 .0, (start .pre .1 .1 .1 .0, h .1))
+    (start .pre .1 .0, (start .pre .1 .1 .1 .0 .0, h .1))
 
 print-goes-requires-2 : tie.Need-print-goes-requires-2
 print-goes-requires-2 c κs = search needs
@@ -158,8 +156,7 @@ dot-of-requires c κs =
 print-item-requires-3 : tie.Need-print-item-requires-3
 print-item-requires-3 c κs =
     let at-item-of = c .before .before .before in
-    let start = at-item-of .before .before .before .before .before .before .before .before .before .before .before .before .before .before .before .before
-    .before .before .before in
+    let start = at-item-of .before .before .before .before .before .before .before .before .before .before .before .before .before .before .before .before .before .before .before in
     (start .pre .0 .lined .shaped, at-item-of .item-of .ensures .1)
 
 slice-aggregate-print-text-4 : tie.Need-slice-aggregate-print-text-4
@@ -199,7 +196,6 @@ pub explain-items-spec : {M : Type 1} → statement M
 explain-items-spec =
     tie.close
     (tie.spec
-    add-count
     find-item-fault-requires
     enum-told
     slice-aggregate-print-count

@@ -2,9 +2,6 @@ use borrow.Author.Needs.{needs}
 use Rattle.explanation.proofs.explain_lookaheads.Statement.{statement}
 use Rattle.explanation.proofs.explain_lookaheads.Tie as tie
 
-add-count : tie.Need-add-count
-add-count c = search needs
-
 find-lack-requires : tie.Need-find-lack-requires
 find-lack-requires c κs =
     let start = c .before .before .before .before .before .before .before .before .before .before .before .before .before .before in
@@ -34,8 +31,7 @@ slice-aggregate-print-item c = search needs
 dot-of-requires : tie.Need-dot-of-requires
 dot-of-requires c κs =
     let at-lack = c .before .before .before .before in
-    let start = at-lack .before .before .before .before .before .before .before .before .before .before .before .before .before .before .before .before
-    .before in
+    let start = at-lack .before .before .before .before .before .before .before .before .before .before .before .before .before .before .before .before .before in
     let f = at-lack .before .before .find-lack .ensures .0 in
     let e = at-lack .lack .given .1 in
     let h = rw e at f in
@@ -44,8 +40,7 @@ dot-of-requires c κs =
 print-item-requires : tie.Need-print-item-requires
 print-item-requires c κs =
     let at-item-of = c .before .before .before in
-    let start = at-item-of .before .before .before .before .before .before .before .before .before .before .before .before .before .before .before .before
-    .before .before .before in
+    let start = at-item-of .before .before .before .before .before .before .before .before .before .before .before .before .before .before .before .before .before .before .before in
     (start .pre .0 .shaped, at-item-of .item-of .ensures .1)
 
 slice-aggregate-print-count : tie.Need-slice-aggregate-print-count
@@ -91,7 +86,6 @@ pub explain-lookaheads-spec : {M : Type 1} → statement M
 explain-lookaheads-spec =
     tie.close
     (tie.spec
-    add-count
     find-lack-requires
     enum-known-lack
     enum-told

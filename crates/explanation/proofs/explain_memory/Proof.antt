@@ -8,7 +8,7 @@ use Rattle.explanation.proofs.explain_memory.Tie as tie
 
 explain-entries-requires : tie.Need-explain-entries-requires
 explain-entries-requires c κs =
-    let S = c .before .before .before .before .before .before .before .before .before .before .pre .0 in
+    let S = c .before .before .before .before .before .before .before .before .before .before .before .before .pre .0 in
     (S .shaped, (S .few-rules, S .some-strings, S .few-strings))
 
 returns : tie.Need-returns
@@ -28,7 +28,7 @@ slice-aggregate-entries-meet c = search needs
 
 entries-meet-requires : tie.Need-entries-meet-requires
 entries-meet-requires c κs =
-    let S = c .before .before .before .before .before .before .before .before .before .before .before .pre .0 in
+    let S = c .before .before .before .before .before .before .before .before .before .before .before .before .before .before .before .before .before .pre .0 in
     (S .shaped, ((S .few-rules, S .some-strings, S .few-strings), refl))
 
 slice-aggregate-find-sets : tie.Need-slice-aggregate-find-sets
@@ -39,9 +39,9 @@ slice-aggregate-find-sets-2 c = search needs
 
 find-sets-requires : tie.Need-find-sets-requires
 find-sets-requires c κs =
-    let start = c .before .before .before .before .before .before .before .before .before .before .before .before .before .before .before in
+    let start = c .before .before .before .before .before .before .before .before .before .before .before .before .before .before .before .before .before .before .before .before .before in
     let S = start .pre .0 in
-    (shaped-less _ (S .shaped), (start .pre .1 .0, (refl, refl)))
+    (shaped-less (within _ _) (S .shaped), (start .pre .1 .0, (refl, refl)))
 
 slice-aggregate-prepare-rules : tie.Need-slice-aggregate-prepare-rules
 slice-aggregate-prepare-rules c = search needs
@@ -58,7 +58,7 @@ slice-aggregate-prepare-rules-4 c = search needs
 prepare-rules-requires : tie.Need-prepare-rules-requires
 prepare-rules-requires c κs =
     let at-find-sets = c .before .before .before .before .before .before in
-    let start = at-find-sets .before .before .before .before .before .before .before .before .before .before .before .before .before .before .before .before in
+    let start = at-find-sets .before .before .before .before .before .before .before .before .before .before .before .before .before .before .before .before .before .before .before .before .before .before in
     let S = start .pre .0 in
     let k = at-find-sets .find-sets .kept in (
       S .shaped,
@@ -70,8 +70,7 @@ slice-aggregate-link-lines c = search needs
 
 link-lines-requires : tie.Need-link-lines-requires
 link-lines-requires c κs =
-    let start = c .before .before .before .before .before .before .before .before .before .before .before .before .before .before .before .before .before
-    .before .before .before .before .before .before .before .before .before in
+    let start = c .before .before .before .before .before .before .before .before .before .before .before .before .before .before .before .before .before .before .before .before .before .before .before .before .before .before .before .before .before .before .before .before in
     (start .pre .0 .some-lines, refl)
 
 slice-aggregate-explain-state : tie.Need-slice-aggregate-explain-state
@@ -98,8 +97,8 @@ explain-state-requires c κs =
     let at-prepare-rules = at-link-lines .before .before .before .before in
     let at-find-sets = at-prepare-rules .before .before .before .before .before .before .before in
     let at-entries-meet = at-find-sets .before .before .before .before in
-    let at-if2 = at-entries-meet .before .before in
-    let start = at-if2 .before .before .before .before .before .before .before .before .before .before in
+    let at-if2 = at-entries-meet .before .before .before .before .before in
+    let start = at-if2 .before .before .before .before .before .before .before .before .before .before .before .before .before in
     let S = start .pre .0 in
     let k = at-find-sets .find-sets .kept in
     let m = at-prepare-rules .prepare-rules in (

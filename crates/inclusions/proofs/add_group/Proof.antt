@@ -29,11 +29,11 @@ add-add-lines c = search needs
 
 add-lines-requires : tie.Need-add-lines-requires
 add-lines-requires c κs =
-    let start = c .before .before .before .before .before .before .before .before .before .before .before .before .before .before .before .before .before in (
+    let start = c .before .before .before .before .before .before .before .before .before .before .before .before .before .before .before .before .before .before in (
       start .pre .0 .lined .some-lines,
       (
         start .pre .0 .lined .linked,
-        (c .before .before .wide .ensures .1, start .pre .0 .ready .few-codes, search needs, start .pre .1 .3),
+        (c .before .before .before .wide .ensures .1, start .pre .0 .ready .few-codes, search needs, start .pre .1 .3),
       ),
     )
 
@@ -42,7 +42,7 @@ same-length c = search needs
 
 returns-2 : tie.Need-returns-2
 returns-2 c =
-    let at-wide = c .before .before .before .before .before in
+    let at-wide = c .before .before .before .before .before .before in
     let at-item-first = at-wide .before .before .before in
     group-row (at-item-first .before .before .if1 .left) (at-wide .wide .ensures .0) refl
     (at-item-first .item-first .ensures) (c .before .before .add-lines .ensures)

@@ -8,13 +8,13 @@ use Rattle.inclusions.proofs.add_groups.Statement.{statement}
 use Rattle.inclusions.proofs.add_groups.Tie as tie
 
 abbrev Inv-loop : tie.InvT-loop
-Inv-loop items kernels links entries uses nul fst from count rules lines codes i start grown₀ n a₀ j₀ grown a j =
+Inv-loop items entries kernels links uses nullable first from totals i start asked₀ n a₀ j₀ asked a j =
     (n ≡ lengthAt items i)
     × (n ≤ 15)
-    × GroupsTo items kernels entries uses nul fst from rules lines codes i start grown₀ grown a j
+    × GroupsTo items kernels entries uses nullable first from (totals .rules) (totals .lines) (totals .codes) i start asked₀ asked a j
 
 abbrev μ-loop : tie.MeasureT-loop
-μ-loop items kernels links entries uses nul fst from count rules lines codes i start grown₀ n a₀ j₀ grown a j = n - a
+μ-loop items entries kernels links uses nullable first from totals i start asked₀ n a₀ j₀ asked a j = n - a
 
 length-of-requires : tie.Need-length-of-requires Inv-loop μ-loop
 length-of-requires c κs =

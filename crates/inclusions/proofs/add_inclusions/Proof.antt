@@ -13,8 +13,7 @@ add-kernel-requires c κs =
 add-rules-requires : tie.Need-add-rules-requires
 add-rules-requires c κs =
     let at-add-kernel = c .before .before .before in
-    let p = at-add-kernel .before .before .before .before .before .before .before .before .before .before .before .before .before .before .before .before
-    .pre in (
+    let p = at-add-kernel .before .before .before .before .before .before .before .before .before .before .before .before .before .before .before .before .pre in (
       p .0,
       (
         p .1 .0,

@@ -8,11 +8,11 @@ use Rattle.inclusions.proofs.add_kernel.Statement.{statement}
 use Rattle.inclusions.proofs.add_kernel.Tie as tie
 
 abbrev Inv-loop : tie.InvT-loop
-Inv-loop items kernels links lookaheads kinds values gotos entries uses nul fst count rules lines codes p grown₀ next₀ grown next =
-    LinesTo (KernelAsks items kernels lookaheads kinds values gotos entries uses nul fst rules lines codes p) kernels lines p grown₀ grown next
+Inv-loop items entries kernels links lookaheads kinds values gotos uses nullable first totals p asked₀ next₀ asked next =
+    LinesTo (KernelAsks items kernels lookaheads kinds values gotos entries uses nullable first (totals .rules) (totals .lines) (totals .codes) p) kernels (totals .lines) p asked₀ asked next
 
 abbrev μ-loop : tie.MeasureT-loop
-μ-loop items kernels links lookaheads kinds values gotos entries uses nul fst count rules lines codes p grown₀ next₀ grown next = next
+μ-loop items entries kernels links lookaheads kinds values gotos uses nullable first totals p asked₀ next₀ asked next = next
 
 last-line-requires : tie.Need-last-line-requires Inv-loop μ-loop
 last-line-requires c κs =

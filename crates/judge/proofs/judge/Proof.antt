@@ -1,6 +1,7 @@
-use mathlib.Core.Path.{refl, _∙_}
+use mathlib.Core.Path.{refl, subst, _∙_}
 use borrow.Author.Tests.{not-true, not-false}
 use borrow.Author.Needs.{needs}
+use Rattle.items.specs.Layout.{Shaped}
 use Rattle.entry_list.specs.Uses.{strings-of}
 use Rattle.judge.proofs.VerdictLaws.{list-verdict}
 use Rattle.judge.proofs.judge.Statement.{statement}
@@ -11,7 +12,7 @@ slice-aggregate-entries-meet c = search needs
 
 entries-meet-requires : tie.Need-entries-meet-requires
 entries-meet-requires c κs = let s = c .before .before .before .before .before .before .before .before .before in let S = s .pre .0 in let p = s .pre .1 in
-    (S .shaped, ((S .few-rules, S .some-strings, S .few-strings), refl))
+    (subst (Shaped _) (S .all-items) (S .shaped), ((S .few-rules, S .some-strings, S .few-strings), refl))
 
 refuse-requires : tie.Need-refuse-requires
 refuse-requires c κs = search needs
@@ -24,7 +25,7 @@ slice-aggregate-judge-entered c = search needs
 
 judge-entered-requires : tie.Need-judge-entered-requires
 judge-entered-requires c κs = let s = c .before .before .before .before .before .before .before .before .before .before .before .before .before in let S = s .pre .0 in let p = s .pre .1 in
-    (S, (p .0, p .1, c .before .before .before .entries-meet .ensures .0))
+    (S, (p .0, p .1, p .2, c .before .before .before .entries-meet .ensures .0))
 
 returns-2 : tie.Need-returns-2
 returns-2 c = λ g t G e. let d = c .before .before .before .before .entries-meet .ensures .1 g t (strings-of (G .held)) e in let b = not-false _ (c .before .before .if1 .left) in

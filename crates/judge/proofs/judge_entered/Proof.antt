@@ -1,17 +1,15 @@
 use mathlib.Core.Path.{refl, _∙_}
 use Prim.Native.Nat.{ℕ}
+use native.Mathlib.Omega.{arith}
 use lib.ListN.{length-replicate}
 use borrow.Author.Needs.{needs}
-use Rattle.judge.proofs.StateLaws.{within}
-use Rattle.judge.proofs.PassLaws.{lines-room, few-codes-of, two-of, shaped-less, holds-of, terminals-are, pass-verdict}
+use Rattle.judge.proofs.StateLaws.{few-of}
+use Rattle.judge.proofs.PassLaws.{lines-room, two-of, shaped-less, holds-of, terminals-are, pass-verdict}
 use Rattle.judge.proofs.judge_entered.Statement.{statement}
 use Rattle.judge.proofs.judge_entered.Tie as tie
 
-add-count : tie.Need-add-count
-add-count c = search needs
-
-add-codes : tie.Need-add-codes
-add-codes c = search needs
+sub-find-sets : tie.Need-sub-find-sets
+sub-find-sets c = search needs
 
 slice-aggregate-find-sets : tie.Need-slice-aggregate-find-sets
 slice-aggregate-find-sets c = search needs
@@ -21,10 +19,10 @@ slice-aggregate-find-sets-2 c = search needs
 
 find-sets-requires : tie.Need-find-sets-requires
 find-sets-requires c κs =
-    let s = c .before .before .before .before .before .before .before .before .before .before .before in
+    let s = c .before .before .before .before .before .before .before .before .before .before .before .before in
     let S = s .pre .0 in
     let p = s .pre .1 in
-    (shaped-less _ (S .shaped), (p .0, (refl, refl)))
+    (shaped-less (few-of S) (S .shaped), (omega (arith, p .1), (refl, refl)))
 
 slice-aggregate-prepare-rules : tie.Need-slice-aggregate-prepare-rules
 slice-aggregate-prepare-rules c = search needs
@@ -40,17 +38,17 @@ slice-aggregate-prepare-rules-4 c = search needs
 
 prepare-rules-requires : tie.Need-prepare-rules-requires
 prepare-rules-requires c κs =
-    let s = c .before .before .before .before .before .before .before .before .before .before .before .before .before .before .before .before .before .before in
+    let s = c .before .before .before .before .before .before .before .before .before .before .before .before .before .before .before .before .before .before .before in
     let S = s .pre .0 in
     let p = s .pre .1 in
-    let k = c .before .before .before .before .before .before .find-sets .kept in (S .shaped, ((within _ _, S .few-rules, few-codes-of (p .0)), ((k .1 .1 .1 .0, k .1 .1 .1 .1 .0), (refl, refl))))
+    let k = c .before .before .before .before .before .before .find-sets .kept in (S .shaped, ((few-of S, S .few-rules, p .1), ((k .1 .1 .1 .0, k .1 .1 .1 .1 .0), (refl, refl))))
 
 slice-aggregate-link-lines : tie.Need-slice-aggregate-link-lines
 slice-aggregate-link-lines c = search needs
 
 link-lines-requires : tie.Need-link-lines-requires
 link-lines-requires c κs =
-    let s = c .before .before .before .before .before .before .before .before .before .before .before .before .before .before .before .before .before .before .before .before .before .before in
+    let s = c .before .before .before .before .before .before .before .before .before .before .before .before .before .before .before .before .before .before .before .before .before .before .before in
     let S = s .pre .0 in
     let p = s .pre .1 in
     (S .some-lines, refl)
@@ -75,12 +73,12 @@ slice-aggregate-judge-states-6 c = search needs
 
 judge-states-requires : tie.Need-judge-states-requires
 judge-states-requires c κs =
-    let s = c .before .before .before .before .before .before .before .before .before .before .before .before .before .before .before .before .before .before .before .before .before .before .before .before .before .before .before .before .before .before in
+    let s = c .before .before .before .before .before .before .before .before .before .before .before .before .before .before .before .before .before .before .before .before .before .before .before .before .before .before .before .before .before .before .before in
     let S = s .pre .0 in
     let p = s .pre .1 in
     let k = c .before .before .before .before .before .before .before .before .before .before .before .before .before .before .before .before .before .before .find-sets .kept in
     let m = c .before .before .before .before .before .before .before .before .before .before .before .prepare-rules in
-    (S, (record { linked = c .before .before .before .before .before .before .before .link-lines .ensures; uses-room = p .2; nul-room = k .1 .1 .1 .0; fst-room = k .1 .1 .1 .1 .0; starts-room = m .kept .1 .1 .1 .1 .1 .1 .0; through-room = m .kept .1 .1 .1 .1 .1 .1 .1 .0; prepared = m .ensures; few-codes = few-codes-of (p .0) }, (p .1, refl)))
+    (S, (record { linked = c .before .before .before .before .before .before .before .link-lines .ensures; uses-room = p .3; nul-room = k .1 .1 .1 .0; fst-room = k .1 .1 .1 .1 .0; starts-room = m .kept .1 .1 .1 .1 .1 .1 .0; through-room = m .kept .1 .1 .1 .1 .1 .1 .1 .0; prepared = m .ensures; few-codes = p .1 }, (p .2, refl)))
 
 slice-aggregate-mark-narrow : tie.Need-slice-aggregate-mark-narrow
 slice-aggregate-mark-narrow c = search needs
@@ -90,10 +88,10 @@ slice-aggregate-mark-narrow-2 c = search needs
 
 mark-narrow-requires : tie.Need-mark-narrow-requires
 mark-narrow-requires c κs =
-    let s = c .before .before .before .before .before .before .before .before .before .before .before .before .before .before .before .before .before .before .before .before .before .before .before .before .before .before .before .before .before .before .before .before .before .before in
+    let s = c .before .before .before .before .before .before .before .before .before .before .before .before .before .before .before .before .before .before .before .before .before .before .before .before .before .before .before .before .before .before .before .before .before .before .before in
     let S = s .pre .0 in
     let p = s .pre .1 in
-    (S .some-lines, (few-codes-of (p .0), lines-room (S .some-lines .few) (c .before .before .before .judge-states .ensures .0), S .codes-room, refl))
+    (S .some-lines, (p .1, lines-room (S .some-lines .few) (c .before .before .before .judge-states .ensures .0), S .codes-room, refl))
 
 slice-aggregate-mark-goal : tie.Need-slice-aggregate-mark-goal
 slice-aggregate-mark-goal c = search needs
@@ -103,7 +101,7 @@ slice-aggregate-mark-goal-2 c = search needs
 
 mark-goal-requires : tie.Need-mark-goal-requires
 mark-goal-requires c κs =
-    let s = c .before .before .before .before .before .before .before .before .before .before .before .before .before .before .before .before .before .before .before .before .before .before .before .before .before .before .before .before .before .before .before .before .before .before .before .before .before .before in
+    let s = c .before .before .before .before .before .before .before .before .before .before .before .before .before .before .before .before .before .before .before .before .before .before .before .before .before .before .before .before .before .before .before .before .before .before .before .before .before .before .before in
     let S = s .pre .0 in
     let p = s .pre .1 in
     (S .some-lines, (c .before .before .before .before .before .before .before .before .before .before .before .before .before .before .before .link-lines .ensures, (S .few-rules, S .codes-room, two-of (S .entries-room), c .before .before .before .mark-narrow .ensures .narrowing .long ∙ length-replicate {A = ℕ} 256 0)))
@@ -113,10 +111,10 @@ slice-aggregate-lowest-set c = search needs
 
 lowest-set-requires : tie.Need-lowest-set-requires
 lowest-set-requires c κs =
-    let s = c .before .before .before .before .before .before .before .before .before .before .before .before .before .before .before .before .before .before .before .before .before .before .before .before .before .before .before .before .before .before .before .before .before .before .before .before .before .before .before .before .before in
+    let s = c .before .before .before .before .before .before .before .before .before .before .before .before .before .before .before .before .before .before .before .before .before .before .before .before .before .before .before .before .before .before .before .before .before .before .before .before .before .before .before .before .before .before in
     let S = s .pre .0 in
     let p = s .pre .1 in
-    (p .1, c .before .before .mark-goal .ensures .0)
+    (p .2, c .before .before .mark-goal .ensures .0)
 
 answer-requires : tie.Need-answer-requires
 answer-requires c κs = search needs
@@ -126,7 +124,7 @@ returns c =
     let at-mark-narrow = c .before .before .before .before .before .before .before .before in
     let at-judge-states = at-mark-narrow .before .before .before .before in
     let at-find-sets = at-judge-states .before .before .before .before .before .before .before .before .before .before .before .before .before .before .before .before .before .before .before in
-    let start = at-find-sets .before .before .before .before .before .before .before .before .before .before .before .before in
+    let start = at-find-sets .before .before .before .before .before .before .before .before .before .before .before .before .before in
     λ g t G U E. c .answer .ensures ∙ pass-verdict g t G E (at-find-sets .find-sets .ensures g (holds-of (G .held)) (terminals-are (G .code-count))) _ _ _ _
     (at-judge-states .judge-states .ensures .1 g t G U) 256 refl (at-mark-narrow .mark-narrow .ensures) (c .before .before .before .before .mark-goal .ensures .1 g t _ _ _ _ (start .pre .0 .some-strings) (G .held)) (c .before .lowest-set .ensures)
 
@@ -134,8 +132,7 @@ pub judge-entered-spec : {M : Type 1} → statement M
 judge-entered-spec =
     tie.close
     (tie.spec
-    add-count
-    add-codes
+    sub-find-sets
     slice-aggregate-find-sets
     slice-aggregate-find-sets-2
     find-sets-requires

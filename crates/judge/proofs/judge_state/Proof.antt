@@ -5,13 +5,10 @@ use Rattle.leftcorner.specs.Construction.{ItemsMeet}
 use Rattle.fixpoint.specs.Flags.{Decides}
 use Rattle.moves.specs.Flags.{present-of}
 use Rattle.conformance.proofs.ItemLaws.{items-decided}
-use Rattle.judge.proofs.StateLaws.{within, in-room, few-items, readable-of, ready-of, sourced-of, memory-of, held-at}
+use Rattle.judge.proofs.StateLaws.{few-of, in-room, few-items, readable-of, ready-of, sourced-of, memory-of, held-at}
 use Rattle.judge.proofs.PassLaws.{lines-room}
 use Rattle.judge.proofs.judge_state.Statement.{statement}
 use Rattle.judge.proofs.judge_state.Tie as tie
-
-add-count : tie.Need-add-count
-add-count c = search needs
 
 slice-aggregate-close-state : tie.Need-slice-aggregate-close-state
 slice-aggregate-close-state c = search needs
@@ -25,7 +22,7 @@ close-state-requires c κs =
     let S = s .pre .0 in
     let C = s .pre .1 .0 in
     let low = s .pre .1 .1 .1 in
-    (S .shaped, ((within _ _, S .few-rules, C .few-codes), (S .some-lines, (S .codes-room, ((C .nul-room, C .fst-room, C .starts-room, C .through-room), (C .prepared, (refl, refl)))))))
+    (S .shaped, ((few-of S, S .few-rules, C .few-codes), (S .some-lines, (S .codes-room, ((C .nul-room, C .fst-room, C .starts-room, C .through-room), (C .prepared, (refl, refl)))))))
 
 slice-aggregate-flag-moves : tie.Need-slice-aggregate-flag-moves
 slice-aggregate-flag-moves c = search needs
@@ -71,7 +68,7 @@ add-inclusions-requires c κs =
     let S = s .pre .0 in
     let C = s .pre .1 .0 in
     let low = s .pre .1 .1 .1 in
-    (sourced-of S C, (S .cells-room, (low, at-close-state .close-state .kept .1 .1 .1 .1 .1 .1 .1 .1 .1 .1 .1 .1 .0, at-close-state .close-state .kept .1 .1 .1 .1 .1 .1 .1 .1 .1 .1 .1 .1 .1 .0, S .codes-room, lines-room (S .some-lines .few) (s .pre .1 .1 .2))))
+    (sourced-of S C, (S .cells-room, (low, at-close-state .close-state .kept .1 .1 .1 .1 .1 .1 .1 .1 .1 .0, at-close-state .close-state .kept .1 .1 .1 .1 .1 .1 .1 .1 .1 .1 .0, S .codes-room, lines-room (S .some-lines .few) (s .pre .1 .1 .2))))
 
 slice-aggregate-ask-cells : tie.Need-slice-aggregate-ask-cells
 slice-aggregate-ask-cells c = search needs
@@ -96,8 +93,8 @@ ask-cells-requires c κs =
     let S = s .pre .0 in
     let C = s .pre .1 .0 in
     let low = s .pre .1 .1 .1 in
-    let kept = at-close-state .close-state .kept .1 .1 .1 .1 .1 .1 .1 .1 .1 .1 .1 .1 in
-    (readable-of S C (kept .0), (ready-of S C, ((few-items (S .few-rules) (S .few-strings), low, S .codes-room), ((kept .1 .0, at-flag-moves .flag-moves .ensures .0), (refl, refl)))))
+    let kept = at-close-state .close-state .kept .1 .1 .1 .1 .1 .1 .1 .1 .1 in
+    (readable-of S C (kept .0), (ready-of S C, ((few-items S, low, S .codes-room), ((kept .1 .0, at-flag-moves .flag-moves .ensures .0), (refl, refl)))))
 
 slice-aggregate-cells-meet : tie.Need-slice-aggregate-cells-meet
 slice-aggregate-cells-meet c = search needs
@@ -145,7 +142,6 @@ pub judge-state-spec : {M : Type 1} → statement M
 judge-state-spec =
     tie.close
     (tie.spec
-    add-count
     slice-aggregate-close-state
     slice-aggregate-close-state-2
     close-state-requires

@@ -16,19 +16,19 @@ use Rattle.judge.proofs.judge_states.Statement.{statement}
 use Rattle.judge.proofs.judge_states.Tie as tie
 
 abbrev Inv-loop : tie.InvT-loop
-Inv-loop items entries kernels links lookaheads kinds values gotos named uses nul fst starts through rules strings lines codes states grown₀ wrong₀ clash₀ other₀ q₀ grown wrong clash other q =
-    (1 ≤ q) × (q ≤ states + 1) × (length grown ≡ 65536) × ((g : Grammar) (t : Table) → Given g t items entries kernels lookaheads kinds values gotos named rules strings lines states codes
-    → HoldsUses uses g t → Found g t (FirstBy codes nul fst) kernels lines codes q wrong clash other grown)
+Inv-loop items entries kernels links lookaheads kinds values gotos named uses nullable first starts through totals asked₀ wrong₀ clash₀ other₀ q₀ asked wrong clash other q =
+    (1 ≤ q) × (q ≤ totals .states + 1) × (length asked ≡ 65536) × ((g : Grammar) (t : Table) → Given g t items entries kernels lookaheads kinds values gotos named (totals .rules) (totals .entries) (totals .lines) (totals .states) (totals .codes)
+    → HoldsUses uses g t → Found g t (FirstBy (totals .codes) nullable first) kernels (totals .lines) (totals .codes) q wrong clash other asked)
 
 abbrev μ-loop : tie.MeasureT-loop
-μ-loop items entries kernels links lookaheads kinds values gotos named uses nul fst starts through rules strings lines codes states grown₀ wrong₀ clash₀ other₀ q₀ grown wrong clash other q =
-    states + 1 - q
+μ-loop items entries kernels links lookaheads kinds values gotos named uses nullable first starts through totals asked₀ wrong₀ clash₀ other₀ q₀ asked wrong clash other q =
+    totals .states + 1 - q
 
 loop-holds : tie.Need-loop-holds Inv-loop μ-loop
 loop-holds c = let z = c .before .before .before .before .before .before .before .before .before .before .before .before .before .before .before .pre .1 .1 .1 in (omega arith, omega arith, ap length z ∙ length-replicate {A = ℕ} 65536 0, λ g t G U. found-start g t _ _ _ _ (zeros-of 65536 z))
 
 judge-state-requires : tie.Need-judge-state-requires Inv-loop μ-loop
-judge-state-requires c κs = let s = c .before .before .before .before .before .before .before .before .before .before .before .before .before .before .before .before .before .before in let i = c .before .before .loop .inv in (s .pre .0, (s .pre .1 .0, (i .0, low-state (c .before .loop-test .taken) (s .pre .1 .1 .0), i .2)))
+judge-state-requires c κs = let s = c .before .before .before .before .before .before .before .before .before .before .before .before .before .before .before .before .before .before .before in let i = c .before .before .before .loop .inv in (s .pre .0, (s .pre .1 .0, (i .0, low-state (c .before .if1 .taken) (s .pre .1 .1 .0), i .2)))
 
 note-requires : tie.Need-note-requires Inv-loop μ-loop
 note-requires c κs = search needs
@@ -40,24 +40,24 @@ note-requires-3 : tie.Need-note-requires-3 Inv-loop μ-loop
 note-requires-3 c κs = search needs
 
 add-q : tie.Need-add-q Inv-loop μ-loop
-add-q c = search (needs, low-state (c .before .before .before .before .before .before .before .loop-test .taken) (c .before .before .before .before .before .before .before .before .before .before .before .before .before .before .before .before .before .before .before .before .before .before .before .before .pre .1 .1 .0))
+add-q c = search (needs, low-state (c .before .before .before .before .before .before .before .if1 .taken) (c .before .before .before .before .before .before .before .before .before .before .before .before .before .before .before .before .before .before .before .before .before .before .before .before .before .pre .1 .1 .0))
 
 loop-less : tie.Need-loop-less Inv-loop μ-loop
 loop-less c = search needs
 
 loop-again : tie.Need-loop-again Inv-loop μ-loop
-loop-again c = let i = c .before .before .before .before .before .before .before .before .loop .inv in let j = c .before .before .before .before .before .judge-state .ensures in (
+loop-again c = let i = c .before .before .before .before .before .before .before .before .before .loop .inv in let j = c .before .before .before .before .before .judge-state .ensures in (
   omega arith,
   omega arith,
   j .0,
-  λ g t G U. found-noted g t _ (i .0) (c .before .before .note .ensures) (c .before .note2 .ensures) (c .note3 .ensures) (i .3 g t G U) (j .1 g t _ G U (c .before .before .before .before .before .before .before .loop-test .taken)),
+  λ g t G U. found-noted g t _ (i .0) (c .before .before .note .ensures) (c .before .note2 .ensures) (c .note3 .ensures) (i .3 g t G U) (j .1 g t _ G U (c .before .before .before .before .before .before .before .if1 .taken)),
 )
 
 same-length : tie.Need-same-length Inv-loop μ-loop
-same-length c = c .before .loop .inv .2 ∙ sym (ap length (c .before .before .before .before .before .before .before .before .before .before .before .before .before .before .before .before .before .pre .1 .1 .1) ∙ length-replicate {A = ℕ} 65536 0)
+same-length c = c .before .before .loop .inv .2 ∙ sym (ap length (c .before .before .before .before .before .before .before .before .before .before .before .before .before .before .before .before .before .before .pre .1 .1 .1) ∙ length-replicate {A = ℕ} 65536 0)
 
 returns : tie.Need-returns Inv-loop μ-loop
-returns c = let i = c .before .loop .inv in (i .2, λ g t G U. found-end g t _ (i .1) (c .loop-test .left) (i .3 g t G U))
+returns c = let i = c .before .before .loop .inv in (i .2, λ g t G U. found-end g t _ (i .1) (c .if1 .left) (i .3 g t G U))
 
 pub judge-states-spec : {M : Type 1} → statement M
 judge-states-spec =

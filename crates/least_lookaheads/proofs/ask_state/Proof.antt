@@ -36,8 +36,7 @@ slice-aggregate-add-inclusions-2 c = search needs
 
 add-inclusions-requires : tie.Need-add-inclusions-requires
 add-inclusions-requires c κs =
-    let p = c .before .before .before .before .before .before .before .before .before .before .before .before .before .before .before .before .before .before
-    .before .before .before .before .pre in
+    let p = c .before .before .before .before .before .before .before .before .before .before .before .before .before .before .before .before .before .before .before .before .before .before .pre in
     (p .0, (p .1 .0, (p .1 .1 .1 .1 .0, search needs, search needs, p .1 .1 .1 .1 .1, p .1 .1 .1 .1 .2)))
 
 same-length : tie.Need-same-length

@@ -9,19 +9,12 @@ use Rattle.least_lookaheads.proofs.find_lookaheads.Statement.{statement
 use Rattle.least_lookaheads.proofs.find_lookaheads.Tie as tie
 
 abbrev Inv-passes : tie.InvT-passes
-Inv-passes items kernels links kinds values gotos entries uses nul fst starts through rules strings lines all codes
-    lookaheads₀ count changed₀ grown₀ lookaheads changed grown =
-    Passing items entries uses kernels kinds values gotos nul fst rules strings lines all codes lookaheads₀ changed
-    grown lookaheads
+Inv-passes items entries kernels links kinds values gotos uses nullable first starts through totals lookaheads₀ changed₀ asked₀ lookaheads changed asked =
+    Passing items entries uses kernels kinds values gotos nullable first (totals .rules) (totals .entries) (totals .lines) (totals .states) (totals .codes) lookaheads₀ changed
+    asked lookaheads
 
 abbrev μ-passes : tie.MeasureT-passes
-μ-passes items kernels links kinds values gotos entries uses nul fst starts through rules strings lines all codes
-    lookaheads₀ count changed₀ grown₀ lookaheads changed grown = zeros lookaheads
-
-add-count : tie.Need-add-count Inv-passes μ-passes
-add-count c =
-    let start = c .before .before .before .before .before .before .before .before .before .before .before .before .before in
-    omega (arith, start .pre .0 .few-rules, start .pre .1 .1 .1 .1 .1)
+μ-passes items entries kernels links kinds values gotos uses nullable first starts through totals lookaheads₀ changed₀ asked₀ lookaheads changed asked = zeros lookaheads
 
 clear-requires : tie.Need-clear-requires Inv-passes μ-passes
 clear-requires c κs = search needs
@@ -34,13 +27,12 @@ slice-aggregate-add-lines c = search needs
 
 add-add-lines : tie.Need-add-add-lines Inv-passes μ-passes
 add-add-lines c =
-    let start = c .before .before .before .before .before .before .before .before .before .before .before .before .before .before .before .before .before
-    .before in
+    let start = c .before .before .before .before .before .before .before .before .before .before .before .before .before .before .before .before .before .before .before in
     omega (arith, start .pre .0 .few-rules)
 
 add-lines-requires : tie.Need-add-lines-requires Inv-passes μ-passes
 add-lines-requires c κs =
-    let at-clear = c .before .before .before .before in
+    let at-clear = c .before .before .before .before .before in
     let start = at-clear .before .before .before .before .before .before .before .before .before .before .before .before .before .before .before in
     let p = start .pre in (
       p .0 .lined .some-lines,
@@ -50,15 +42,14 @@ add-lines-requires c κs =
           omega arith,
           omega arith,
           search needs,
-          omega (arith, zeroed {n = length (start .args .lookaheads .now)} (at-clear .clear .ensures) refl, p .1 .1 .1 .1 .2),
+          omega (arith, zeroed {n = length (start .args .lookaheads .now)} (at-clear .clear .ensures) refl, p .1 .1 .1 .1 .1),
         ),
       ),
     )
 
 passes-holds : tie.Need-passes-holds Inv-passes μ-passes
 passes-holds c =
-    let start = c .before .before .before .before .before .before .before .before .before .before .before .before .before .before .before .before .before
-    .before .before .before .before .before in
+    let start = c .before .before .before .before .before .before .before .before .before .before .before .before .before .before .before .before .before .before .before .before .before .before .before in
     passing-start _ refl refl (start .pre .1 .1 .1 .1 .0)
 
 slice-aggregate-make-pass : tie.Need-slice-aggregate-make-pass Inv-passes μ-passes
@@ -71,7 +62,7 @@ make-pass-requires : tie.Need-make-pass-requires Inv-passes μ-passes
 make-pass-requires c κs =
     let at-passes = c .before .before .before in
     let at-add-lines = at-passes .before .before .before in
-    let at-clear = at-add-lines .before .before .before .before .before in
+    let at-clear = at-add-lines .before .before .before .before .before .before in
     let start = at-clear .before .before .before .before .before .before .before .before .before .before .before .before .before .before .before in
     let p = start .pre in
     let o = at-passes .passes .inv in (
@@ -91,7 +82,7 @@ make-pass-requires c κs =
                 o .long,
                 at-add-lines .add-lines .ensures .long,
                 zeroed {n = length (start .args .lookaheads .now)} (at-clear .clear .ensures) refl,
-                p .1 .1 .1 .1 .2,
+                p .1 .1 .1 .1 .1,
               ),
             ),
           ),
@@ -106,8 +97,7 @@ passes-again : tie.Need-passes-again Inv-passes μ-passes
 passes-again c =
     let at-make-pass = c .before .before .before .before .before in
     let at-passes = at-make-pass .before .before .before .before in
-    let start = at-passes .before .before .before .before .before .before .before .before .before .before .before .before .before .before .before .before
-    .before .before .before .before .before .before .before in
+    let start = at-passes .before .before .before .before .before .before .before .before .before .before .before .before .before .before .before .before .before .before .before .before .before .before .before .before in
     passing-more (at-passes .passes .inv) (start .pre .0 .ready .few-codes) (at-make-pass .make-pass .ensures)
 
 same-length : tie.Need-same-length Inv-passes μ-passes
@@ -115,7 +105,7 @@ same-length c =
     let at-make-pass = c .before .before .before .before .before in
     let at-passes = at-make-pass .before .before .before .before in
     let at-add-lines = at-passes .before .before .before in
-    let at-clear = at-add-lines .before .before .before .before .before in
+    let at-clear = at-add-lines .before .before .before .before .before .before in
     let start = at-clear .before .before .before .before .before .before .before .before .before .before .before .before .before .before .before in
     at-make-pass .make-pass .ensures .merged .long
     ∙ (at-passes .passes .inv .long
@@ -127,7 +117,7 @@ returns c =
     let at-make-pass = c .before .before .before .before .before in
     let at-passes = at-make-pass .before .before .before .before in
     let at-add-lines = at-passes .before .before .before in
-    let at-clear = at-add-lines .before .before .before .before .before in
+    let at-clear = at-add-lines .before .before .before .before .before .before in
     let start = at-clear .before .before .before .before .before .before .before .before .before .before .before .before .before .before .before in
     λ g S.
     found-all (at-passes .passes .inv) (start .pre .0 .ready .few-codes) (at-make-pass .make-pass .ensures)
@@ -140,7 +130,6 @@ find-lookaheads-spec =
     (tie.spec
     Inv-passes
     μ-passes
-    add-count
     clear-requires
     array-write-row
     slice-aggregate-add-lines

@@ -8,8 +8,7 @@ use Rattle.least_lookaheads.proofs.make_pass.Tie as tie
 
 ask-states-requires : tie.Need-ask-states-requires
 ask-states-requires c κs =
-    let p = c .before .before .before .before .before .before .before .before .before .before .before .before .before .before .before .before .before .before
-    .pre in (
+    let p = c .before .before .before .before .before .before .before .before .before .before .before .before .before .before .before .before .before .before .pre in (
       p .0,
       (
         p .1 .0,
@@ -24,8 +23,7 @@ add-flags-requires : tie.Need-add-flags-requires
 add-flags-requires c κs =
     let at-clear = c .before .before .before .before .before in
     let at-ask-states = at-clear .before .before .before .before in
-    let start = at-ask-states .before .before .before .before .before .before .before .before .before .before .before .before .before .before .before .before
-    .before .before .before in
+    let start = at-ask-states .before .before .before .before .before .before .before .before .before .before .before .before .before .before .before .before .before .before .before in
     let p = start .pre in (
       p .0 .lined .some-lines,
       (
@@ -38,8 +36,7 @@ add-flags-requires c κs =
 same-length : tie.Need-same-length
 same-length c =
     let at-add-flags = c .before .before .before .before in
-    let start = at-add-flags .before .before .before .before .before .before .before .before .before .before .before .before .before .before .before .before
-    .before .before .before .before .before .before .before .before .before .before .before .before .before in
+    let start = at-add-flags .before .before .before .before .before .before .before .before .before .before .before .before .before .before .before .before .before .before .before .before .before .before .before .before .before .before .before .before .before in
     at-add-flags .add-flags .ensures .1 ∙ sym (start .pre .1 .1 .1 .1 .1)
 
 same-length-2 : tie.Need-same-length-2
@@ -54,8 +51,7 @@ returns : tie.Need-returns
 returns c =
     let at-add-flags = c .before .before .before .before in
     let at-ask-states = at-add-flags .before .before .before .before .before .before .before .before .before .before in
-    let start = at-ask-states .before .before .before .before .before .before .before .before .before .before .before .before .before .before .before .before
-    .before .before .before in
+    let start = at-ask-states .before .before .before .before .before .before .before .before .before .before .before .before .before .before .before .before .before .before .before in
     record {
       asked = at-ask-states .ask-states .ensures;
       merged = at-add-flags .add-flags .ensures .0;

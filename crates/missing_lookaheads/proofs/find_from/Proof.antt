@@ -4,13 +4,10 @@ use mathlib.Core.Path.{refl}
 use native.Mathlib.Omega.{arith}
 use borrow.Author.Needs.{needs}
 use lib.ListN.{length-replicate}
-use Rattle.judge.proofs.StateLaws.{within, sourced-of, memory-of}
+use Rattle.judge.proofs.StateLaws.{few-of, sourced-of, memory-of}
 use Rattle.missing_lookaheads.proofs.LackLaws.{lack-at, state-lack}
 use Rattle.missing_lookaheads.proofs.find_from.Statement.{statement}
 use Rattle.missing_lookaheads.proofs.find_from.Tie as tie
-
-add-count : tie.Need-add-count
-add-count c = search needs
 
 slice-aggregate-close-state : tie.Need-slice-aggregate-close-state
 slice-aggregate-close-state c = search needs
@@ -25,7 +22,7 @@ close-state-requires c κs =
     let C = p .1 .0 in (
       S .shaped,
       (
-        (within _ _, S .few-rules, C .few-codes),
+        (few-of S, S .few-rules, C .few-codes),
         (
           S .some-lines,
           (S .codes-room, ((C .nul-room, C .fst-room, C .starts-room, C .through-room), (C .prepared, (refl, refl)))),
@@ -45,11 +42,10 @@ slice-aggregate-add-inclusions-3 c = search needs
 add-inclusions-requires : tie.Need-add-inclusions-requires
 add-inclusions-requires c κs =
     let at-close-state = c .before .before .before .before .before in
-    let p = at-close-state .before .before .before .before .before .before .before .before .before .before .before .before .before .before .before .before
-    .before .pre in
+    let p = at-close-state .before .before .before .before .before .before .before .before .before .before .before .before .before .before .before .before .before .pre in
     let S = p .0 in
     let C = p .1 .0 in
-    let k = at-close-state .close-state .kept .1 .1 .1 .1 .1 .1 .1 .1 .1 .1 .1 .1 in (
+    let k = at-close-state .close-state .kept .1 .1 .1 .1 .1 .1 .1 .1 .1 in (
       sourced-of S C,
       (
         S .cells-room,
@@ -62,8 +58,7 @@ slice-aggregate-find-asked c = search needs
 
 find-asked-requires : tie.Need-find-asked-requires
 find-asked-requires c κs =
-    let p = c .before .before .before .before .before .before .before .before .before .before .before .before .before .before .before .before .before .before
-    .before .before .before .before .before .before .before .pre in
+    let p = c .before .before .before .before .before .before .before .before .before .before .before .before .before .before .before .before .before .before .before .before .before .before .before .before .before .pre in
     let S = p .0 in
     let C = p .1 .0 in
     let long = c .before .before .add-inclusions .ensures .0 .long in (
@@ -82,8 +77,7 @@ find-asked-requires c κs =
 returns : tie.Need-returns
 returns c =
     let at-close-state = c .before .before .before .before .before .before .before .before .before in
-    let start = at-close-state .before .before .before .before .before .before .before .before .before .before .before .before .before .before .before
-    .before .before in (
+    let start = at-close-state .before .before .before .before .before .before .before .before .before .before .before .before .before .before .before .before .before in (
       lack-at (omega arith) _ (c .find-asked .ensures),
       λ g t states G U.
           state-lack g t (G .held) _ _ (G .code-count) (start .pre .1 .1 .0) 65536 refl
@@ -96,7 +90,6 @@ pub find-from-spec : {M : Type 1} → statement M
 find-from-spec =
     tie.close
     (tie.spec
-    add-count
     slice-aggregate-close-state
     slice-aggregate-close-state-2
     close-state-requires

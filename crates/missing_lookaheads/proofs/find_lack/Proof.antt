@@ -13,20 +13,16 @@ use Rattle.missing_lookaheads.proofs.find_lack.Statement.{statement}
 use Rattle.missing_lookaheads.proofs.find_lack.Tie as tie
 
 abbrev Inv-loop : tie.InvT-loop
-Inv-loop items entries kernels links lookaheads kinds values gotos named uses nul fst starts through rules strings lines
-    codes states q p₀ p =
+Inv-loop items entries kernels links lookaheads kinds values gotos named uses nullable first starts through totals q p₀ p =
     (1 ≤ p)
-    × (p ≤ states + 1)
+    × (p ≤ totals .states + 1)
     × ((g : Grammar) (t : Table)
-    → Given g t items entries kernels lookaheads kinds values gotos named rules strings lines states codes
+    → Given g t items entries kernels lookaheads kinds values gotos named (totals .rules) (totals .entries) (totals .lines) (totals .states) (totals .codes)
     → HoldsUses uses g t
-    → LookaheadsBelow g t (FirstBy codes nul fst) p q)
+    → LookaheadsBelow g t (FirstBy (totals .codes) nullable first) p q)
 
 abbrev μ-loop : tie.MeasureT-loop
-μ-loop items entries kernels links lookaheads kinds values gotos named uses nul fst starts through rules strings lines codes states q p₀ p = states + 1 - p
-
-add-find-goal : tie.Need-add-find-goal Inv-loop μ-loop
-add-find-goal c = search needs
+μ-loop items entries kernels links lookaheads kinds values gotos named uses nullable first starts through totals q p₀ p = totals .states + 1 - p
 
 find-goal-requires : tie.Need-find-goal-requires Inv-loop μ-loop
 find-goal-requires c κs =
@@ -44,7 +40,7 @@ returns : tie.Need-returns Inv-loop μ-loop
 returns c =
     let start = c .before .before .before .before .before .before .before .before .before .before .before .before .before .before .before .before .before in
     let f = c .before .before .find-goal in (
-      f .ensures .0 (start .args .codes) (start .pre .1 .1 .0),
+      f .ensures .0 (start .args .totals .codes) (start .pre .1 .1 .0),
       λ g t G U. still (f .ensures .1 g t _ _ _ _ _ _ _ _ (start .pre .0 .some-strings) (G .held)) (c .enum-told2 .given .1),
     )
 
@@ -53,9 +49,8 @@ loop-holds c = (omega arith, omega arith, λ g t G U. below-none g t _)
 
 find-from-requires : tie.Need-find-from-requires Inv-loop μ-loop
 find-from-requires c κs =
-    let p = c .before .before .before .before .before .before .before .before .before .before .before .before .before .before .before .before .before .before
-    .before .pre in
-    (p .0, (p .1 .0, (c .before .loop .inv .0, omega (arith, p .1 .1 .1), p .1 .1 .2)))
+    let p = c .before .before .before .before .before .before .before .before .before .before .before .before .before .before .before .before .before .before .before .before .pre in
+    (p .0, (p .1 .0, (c .before .before .loop .inv .0, omega (arith, p .1 .1 .1), p .1 .1 .2)))
 
 enum-told-3 : tie.Need-enum-told-3 Inv-loop μ-loop
 enum-told-3 c = search needs
@@ -68,10 +63,9 @@ returns-2 c = let f = c .before .before .find-from .ensures in (f .0, λ g t G U
 
 add-p : tie.Need-add-p Inv-loop μ-loop
 add-p c =
-    let at-loop-test = c .before .before .before in
-    let start = at-loop-test .before .before .before .before .before .before .before .before .before .before .before .before .before .before .before .before
-    .before .before .before in
-    omega (arith, at-loop-test .loop-test .taken, start .pre .1 .1 .1)
+    let at-if1 = c .before .before .before in
+    let start = at-if1 .before .before .before .before .before .before .before .before .before .before .before .before .before .before .before .before .before .before .before .before in
+    omega (arith, at-if1 .if1 .taken, start .pre .1 .1 .1)
 
 loop-less : tie.Need-loop-less Inv-loop μ-loop
 loop-less c = search needs
@@ -81,21 +75,21 @@ loop-again c = (
   omega arith,
   omega arith,
   λ g t G U.
-      below-more g t _ (c .before .before .before .before .loop .inv .2 g t G U)
+      below-more g t _ (c .before .before .before .before .before .loop .inv .2 g t G U)
       (fine (c .before .before .find-from .ensures .1 g t _ G U) (c .enum-told3 .given .1)),
 )
 
 returns-3 : tie.Need-returns-3 Inv-loop μ-loop
 returns-3 c =
-    let at-find-goal = c .before .before .before .before in
+    let at-find-goal = c .before .before .before .before .before in
     let start = at-find-goal .before .before .before .before .before .before .before .before .before .before .before .before .before .before .before in (
       tt,
       λ g t G U. record {
-        is = lookaheads-all g t _ (G .held .fits .form) (omega (arith, G .state-count, c .loop-test .left)) _
-            (c .before .loop .inv .2 g t G U) (fine (at-find-goal .find-goal .ensures .1 g t _ _ _ _
-            (start .args .nul .now) (start .args .fst .now) _ (start .args .codes) (start .pre .0 .some-strings)
+        is = lookaheads-all g t _ (G .held .fits .form) (omega (arith, G .state-count, c .if1 .left)) _
+            (c .before .before .loop .inv .2 g t G U) (fine (at-find-goal .find-goal .ensures .1 g t _ _ _ _
+            (start .args .nullable .now) (start .args .first .now) _ (start .args .totals .codes) (start .pre .0 .some-strings)
             (G .held))
-            (c .before .before .enum-told .given .1));
+            (c .before .before .before .enum-told .given .1));
       },
     )
 
@@ -105,7 +99,6 @@ find-lack-spec =
     (tie.spec
     Inv-loop
     μ-loop
-    add-find-goal
     find-goal-requires
     enum-told
     enum-told-2

@@ -6,9 +6,6 @@ use Rattle.table_cells.proofs.HeldLaws.{in-memory-of, readable-of, read
 use Rattle.table_cells.proofs.ask_state.Statement.{statement}
 use Rattle.table_cells.proofs.ask_state.Tie as tie
 
-add-count : tie.Need-add-count
-add-count c = search needs
-
 slice-aggregate-close-state : tie.Need-slice-aggregate-close-state
 slice-aggregate-close-state c = search needs
 
@@ -21,7 +18,7 @@ close-state-requires c κs =
     let Y = Z .lined in (
       Y .shaped,
       (
-        (omega arith, Z .few-rules, Z .few-codes),
+        (omega (arith, Z .all-items), Z .few-rules, Z .few-codes),
         (
           Y .some-lines,
           (Z .codes-room, ((Z .nul-room, Z .fst-room, Z .starts-room, Z .through-room), (Z .prepared, (refl, refl)))),
@@ -58,13 +55,13 @@ ask-cells-requires c κs =
     let at-close-state = at-flag-moves .before .before .before .before .before in
     let start = at-close-state .before .before .before .before .before .before .before .before .before .before .before .before in
     let Z = start .pre .0 in (
-      readable-of Z (at-close-state .close-state .kept .1 .1 .1 .1 .1 .1 .1 .1 .1 .1 .1 .1 .0),
+      readable-of Z (at-close-state .close-state .kept .1 .1 .1 .1 .1 .1 .1 .1 .1 .0),
       (
         ready-of Z,
         (
-          (omega (arith, Z .few-rules, Z .few-strings), start .pre .1 .0, Z .codes-room),
+          (omega (arith, Z .all-items, Z .few-rules, Z .few-strings), start .pre .1 .0, Z .codes-room),
           (
-            (at-close-state .close-state .kept .1 .1 .1 .1 .1 .1 .1 .1 .1 .1 .1 .1 .1 .0, at-flag-moves .flag-moves .ensures .0),
+            (at-close-state .close-state .kept .1 .1 .1 .1 .1 .1 .1 .1 .1 .1 .0, at-flag-moves .flag-moves .ensures .0),
             (start .pre .1 .1, refl),
           ),
         ),
@@ -90,7 +87,6 @@ pub ask-state-spec : {M : Type 1} → statement M
 ask-state-spec =
     tie.close
     (tie.spec
-    add-count
     slice-aggregate-close-state
     slice-aggregate-close-state-2
     close-state-requires

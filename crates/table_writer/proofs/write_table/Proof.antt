@@ -5,6 +5,9 @@ use Rattle.table_writer.proofs.BookLaws.{written, blocks-text}
 use Rattle.table_writer.proofs.write_table.Statement.{statement}
 use Rattle.table_writer.proofs.write_table.Tie as tie
 
+add-codes : tie.Need-add-codes
+add-codes c = search needs
+
 put-header-requires : tie.Need-put-header-requires
 put-header-requires c κs = search needs
 
@@ -25,7 +28,7 @@ returns c =
     let at-put-kernels = c .before .before .before .before .before .before in
     let at-put-entries = at-put-kernels .before .before .before .before in
     let at-put-header = at-put-entries .before .before .before .before in
-    written (at-put-header .before .before .before .before .before .before .before .before .before .before .pre .1)
+    written (at-put-header .before .before .before .before .before .before .before .before .before .before .before .before .pre .1)
     (in-words (blocks-text _ _ _ _ _ _ _ _ _ _ _ _) (then (at-put-header .put-header .ensures)
     (then (at-put-entries .put-entries .ensures) (then (at-put-kernels .put-kernels .ensures) (c .before .before .put-actions .ensures)))))
 
@@ -33,6 +36,7 @@ pub write-table-spec : {M : Type 1} → statement M
 write-table-spec =
     tie.close
     (tie.spec
+    add-codes
     put-header-requires
     put-entries-requires
     put-kernels-requires

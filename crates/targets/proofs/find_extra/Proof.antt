@@ -8,10 +8,10 @@ use Rattle.targets.proofs.find_extra.Statement.{statement}
 use Rattle.targets.proofs.find_extra.Tie as tie
 
 abbrev Inv-loop : tie.InvT-loop
-Inv-loop items kernels links present symbols kinds values gotos count rules lines q x₀ x = (1 ≤ x) × (x ≤ 128) × ((j : ℕ) → 1 ≤ j → j < x → TargetOnly items kernels present symbols kinds values gotos rules lines q j)
+Inv-loop items kernels links kinds values gotos present symbols totals q x₀ x = (1 ≤ x) × (x ≤ 128) × ((j : ℕ) → 1 ≤ j → j < x → TargetOnly items kernels present symbols kinds values gotos (totals .rules) (totals .lines) q j)
 
 abbrev μ-loop : tie.MeasureT-loop
-μ-loop items kernels links present symbols kinds values gotos count rules lines q x₀ x = 128 - x
+μ-loop items kernels links kinds values gotos present symbols totals q x₀ x = 128 - x
 
 loop-holds : tie.Need-loop-holds Inv-loop μ-loop
 loop-holds c = (omega arith, omega arith, λ j a b. absurd (no-gap a b))

@@ -10,10 +10,10 @@ use Rattle.targets.proofs.find_lost_line.Statement.{statement}
 use Rattle.targets.proofs.find_lost_line.Tie as tie
 
 abbrev Inv-loop : tie.InvT-loop
-Inv-loop items kernels links kinds values gotos count lines q p₀ p = Passed (λ l. Arrives items kernels kinds values gotos lines q (itemAt kernels l) (dotAt kernels l)) kernels q lines p
+Inv-loop items kernels links kinds values gotos totals q p₀ p = Passed (λ l. Arrives items kernels kinds values gotos (totals .lines) q (itemAt kernels l) (dotAt kernels l)) kernels q (totals .lines) p
 
 abbrev μ-loop : tie.MeasureT-loop
-μ-loop items kernels links kinds values gotos count lines q p₀ p = p
+μ-loop items kernels links kinds values gotos totals q p₀ p = p
 
 last-line-requires : tie.Need-last-line-requires Inv-loop μ-loop
 last-line-requires c κs = search needs

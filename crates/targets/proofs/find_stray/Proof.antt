@@ -10,10 +10,10 @@ use Rattle.targets.proofs.find_stray.Statement.{statement}
 use Rattle.targets.proofs.find_stray.Tie as tie
 
 abbrev Inv-loop : tie.InvT-loop
-Inv-loop items kernels links present count rules lines q x s p₀ p = Passed (λ l. MovedAt items kernels present rules lines q x (itemAt kernels l) (dotAt kernels l)) kernels s lines p
+Inv-loop items kernels links present totals q x s p₀ p = Passed (λ l. MovedAt items kernels present (totals .rules) (totals .lines) q x (itemAt kernels l) (dotAt kernels l)) kernels s (totals .lines) p
 
 abbrev μ-loop : tie.MeasureT-loop
-μ-loop items kernels links present count rules lines q x s p₀ p = p
+μ-loop items kernels links present totals q x s p₀ p = p
 
 last-line-requires : tie.Need-last-line-requires Inv-loop μ-loop
 last-line-requires c κs =
