@@ -29,7 +29,7 @@ use Rattle.stray_tokens.specs.Stray.{strayFrom}
 use Rattle.session.specs.Session.{refusedAt, endedBy, tableSession, Tells}
 
 -- where no token is a stray, each is "1 to t"
-all-terminals : (t at : ℕ) (w : List ℕ) → strayFrom t at w ≡ Found.Nothing → (a : ℕ) → In a w → (1 ≤ a) × (a ≤ t)
+pub all-terminals : (t at : ℕ) (w : List ℕ) → strayFrom t at w ≡ Found.Nothing → (a : ℕ) → In a w → (1 ≤ a) × (a ≤ t)
 unfolding strayFrom
 all-terminals t at [] e a m = elim m [ ]
 all-terminals t at (b ∷ w) e a m = go (within 1 b t) refl e (λ f. all-terminals t (suc at) w f a) (in-cons m)
@@ -57,8 +57,8 @@ module _ (g : Grammar) (t : Table) where
   -- tokens that are all terminals
   module _ {kinds values gotos rows : List ℕ} {m : Machine} (D : Drives g t kinds values gotos rows m) (n k : ℕ) (w : List ℕ)
       (none : strayFrom (g .terminals) 0 w ≡ Found.Nothing) where
-    same : walk g (automaton g t) n k w ≡ memoryWalk kinds values gotos rows (m .start) n k w
-    same = walk-is D n k w (λ a i. omega (arith, all-terminals (g .terminals) 0 w none a i .1, D .few-terminals))
+    pub walk-alike : walk g (automaton g t) n k w ≡ memoryWalk kinds values gotos rows (m .start) n k w
+    walk-alike = walk-is D n k w (λ a i. omega (arith, all-terminals (g .terminals) 0 w none a i .1, D .few-terminals))
 
     pub table-session : {stack listing : List ℕ} {r : Walked} → r ≡ answer (memoryGrammar rows) (memoryWalk kinds values gotos rows (m .start) n k w)
         → listing ≡ padded k (listed (memoryWalk kinds values gotos rows (m .start) n k w)) → stack ≡ replicate n 0
@@ -66,7 +66,7 @@ module _ (g : Grammar) (t : Table) where
     unfolding tableSession
     table-session {stack} {listing} {r} er el es =
         subst (λ (f : Found). Tells (onFound f (refusedAt n k Undeclared) (endedBy n k g (walk g (automaton g t) n k w))) r stack listing) (sym none) (record {
-          reply-is = er ∙ answer-same (memoryGrammar rows) g (D .units-is) (memoryWalk kinds values gotos rows (m .start) n k w) ∙ ap (answer g) (sym same);
-          listing-is = el ∙ ap (λ (v : Verdict). padded k (listed v)) (sym same);
+          reply-is = er ∙ answer-same (memoryGrammar rows) g (D .units-is) (memoryWalk kinds values gotos rows (m .start) n k w) ∙ ap (answer g) (sym walk-alike);
+          listing-is = el ∙ ap (λ (v : Verdict). padded k (listed v)) (sym walk-alike);
           stack-is = es;
         })

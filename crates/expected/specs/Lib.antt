@@ -1,0 +1,2 @@
+pub mod Expected
+pub mod Promise
