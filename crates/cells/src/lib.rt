@@ -1,6 +1,7 @@
 // What the items of a state ask of its cells, and which cells are not so.
 // Inner: for the checker, the builder and `explanation`.
 use fixpoint::Found;
+use memory::Totals;
 use symbol::CODES;
 use symbol::Symbol;
 ghost use mathlib.Core.Path.{_≡_};
@@ -79,36 +80,45 @@ fn ask_codes(
 // Asks what item i with dot k asks, where the flags of its lookaheads stand from `start` on.
 pub fn ask_item(
     items: &[u8],
-    nul: &[u8],
-    fst: &[u8],
+    nullable: &[u8],
+    first: &[u8],
     from: &[u8],
-    count: usize,
-    rules: usize,
-    codes: usize,
+    totals: Totals,
     i: usize,
     k: usize,
     start: usize,
     asked: &mut [usize],
     others: &mut [usize],
 )
-    requires { ⌜ Ready (now items) (now nul) (now fst) count codes ⌝ }
-    requires { ⌜ (i ≤ count) × (i < 256) × (k ≤ 15) × (start + 64 ≤ length (now from)) ⌝ }
+    requires { ⌜ Ready (now items) (now nullable) (now first) (totals .items) (totals .codes) ⌝ }
+    requires { ⌜ (i ≤ totals .items) × (i < 256) × (k ≤ 15) × (start + 64 ≤ length (now from)) ⌝ }
     requires { ⌜ (length (now asked) ≡ 64) × (length (now others) ≡ 64) ⌝ }
-    ensures { λ _. ⌜ Asks (ItemAsks (now (items .entry)) (now (nul .entry)) (now (fst .entry)) (now (from .entry)) rules codes i k start) (now (asked .entry)) (now (others .entry)) (now (asked .exit)) (now (others .exit)) ⌝ }
+    ensures { λ _. ⌜ Asks (ItemAsks (now (items .entry)) (now (nullable .entry)) (now (first .entry)) (now (from .entry)) (totals .rules) (totals .codes) i k start) (now (asked .entry)) (now (others .entry)) (now (asked .exit)) (now (others .exit)) ⌝ }
 {
-    if items::mark_of(items, count, i) == k {
+    if items::mark_of(items, totals.items, i) == k {
         let mut row = [0u8; CODES];
-        carried::item_first(items, count, i, k, codes, nul, fst, from, start, &mut row);
-        ask_codes(&row, 0, 0, codes, ANNOUNCE + i, asked, others);
+        carried::item_first(
+            items,
+            totals.items,
+            i,
+            k,
+            totals.codes,
+            nullable,
+            first,
+            from,
+            start,
+            &mut row,
+        );
+        ask_codes(&row, 0, 0, totals.codes, ANNOUNCE + i, asked, others);
         return;
     }
-    if i <= rules {
+    if i <= totals.rules {
         return;
     }
-    if items::length_of(items, count, i) != k {
+    if items::length_of(items, totals.items, i) != k {
         return;
     }
-    ask_codes(from, start, 0, codes, POP + k, asked, others);
+    ask_codes(from, start, 0, totals.codes, POP + k, asked, others);
 }
 
 // Asks what the kernel items of q ask.
@@ -117,72 +127,63 @@ fn ask_lines(
     kernels: &[u8],
     links: &[usize],
     lookaheads: &[u8],
-    nul: &[u8],
-    fst: &[u8],
-    count: usize,
-    rules: usize,
-    lines: usize,
-    codes: usize,
+    nullable: &[u8],
+    first: &[u8],
+    totals: Totals,
     q: usize,
     asked: &mut [usize],
     others: &mut [usize],
 )
-    requires { ⌜ Lined (now items) (now kernels) (now links) count lines ⌝ }
-    requires { ⌜ Ready (now items) (now nul) (now fst) count codes ⌝ }
-    requires { ⌜ (count < 256) × (q < 256) × (lines * 64 ≤ length (now lookaheads)) ⌝ }
+    requires { ⌜ Lined (now items) (now kernels) (now links) (totals .items) (totals .lines) ⌝ }
+    requires { ⌜ Ready (now items) (now nullable) (now first) (totals .items) (totals .codes) ⌝ }
+    requires { ⌜ (totals .items < 256) × (q < 256) × (totals .lines * 64 ≤ length (now lookaheads)) ⌝ }
     requires { ⌜ (length (now asked) ≡ 64) × (length (now others) ≡ 64) ⌝ }
-    ensures { λ _. ⌜ Asks (LinesAsk (now (items .entry)) (now (nul .entry)) (now (fst .entry)) (now (kernels .entry)) (now (lookaheads .entry)) rules lines codes q) (now (asked .entry)) (now (others .entry)) (now (asked .exit)) (now (others .exit)) ⌝ }
+    ensures { λ _. ⌜ Asks (LinesAsk (now (items .entry)) (now (nullable .entry)) (now (first .entry)) (now (kernels .entry)) (now (lookaheads .entry)) (totals .rules) (totals .lines) (totals .codes) q) (now (asked .entry)) (now (others .entry)) (now (asked .exit)) (now (others .exit)) ⌝ }
 {
-    let mut p = kernel_lines::last_line(kernels, links, lines, q);
+    let mut p = kernel_lines::last_line(kernels, links, totals.lines, q);
     while 0 < p {
         let l = p - 1;
-        let i = kernel_lines::item_of(kernels, lines, count, l);
-        let k = kernel_lines::dot_of(kernels, lines, count, l);
+        let i = kernel_lines::item_of(kernels, totals.lines, totals.items, l);
+        let k = kernel_lines::dot_of(kernels, totals.lines, totals.items, l);
         ask_item(
             items,
-            nul,
-            fst,
+            nullable,
+            first,
             lookaheads,
-            count,
-            rules,
-            codes,
+            totals,
             i,
             k,
             l * CODES,
             asked,
             others,
         );
-        p = kernel_lines::line_before(kernels, links, lines, l);
+        p = kernel_lines::line_before(kernels, links, totals.lines, l);
     }
 }
 
 // Asks what rule i asks, which the closure adds.
 fn ask_rule(
     items: &[u8],
+    nullable: &[u8],
+    first: &[u8],
     follow: &[u8],
-    nul: &[u8],
-    fst: &[u8],
-    count: usize,
-    rules: usize,
-    codes: usize,
+    totals: Totals,
     i: usize,
     asked: &mut [usize],
     others: &mut [usize],
 )
-    requires { ⌜ Ready (now items) (now nul) (now fst) count codes ⌝ }
-    requires { ⌜ (i ≤ count) × (i < 256) × (64 ≤ leftAt (now items) i) × (length (now follow) ≡ 4096) ⌝ }
+    requires { ⌜ Ready (now items) (now nullable) (now first) (totals .items) (totals .codes) ⌝ }
+    requires { ⌜ (i ≤ totals .items) × (i < 256) × (64 ≤ leftAt (now items) i) × (length (now follow) ≡ 4096) ⌝ }
     requires { ⌜ (length (now asked) ≡ 64) × (length (now others) ≡ 64) ⌝ }
-    ensures { λ _. ⌜ Asks (RuleAsks (now (items .entry)) (now (nul .entry)) (now (fst .entry)) (now (follow .entry)) rules codes i) (now (asked .entry)) (now (others .entry)) (now (asked .exit)) (now (others .exit)) ⌝ }
+    ensures { λ _. ⌜ Asks (RuleAsks (now (items .entry)) (now (nullable .entry)) (now (first .entry)) (now (follow .entry)) (totals .rules) (totals .codes) i) (now (asked .entry)) (now (others .entry)) (now (asked .exit)) (now (others .exit)) ⌝ }
 {
-    let left = items::left_of(items, count, i);
+    let left = items::left_of(items, totals.items, i);
     ask_item(
         items,
-        nul,
-        fst,
+        nullable,
+        first,
         follow,
-        count,
-        rules,
-        codes,
+        totals,
         i,
         0,
         (left - Symbol::FIRST_NONTERMINAL) * CODES,
@@ -194,40 +195,27 @@ fn ask_rule(
 // Asks what the rules ask that the closure adds.
 fn ask_rules(
     items: &[u8],
+    nullable: &[u8],
+    first: &[u8],
     present: &[u8],
     follow: &[u8],
-    nul: &[u8],
-    fst: &[u8],
-    count: usize,
-    rules: usize,
-    codes: usize,
+    totals: Totals,
     asked: &mut [usize],
     others: &mut [usize],
 )
-    requires { ⌜ Ready (now items) (now nul) (now fst) count codes ⌝ }
-    requires { ⌜ (rules ≤ count) × (count < 256) ⌝ }
+    requires { ⌜ Ready (now items) (now nullable) (now first) (totals .items) (totals .codes) ⌝ }
+    requires { ⌜ (totals .rules ≤ totals .items) × (totals .items < 256) ⌝ }
     requires { ⌜ (length (now present) ≡ 64) × (length (now follow) ≡ 4096) ⌝ }
     requires { ⌜ (length (now asked) ≡ 64) × (length (now others) ≡ 64) ⌝ }
-    ensures { λ _. ⌜ Asks (RulesAsk (now (items .entry)) (now (nul .entry)) (now (fst .entry)) (now (present .entry)) (now (follow .entry)) rules codes) (now (asked .entry)) (now (others .entry)) (now (asked .exit)) (now (others .exit)) ⌝ }
+    ensures { λ _. ⌜ Asks (RulesAsk (now (items .entry)) (now (nullable .entry)) (now (first .entry)) (now (present .entry)) (now (follow .entry)) (totals .rules) (totals .codes)) (now (asked .entry)) (now (others .entry)) (now (asked .exit)) (now (others .exit)) ⌝ }
 {
     let mut i = 1;
-    while i <= rules {
-        if !moves::is_present(items, present, count, i) {
+    while i <= totals.rules {
+        if !moves::is_present(items, present, totals.items, i) {
             i += 1;
             continue;
         }
-        ask_rule(
-            items,
-            follow,
-            nul,
-            fst,
-            count,
-            rules,
-            codes,
-            i,
-            asked,
-            others,
-        );
+        ask_rule(items, nullable, first, follow, totals, i, asked, others);
         i += 1;
     }
 }
@@ -254,52 +242,44 @@ pub fn ask_cells(
     kernels: &[u8],
     links: &[usize],
     lookaheads: &[u8],
+    nullable: &[u8],
+    first: &[u8],
     present: &[u8],
     follow: &[u8],
     moves: &[u8],
-    nul: &[u8],
-    fst: &[u8],
-    count: usize,
-    rules: usize,
-    lines: usize,
-    codes: usize,
+    totals: Totals,
     q: usize,
     asked: &mut [usize],
     others: &mut [usize],
 ) -> bool
-    requires { ⌜ Readable (now items) (now kernels) (now links) (now present) count rules lines ⌝ }
-    requires { ⌜ Ready (now items) (now nul) (now fst) count codes ⌝ }
-    requires { ⌜ (count < 256) × (q < 256) × (lines * 64 ≤ length (now lookaheads)) ⌝ }
+    requires { ⌜ Readable (now items) (now kernels) (now links) (now present) (totals .items) (totals .rules) (totals .lines) ⌝ }
+    requires { ⌜ Ready (now items) (now nullable) (now first) (totals .items) (totals .codes) ⌝ }
+    requires { ⌜ (totals .items < 256) × (q < 256) × (totals .lines * 64 ≤ length (now lookaheads)) ⌝ }
     requires { ⌜ (length (now follow) ≡ 4096) × (length (now moves) ≡ 128) ⌝ }
     requires { ⌜ (now asked ≡ replicate 64 0) × (now others ≡ replicate 64 0) ⌝ }
     ensures { λ b. ⌜ (length (now (asked .exit)) ≡ 64) × (length (now (others .exit)) ≡ 64) ⌝ }
-    ensures { λ b. ⌜ ((g : Grammar) (t : Table) (entries kinds values gotos : List ℕ) (strings : ℕ) → Held g t (now (items .entry)) entries (now (kernels .entry)) (now (lookaheads .entry)) kinds values gotos rules strings lines → codes ≡ suc (g .terminals) → HoldsClosure g t (FirstBy codes (now (nul .entry)) (now (fst .entry))) q (now (present .entry)) (now (follow .entry)) → HoldsMoves g t q (now (moves .entry)) → Decides (CellsAgree g t (FirstBy codes (now (nul .entry)) (now (fst .entry))) q) b × (b ≡ true → HoldsAsked g t (FirstBy codes (now (nul .entry)) (now (fst .entry))) q (now (asked .exit))) × HoldsConflicts g t (FirstBy codes (now (nul .entry)) (now (fst .entry))) q (now (asked .exit)) (now (others .exit))) ⌝ }
+    ensures { λ b. ⌜ ((g : Grammar) (t : Table) (entries kinds values gotos : List ℕ) (strings : ℕ) → Held g t (now (items .entry)) entries (now (kernels .entry)) (now (lookaheads .entry)) kinds values gotos (totals .rules) strings (totals .lines) → totals .codes ≡ suc (g .terminals) → HoldsClosure g t (FirstBy (totals .codes) (now (nullable .entry)) (now (first .entry))) q (now (present .entry)) (now (follow .entry)) → HoldsMoves g t q (now (moves .entry)) → Decides (CellsAgree g t (FirstBy (totals .codes) (now (nullable .entry)) (now (first .entry))) q) b × (b ≡ true → HoldsAsked g t (FirstBy (totals .codes) (now (nullable .entry)) (now (first .entry))) q (now (asked .exit))) × HoldsConflicts g t (FirstBy (totals .codes) (now (nullable .entry)) (now (first .entry))) q (now (asked .exit)) (now (others .exit))) ⌝ }
 {
-    ask_codes(moves, 0, 1, codes, SHIFT, asked, others);
+    ask_codes(moves, 0, 1, totals.codes, SHIFT, asked, others);
     ask_lines(
         items,
         kernels,
         links,
         lookaheads,
-        nul,
-        fst,
-        count,
-        rules,
-        lines,
-        codes,
+        nullable,
+        first,
+        totals,
         q,
         asked,
         others,
     );
     ask_rules(
         items,
+        nullable,
+        first,
         present,
         follow,
-        nul,
-        fst,
-        count,
-        rules,
-        codes,
+        totals,
         asked,
         others,
     );

@@ -76,7 +76,14 @@ pub fn add_lines(
     }
 }
 
-// What item i of p with dot k asks of the next state.
+// An item with its dot, and where the flags of its lookaheads start.
+struct DottedItem {
+    item: usize,
+    dot: usize,
+    start: usize,
+}
+
+// What an item of p asks of the next state.
 fn add_move(
     items: &[u8],
     kernels: &[u8],
@@ -87,17 +94,15 @@ fn add_move(
     from: &[u8],
     totals: Totals,
     p: usize,
-    i: usize,
-    k: usize,
-    start: usize,
+    at: DottedItem,
     asked: &mut [u8],
 )
     requires { ⌜ Lined (now items) (now kernels) (now links) (totals .items) (totals .lines) ⌝ }
     requires { ⌜ Cells (now kinds) (now values) (now gotos) ⌝ }
-    requires { ⌜ (totals .codes ≤ 64) × (p < 256) × (i ≤ totals .items) × (k ≤ 15) × (start + 64 ≤ length (now from)) × (totals .lines * 64 ≤ length (now asked)) ⌝ }
-    ensures { λ _. ⌜ Adds (MoveAsks (now (items .entry)) (now (kernels .entry)) (now (kinds .entry)) (now (values .entry)) (now (gotos .entry)) (now (from .entry)) (totals .lines) (totals .codes) p i k start) (now (asked .entry)) (now (asked .exit)) ⌝ }
+    requires { ⌜ (totals .codes ≤ 64) × (p < 256) × (at .item ≤ totals .items) × (at .dot ≤ 15) × (at .start + 64 ≤ length (now from)) × (totals .lines * 64 ≤ length (now asked)) ⌝ }
+    ensures { λ _. ⌜ Adds (MoveAsks (now (items .entry)) (now (kernels .entry)) (now (kinds .entry)) (now (values .entry)) (now (gotos .entry)) (now (from .entry)) (totals .lines) (totals .codes) p (at .item) (at .dot) (at .start)) (now (asked .entry)) (now (asked .exit)) ⌝ }
 {
-    let x = moves::symbol_after(items, totals.items, i, k);
+    let x = moves::symbol_after(items, totals.items, at.item, at.dot);
     if x == 0 {
         return;
     }
@@ -113,14 +118,14 @@ fn add_move(
         totals.items,
         totals.codes,
         s,
-        i,
-        k + 1,
-        start,
+        at.item,
+        at.dot + 1,
+        at.start,
         asked,
     );
 }
 
-// What a group of item i asks of entry e, where it ends before dot b.
+// What a group of an item asks of entry e, where it ends before the dot.
 fn add_group(
     items: &[u8],
     entries: &[u8],
@@ -131,15 +136,13 @@ fn add_group(
     first: &[u8],
     from: &[u8],
     totals: Totals,
-    i: usize,
-    b: usize,
+    at: DottedItem,
     e: usize,
-    start: usize,
     asked: &mut [u8],
 )
     requires { ⌜ Sourced (now items) (now kernels) (now links) (now entries) (now uses) (now nullable) (now first) (totals .items) (totals .rules) (totals .lines) (totals .codes) ⌝ }
-    requires { ⌜ (i ≤ totals .items) × (e < 256) × (start + 64 ≤ length (now from)) × (totals .lines * 64 ≤ length (now asked)) ⌝ }
-    ensures { λ _. ⌜ Adds (GroupAsks (now (items .entry)) (now (kernels .entry)) (now (entries .entry)) (now (nullable .entry)) (now (first .entry)) (now (from .entry)) (totals .rules) (totals .lines) (totals .codes) i b e start) (now (asked .entry)) (now (asked .exit)) ⌝ }
+    requires { ⌜ (at .item ≤ totals .items) × (e < 256) × (at .start + 64 ≤ length (now from)) × (totals .lines * 64 ≤ length (now asked)) ⌝ }
+    ensures { λ _. ⌜ Adds (GroupAsks (now (items .entry)) (now (kernels .entry)) (now (entries .entry)) (now (nullable .entry)) (now (first .entry)) (now (from .entry)) (totals .rules) (totals .lines) (totals .codes) (at .item) (at .dot) e (at .start)) (now (asked .entry)) (now (asked .exit)) ⌝ }
 {
     if e == 0 {
         return;
@@ -148,13 +151,13 @@ fn add_group(
     carried::item_first(
         items,
         totals.items,
-        i,
-        b,
+        at.item,
+        at.dot,
         totals.codes,
         nullable,
         first,
         from,
-        start,
+        at.start,
         &mut row,
     );
     let s = wide(entries[e]);
@@ -208,10 +211,12 @@ fn add_groups(
             first,
             from,
             totals,
-            i,
-            b,
+            DottedItem {
+                item: i,
+                dot: b,
+                start,
+            },
             e,
-            start,
             asked,
         );
         a = b;
@@ -219,7 +224,7 @@ fn add_groups(
     }
 }
 
-// What item i of p with dot k asks.
+// What an item of p asks.
 fn add_item(
     items: &[u8],
     entries: &[u8],
@@ -234,15 +239,13 @@ fn add_item(
     from: &[u8],
     totals: Totals,
     p: usize,
-    i: usize,
-    k: usize,
-    start: usize,
+    at: DottedItem,
     asked: &mut [u8],
 )
     requires { ⌜ Sourced (now items) (now kernels) (now links) (now entries) (now uses) (now nullable) (now first) (totals .items) (totals .rules) (totals .lines) (totals .codes) ⌝ }
     requires { ⌜ Cells (now kinds) (now values) (now gotos) ⌝ }
-    requires { ⌜ (p < 256) × (i ≤ totals .items) × (k ≤ 15) × (start + 64 ≤ length (now from)) × (totals .lines * 64 ≤ length (now asked)) ⌝ }
-    ensures { λ _. ⌜ Adds (ItemAsks (now (items .entry)) (now (kernels .entry)) (now (kinds .entry)) (now (values .entry)) (now (gotos .entry)) (now (entries .entry)) (now (uses .entry)) (now (nullable .entry)) (now (first .entry)) (now (from .entry)) (totals .rules) (totals .lines) (totals .codes) p i k start) (now (asked .entry)) (now (asked .exit)) ⌝ }
+    requires { ⌜ (p < 256) × (at .item ≤ totals .items) × (at .dot ≤ 15) × (at .start + 64 ≤ length (now from)) × (totals .lines * 64 ≤ length (now asked)) ⌝ }
+    ensures { λ _. ⌜ Adds (ItemAsks (now (items .entry)) (now (kernels .entry)) (now (kinds .entry)) (now (values .entry)) (now (gotos .entry)) (now (entries .entry)) (now (uses .entry)) (now (nullable .entry)) (now (first .entry)) (now (from .entry)) (totals .rules) (totals .lines) (totals .codes) p (at .item) (at .dot) (at .start)) (now (asked .entry)) (now (asked .exit)) ⌝ }
 {
     add_move(
         items,
@@ -254,15 +257,13 @@ fn add_item(
         from,
         totals,
         p,
-        i,
-        k,
-        start,
+        at,
         asked,
     );
-    if i > totals.rules {
+    if at.item > totals.rules {
         return;
     }
-    if items::mark_of(items, totals.items, i) != k {
+    if items::mark_of(items, totals.items, at.item) != at.dot {
         return;
     }
     add_groups(
@@ -275,8 +276,8 @@ fn add_item(
         first,
         from,
         totals,
-        i,
-        start,
+        at.item,
+        at.start,
         asked,
     );
 }
@@ -308,6 +309,7 @@ fn add_kernel(
         let l = next - 1;
         let i = kernel_lines::item_of(kernels, totals.lines, totals.items, l);
         let k = kernel_lines::dot_of(kernels, totals.lines, totals.items, l);
+        let start = l * CODES;
         add_item(
             items,
             entries,
@@ -322,9 +324,11 @@ fn add_kernel(
             lookaheads,
             totals,
             p,
-            i,
-            k,
-            l * CODES,
+            DottedItem {
+                item: i,
+                dot: k,
+                start,
+            },
             asked,
         );
         next = kernel_lines::line_before(kernels, links, totals.lines, l);
@@ -355,6 +359,7 @@ fn add_rule(
     ensures { λ _. ⌜ Adds (RuleAsks (now (items .entry)) (now (kernels .entry)) (now (kinds .entry)) (now (values .entry)) (now (gotos .entry)) (now (entries .entry)) (now (uses .entry)) (now (nullable .entry)) (now (first .entry)) (now (follow .entry)) (totals .rules) (totals .lines) (totals .codes) p i) (now (asked .entry)) (now (asked .exit)) ⌝ }
 {
     let left = items::left_of(items, totals.items, i);
+    let start = (left - Symbol::FIRST_NONTERMINAL) * CODES;
     add_item(
         items,
         entries,
@@ -369,9 +374,11 @@ fn add_rule(
         follow,
         totals,
         p,
-        i,
-        0,
-        (left - Symbol::FIRST_NONTERMINAL) * CODES,
+        DottedItem {
+            item: i,
+            dot: 0,
+            start,
+        },
         asked,
     );
 }

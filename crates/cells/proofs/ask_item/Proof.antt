@@ -37,13 +37,13 @@ returns c =
     announce-asks (sym (tested .before .mark-of .ensures .0) ∙ tested .if1 .taken) refl (firsts .item-first .ensures) (asking .ask-codes .ensures)
 
 returns-2 : tie.Need-returns-2
-returns-2 c = rule-asks (λ e. c .before .if1 .left (c .before .before .mark-of .ensures .0 ∙ e)) _ _ (omega arith)
+returns-2 c = rule-asks (λ e. c .before .before .if1 .left (c .before .before .before .mark-of .ensures .0 ∙ e)) _ _ (omega arith)
 
 length-of-requires : tie.Need-length-of-requires
 length-of-requires c κs = search needs
 
 returns-3 : tie.Need-returns-3
-returns-3 c = let at-if1 = c .before .before .before in unfinished-asks (λ e. at-if1 .if1 .left (at-if1 .before .mark-of .ensures .0 ∙ e)) _ _ (λ e. c .if3 .taken (c .before .length-of .ensures .0 ∙ e))
+returns-3 c = let at-if1 = c .before .before .before .before in unfinished-asks (λ e. at-if1 .if1 .left (at-if1 .before .mark-of .ensures .0 ∙ e)) _ _ (λ e. c .if3 .taken (c .before .length-of .ensures .0 ∙ e))
 
 add-ask-codes-2 : tie.Need-add-ask-codes-2
 add-ask-codes-2 c = search needs
@@ -61,7 +61,7 @@ returns-4 : tie.Need-returns-4
 returns-4 c =
     let asking = c .before .before .before .before in
     let at-if3 = asking .before .before .before in
-    let at-if1 = at-if3 .before .before .before in
+    let at-if1 = at-if3 .before .before .before .before in
     pop-asks (λ e. at-if1 .if1 .left (at-if1 .before .mark-of .ensures .0 ∙ e)) (omega arith) (sym (at-if3 .before .length-of .ensures .0) ∙ at-if3 .if3 .left) (asking .ask-codes2 .ensures)
 
 pub ask-item-spec : {M : Type 1} → statement M

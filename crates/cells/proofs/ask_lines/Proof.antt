@@ -9,10 +9,10 @@ use Rattle.cells.proofs.ask_lines.Statement.{statement}
 use Rattle.cells.proofs.ask_lines.Tie as tie
 
 abbrev Inv-loop : tie.InvT-loop
-Inv-loop items kernels links lookaheads nul fst count rules lines codes q asked₀ others₀ p₀ asked others p = Passed (λ l. (c v : ℕ) → LineAsks items nul fst kernels lookaheads rules codes l c v → Met asked others c v) kernels q lines p × Asking (LinesAsk items nul fst kernels lookaheads rules lines codes q) asked₀ others₀ asked others
+Inv-loop items kernels links lookaheads nullable first totals q asked₀ others₀ p₀ asked others p = Passed (λ l. (c v : ℕ) → LineAsks items nullable first kernels lookaheads (totals .rules) (totals .codes) l c v → Met asked others c v) kernels q (totals .lines) p × Asking (LinesAsk items nullable first kernels lookaheads (totals .rules) (totals .lines) (totals .codes) q) asked₀ others₀ asked others
 
 abbrev μ-loop : tie.MeasureT-loop
-μ-loop items kernels links lookaheads nul fst count rules lines codes q asked₀ others₀ p₀ asked others p = p
+μ-loop items kernels links lookaheads nullable first totals q asked₀ others₀ p₀ asked others p = p
 
 last-line-requires : tie.Need-last-line-requires Inv-loop μ-loop
 last-line-requires c κs = search needs

@@ -6,10 +6,10 @@ use Rattle.explain_grammar.proofs.explain_conflicts.Statement.{statemen
 use Rattle.explain_grammar.proofs.explain_conflicts.Tie as tie
 
 abbrev Inv-loop : tie.InvT-loop
-Inv-loop out₀ items entries kernels lookaheads kinds values gotos named terminals goal rules strings lines states first found₀ q₀ t20 t21 out found q = (1 ≤ q) × (found ≤ 64 * q)
+Inv-loop out₀ items entries kernels lookaheads kinds values gotos named counts first found₀ q₀ t20 t21 out found q = (1 ≤ q) × (found ≤ 64 * q)
 
 abbrev μ-loop : tie.MeasureT-loop
-μ-loop out₀ items entries kernels lookaheads kinds values gotos named terminals goal rules strings lines states first found₀ q₀ t20 t21 out found q = states + 1 - q
+μ-loop out₀ items entries kernels lookaheads kinds values gotos named counts first found₀ q₀ t20 t21 out found q = counts .states + 1 - q
 
 loop-holds : tie.Need-loop-holds Inv-loop μ-loop
 loop-holds c = (c .before .before .before .before .before .before .before .before .pre .1 .0 .2, omega arith)
@@ -19,32 +19,32 @@ room-after-requires c κs = search needs
 
 explain-memory-requires : tie.Need-explain-memory-requires Inv-loop μ-loop
 explain-memory-requires c κs =
-    let start = c .before .before .before .before .before .before .before .before .before .before .before .before in
+    let start = c .before .before .before .before .before .before .before .before .before .before .before .before .before in
     (start .pre .0, (start .pre .1 .0 .0, start .pre .1 .0 .1))
 
 print-way-requires : tie.Need-print-way-requires Inv-loop μ-loop
 print-way-requires c κs =
     let turn = c .before .before .before .before .before .before in
-    let start = turn .before .before .before .before .before .before .before .before .before .before in
-    (start .pre .1 .1, (omega (arith, turn .before .loop .inv .0), omega (arith, turn .loop-test .taken, start .pre .1 .0 .1)))
+    let start = turn .before .before .before .before .before .before .before .before .before .before .before in
+    (start .pre .1 .1, (omega (arith, turn .before .before .loop .inv .0), omega (arith, turn .if1 .taken, start .pre .1 .0 .1)))
 
 add-found : tie.Need-add-found Inv-loop μ-loop
 add-found c =
     let turn = c .before .before .before .before in
-    let start = turn .before .before .before .before .before .before .before .before .before .before in
-    omega (arith, turn .before .loop .inv .1, turn .loop-test .taken, start .pre .1 .0 .1, c .before .explain-memory .ensures)
+    let start = turn .before .before .before .before .before .before .before .before .before .before .before in
+    omega (arith, turn .before .before .loop .inv .1, turn .if1 .taken, start .pre .1 .0 .1, c .before .explain-memory .ensures)
 
 add-q : tie.Need-add-q Inv-loop μ-loop
 add-q c =
     let turn = c .before .before .before .before in
-    let start = turn .before .before .before .before .before .before .before .before .before .before in
-    omega (arith, turn .loop-test .taken, start .pre .1 .0 .1)
+    let start = turn .before .before .before .before .before .before .before .before .before .before .before in
+    omega (arith, turn .if1 .taken, start .pre .1 .0 .1)
 
 loop-less : tie.Need-loop-less Inv-loop μ-loop
 loop-less c = search needs
 
 loop-again : tie.Need-loop-again Inv-loop μ-loop
-loop-again c = (omega arith, omega (arith, c .before .before .before .before .before .loop .inv .1, c .before .explain-memory .ensures))
+loop-again c = (omega arith, omega (arith, c .before .before .before .before .before .before .loop .inv .1, c .before .explain-memory .ensures))
 
 slice-aggregate-print-count : tie.Need-slice-aggregate-print-count Inv-loop μ-loop
 slice-aggregate-print-count c = search needs

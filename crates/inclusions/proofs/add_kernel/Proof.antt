@@ -35,8 +35,8 @@ dot-of-requires c κs =
     let start = c .before .before .before .before .before .before .before .before .before .before .before .before .before .before .before .before in
     (start .pre .0 .lined .some-lines, omega (arith, c .before .before .loop .inv .passed .low))
 
-mul-add-item : tie.Need-mul-add-item Inv-loop μ-loop
-mul-add-item c = search needs
+mul-start : tie.Need-mul-start Inv-loop μ-loop
+mul-start c = search needs
 
 add-item-requires : tie.Need-add-item-requires Inv-loop μ-loop
 add-item-requires c κs =
@@ -93,7 +93,7 @@ add-kernel-spec =
     sub-l
     item-of-requires
     dot-of-requires
-    mul-add-item
+    mul-start
     add-item-requires
     line-before-requires
     loop-less

@@ -24,11 +24,11 @@ add-add-lines c = search needs
 
 add-lines-requires : tie.Need-add-lines-requires
 add-lines-requires c κs =
-    let start = c .before .before .before .before .before .before .before .before .before .before .before .before .before in (
+    let start = c .before .before .before .before .before .before .before .before .before .before .before .before .before .before in (
       start .pre .0 .some-lines,
       (
         start .pre .0 .linked,
-        (c .before .before .next-of .ensures .1, start .pre .1 .1 .0, start .pre .1 .1 .4, start .pre .1 .1 .5),
+        (c .before .before .before .next-of .ensures .1, start .pre .1 .1 .0, start .pre .1 .1 .4, start .pre .1 .1 .5),
       ),
     )
 
@@ -37,7 +37,7 @@ same-length c = search needs
 
 returns-3 : tie.Need-returns-3
 returns-3 c =
-    let at-if2 = c .before .before .before .before in
+    let at-if2 = c .before .before .before .before .before in
     let at-if1 = at-if2 .before .before in
     move-to _ (at-if1 .before .symbol-after .ensures .0) (at-if2 .before .next-of .ensures .0) (at-if1 .if1 .left)
     (at-if2 .if2 .left) (c .before .before .add-lines .ensures)

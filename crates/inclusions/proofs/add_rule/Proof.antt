@@ -8,13 +8,13 @@ left-of-requires c κs =
     let start = c .before .before .before .before .before .before .before .before .before .before .before .before in
     (start .pre .0 .lined .shaped, start .pre .1 .1 .1)
 
-sub-add-item : tie.Need-sub-add-item
-sub-add-item c =
+sub-start : tie.Need-sub-start
+sub-start c =
     let start = c .before .before .before .before .before .before .before .before .before .before .before .before .before in
     omega (arith, c .left-of .ensures .0, start .pre .1 .1 .2)
 
-mul-add-item : tie.Need-mul-add-item
-mul-add-item c = omega (arith, c .left-of .ensures .1)
+mul-start : tie.Need-mul-start
+mul-start c = omega (arith, c .left-of .ensures .1)
 
 add-item-requires : tie.Need-add-item-requires
 add-item-requires c κs =
@@ -43,8 +43,8 @@ add-rule-spec =
     tie.close
     (tie.spec
     left-of-requires
-    sub-add-item
-    mul-add-item
+    sub-start
+    mul-start
     add-item-requires
     same-length
     returns)
