@@ -79,3 +79,31 @@ def run_scans(grammar, table, scans, n, k):
         first = check(grammar, table)
         return *(first if first[0] else (number, place)), 0, []
     return run_session(grammar, table, tokens, n, k)
+
+
+def trial(g, t, tokens, code, n, k):
+    """How the trial of a code after these tokens ends: 0 where it is taken, 12, or 11."""
+    number, place, _, _ = walk(g, t, [*tokens, code] if code else tokens, n, k)
+    return 0 if place > len(tokens) else number
+
+
+def list_expected(grammar, table, tokens, n, k, room):
+    """Document 02, S-1: the number, the place and the codes."""
+    number, place, _, _ = run_session(grammar, table, tokens, n, k)
+    if number not in (0, 12):
+        return number, place, []
+    g = tables.read_grammar(grammar)
+    t = tables.read_table(table, g)
+    ends = [trial(g, t, list(tokens[:place]), c, n, k) for c in range(g.t + 1)]
+    codes = [c for c, end in enumerate(ends) if end == 0]
+    return (11, place, []) if 11 in ends or len(codes) > room else (0, place, codes)
+
+
+def list_expected_scans(grammar, table, scans, n, k, room):
+    number, place, tokens = read_scans(scans, 65536)
+    if len(scans) > 65536:
+        return 2, 0, []
+    if number:
+        first = check(grammar, table)
+        return *(first if first[0] else (number, place)), []
+    return list_expected(grammar, table, tokens, n, k, room)

@@ -3,10 +3,11 @@
 
     tools/vectors.py                 works out every case
     tools/vectors.py KIND FOLDER     adds the cases of FOLDER first, or replaces those of the same name; KIND is grammar, check,
-                                     build, scan or session
+                                     build, scan, session or expected
 
 FOLDER has a folder for each case: `grammar`, `table`, `tokens` (one a line), `scans`, as its kind asks; `out_len` (the length of the slice
-lent) or `lens` (`STACK,LISTING`) where they are not 65,536 and 65,535 each; and `expected`. A session with `scans` is run both ways.
+lent) or `lens` (`STACK,LISTING`) where they are not 65,536 and 65,535 each; and `expected`. A session with `scans` is run both ways. A case of list_expected
+has `arg1`, `arg2` and `arg3`, the program's arguments.
 What a case must write is worked out by tables.py and sessions.py, from document 01's text and not from the proved code; where a case comes
 with `expected`, the two must agree.
 """
@@ -14,7 +15,9 @@ import os, sys
 import sessions, tables
 
 CRATE = os.path.join(os.path.dirname(os.path.abspath(__file__)), '..', 'crates', 'vectors')
-WORDS = {'1,': 1, '2,': 2, '3,': 2, '4,': 2, '5,': 5, '6,': 5}
+WORDS = {'1,': 1, '2,': 2, '3,': 2, '4,': 2, '5,': 5, '6,': 5, '7,': 6, '8,': 6}
+# what the program lends of stack and listing for a list, where a case says 65,536
+LENT = 1048576
 
 
 def load(*path):
@@ -67,8 +70,16 @@ def session(run, grammar, table, content, stack, listing):
     return lines(f'{number},{place},{len(rules)},{units}', *rules)
 
 
+def listed(run, grammar, table, content, stack, listing, room):
+    lent = [LENT if n == 65536 else n for n in (stack, listing)]
+    number, place, codes = run(data(grammar), data(table), data(content), *lent, room)
+    return lines(f'{number},{place}', *codes)
+
+
 def written(call, words):
     words = [int(w[:-1]) if w.endswith(',') else w for w in words]
+    if call in ('7,', '8,'):
+        return listed(sessions.list_expected if call == '7,' else sessions.list_expected_scans, *words)
     if call in ('5,', '6,'):
         return session(sessions.run_session if call == '5,' else sessions.run_scans, *words)
     return {'1,': read_grammar, '2,': check_tables, '3,': build_tables, '4,': read_scans}[call](*words)
@@ -97,6 +108,8 @@ def given(kind, root):
     """The cases of a folder, their files stored: the call, its words, and what is expected."""
     for name in sorted(os.listdir(root)):
         at = os.path.join(root, name)
+        if not os.path.isdir(at):
+            continue
 
         def put(file, ending=''):
             content = load(at, file)
@@ -114,6 +127,9 @@ def given(kind, root):
             cases = [('3,', [put('grammar'), room])]
         elif kind == 'scan':
             cases = [('4,', [put('scans'), room])]
+        elif kind == 'expected':
+            files = put('arg1', '.grammar'), put('arg2', '.tables'), put('arg3', '.scans')
+            cases = [('8,', [*files, '65536,', '65536,', '64,'])]
         else:
             books = [put('grammar', '.grammar'), put('table', '.tables')]
             lent = [n + ',' for n in option(os.path.join(at, 'lens'), '65535,65535').split(',')]

@@ -5,7 +5,10 @@
 //     4, SCANS LENGTH,                           read_scans, into a slice of so many bytes
 //     5, GRAMMAR TABLES TOKENS STACK, LISTING,   run_session over tokens, a byte each, with slices of so many bytes
 //     6, GRAMMAR TABLES SCANS STACK, LISTING,    run_scans
+//     7, GRAMMAR TABLES TOKENS STACK, LISTING, CODES,   list_expected; 65,536 stands for all that the program can lend
+//     8, GRAMMAR TABLES SCANS STACK, LISTING, CODES,    list_expected_scans
 // Prints for each the name of its last file, what the call answers, and what is not 0 in each slice that was lent, which held 7s.
+use expected::ExpectedReply;
 use program::Input;
 use program::OUTPUT;
 use program::argument_number;
@@ -207,8 +210,132 @@ fn show_lent(call: usize, i: usize, grammar: &[u8], tables: &[u8], input: &[u8],
     program::flush(&mut out);
 }
 
-fn run_session(call: usize, i: usize, n: usize, k: usize)
-    requires { ⌜ (i + 2 < 18446744073709551616) × (n ≤ 65536) × (k ≤ 65536) ⌝ }
+fn expect(
+    call: usize,
+    grammar: &[u8],
+    tables: &[u8],
+    input: &[u8],
+    stack: &mut [u8],
+    listing: &mut [u8],
+    codes: &mut [u8],
+) -> ExpectedReply {
+    if call == 7 {
+        return expected::list_expected(grammar, tables, input, stack, listing, codes);
+    }
+    expected_scans::list_expected_scans(grammar, tables, input, stack, listing, codes)
+}
+
+// Prints each byte that is not 0 from place n on.
+fn print_rest(out: &mut [u8; OUTPUT], bytes: &[u8], n: usize) {
+    let mut i = n;
+    while i < bytes.len() {
+        if bytes[i] == 0 {
+            i += 1;
+            continue;
+        }
+        program::print_number(out, wide(bytes[i]));
+        i += 1;
+    }
+}
+
+fn wide(b: u8) -> u64 {
+    b as u64
+}
+
+// Prints the codes that are counted, then what is not 0 in each slice; of the codes, past those.
+fn show_expected(
+    out: &mut [u8; OUTPUT],
+    call: usize,
+    grammar: &[u8],
+    tables: &[u8],
+    input: &[u8],
+    stack: &mut [u8],
+    listing: &mut [u8],
+    codes: &mut [u8],
+) {
+    let answer = expect(call, grammar, tables, input, stack, listing, codes);
+    print_reply(out, expected::as_reply(answer));
+    let n = expected::code_count(answer);
+    program::print_first(out, codes, n);
+    print_rest(out, codes, n);
+    program::print_bytes(out, listing);
+    program::print_bytes(out, stack);
+}
+
+// Lends the first n, k and m bytes of the slices.
+fn show_expected_in(
+    out: &mut [u8; OUTPUT],
+    call: usize,
+    grammar: &[u8],
+    tables: &[u8],
+    input: &[u8],
+    stack: &mut [u8],
+    n: usize,
+    listing: &mut [u8],
+    k: usize,
+    codes: &mut [u8],
+    m: usize,
+)
+    requires { ⌜ (n ≤ length (now stack)) × (k ≤ length (now listing)) × (m ≤ length (now codes)) ⌝ }
+{
+    show_expected(
+        out,
+        call,
+        grammar,
+        tables,
+        input,
+        &mut stack[..n],
+        &mut listing[..k],
+        &mut codes[..m],
+    );
+}
+
+// The most states, and rules, that are lent for a list.
+const LENT: usize = 1048576;
+
+fn lent(n: usize) -> usize
+    ensures { λ r. ⌜ r ≤ 1048576 ⌝ }
+{
+    if n < 65536 {
+        return n;
+    }
+    LENT
+}
+
+fn show_expected_lent(
+    call: usize,
+    i: usize,
+    grammar: &[u8],
+    tables: &[u8],
+    input: &[u8],
+    n: usize,
+    k: usize,
+    m: usize,
+)
+    requires { ⌜ m ≤ 65536 ⌝ }
+{
+    let mut stack = [7u8; LENT];
+    let mut listing = [7u8; LENT];
+    let mut codes = [7u8; 65536];
+    let mut out = named(i);
+    show_expected_in(
+        &mut out,
+        call,
+        grammar,
+        tables,
+        input,
+        &mut stack,
+        lent(n),
+        &mut listing,
+        lent(k),
+        &mut codes,
+        m,
+    );
+    program::flush(&mut out);
+}
+
+fn run_session(call: usize, i: usize, n: usize, k: usize, m: usize)
+    requires { ⌜ (i + 2 < 18446744073709551616) × (n ≤ 65536) × (k ≤ 65536) × (m ≤ 65536) ⌝ }
 {
     let mut grammar = [0u8; 65537];
     let mut tables = [0u8; 65537];
@@ -219,13 +346,17 @@ fn run_session(call: usize, i: usize, n: usize, k: usize)
     let a = first.size;
     let b = second.size;
     let c = third.size;
-    show_lent(call, i + 2, &grammar[..a], &tables[..b], &input[..c], n, k);
+    if call < 7 {
+        show_lent(call, i + 2, &grammar[..a], &tables[..b], &input[..c], n, k);
+        return;
+    }
+    show_expected_lent(call, i + 2, &grammar[..a], &tables[..b], &input[..c], n, k, m);
 }
 
 // Runs the case that begins at argument i, and answers where the next begins.
 fn run_case(i: usize) -> usize
-    requires { ⌜ i + 6 < 18446744073709551616 ⌝ }
-    ensures { λ r. ⌜ (i < r) × (r ≤ i + 6) ⌝ }
+    requires { ⌜ i + 7 < 18446744073709551616 ⌝ }
+    ensures { λ r. ⌜ (i < r) × (r ≤ i + 7) ⌝ }
 {
     let call = argument_number(i);
     match call {
@@ -241,9 +372,19 @@ fn run_case(i: usize) -> usize
             run_one(call, i + 1, argument_number(i + 2));
             i + 3
         }
-        _ => {
-            run_session(call, i + 1, argument_number(i + 4), argument_number(i + 5));
+        5 | 6 => {
+            run_session(call, i + 1, argument_number(i + 4), argument_number(i + 5), 0);
             i + 6
+        }
+        _ => {
+            run_session(
+                call,
+                i + 1,
+                argument_number(i + 4),
+                argument_number(i + 5),
+                argument_number(i + 6),
+            );
+            i + 7
         }
     }
 }
