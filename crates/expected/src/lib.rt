@@ -136,13 +136,13 @@ fn try_code(
 }
 
 // A trial or the list outgrows what is lent.
-fn refuse_list(place: usize, codes: &mut [u8]) -> ExpectedReply
-    ensures { λ r. ⌜ ListTold (refusedBy (length (now (codes .entry))) (record { kind = Kind.BufferTooSmall; place = place })) r (now (codes .exit)) ⌝ }
+fn refuse_list(at: usize, codes: &mut [u8]) -> ExpectedReply
+    ensures { λ r. ⌜ ListTold (refusedBy (length (now (codes .entry))) (record { kind = Kind.BufferTooSmall; place = at })) r (now (codes .exit)) ⌝ }
 {
     clear(codes);
     ExpectedReply::Refused(Refusal {
         kind: Kind::BufferTooSmall,
-        place,
+        place: at,
     })
 }
 
@@ -214,7 +214,15 @@ fn copy_front(tokens: &[u8], count: usize, out: &mut [u8])
     }
 }
 
-// Lists the codes that could come after the first tokens. The slices of the walk are cleared after all trials.
+// Clears the slices of the walks, once for all trials.
+fn clear_walks(stack: &mut [u8], listing: &mut [u8])
+    ensures { λ r. ⌜ (now (stack .exit) ≡ replicate (length (now (stack .entry))) 0) × (now (listing .exit) ≡ replicate (length (now (listing .entry))) 0) ⌝ }
+{
+    clear(stack);
+    clear(listing);
+}
+
+// Lists the codes that could come after the first tokens.
 fn list_at(
     kinds: &[u8],
     values: &[u8],
@@ -245,8 +253,7 @@ fn list_at(
         listing,
         codes,
     );
-    clear(stack);
-    clear(listing);
+    clear_walks(stack, listing);
     answer
 }
 
@@ -311,8 +318,7 @@ fn list_machine(
 pub fn refuse(why: Refusal, stack: &mut [u8], listing: &mut [u8], codes: &mut [u8]) -> ExpectedReply
     ensures { λ r. ⌜ Tells (length (now (stack .entry))) (length (now (listing .entry))) (refusedBy (length (now (codes .entry))) why) r (now (stack .exit)) (now (listing .exit)) (now (codes .exit)) ⌝ }
 {
-    clear(stack);
-    clear(listing);
+    clear_walks(stack, listing);
     clear(codes);
     ExpectedReply::Refused(why)
 }

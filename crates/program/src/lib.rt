@@ -250,6 +250,19 @@ pub fn print_bytes(out: &mut [u8; OUTPUT], bytes: &[u8]) {
     }
 }
 
+// Prints each of the first n bytes as a number on a line, zeros too, and each after them that is not 0.
+pub fn print_list(out: &mut [u8; OUTPUT], bytes: &[u8], n: usize) {
+    let mut i = 0;
+    while i < bytes.len() {
+        if i < n {
+            print_number(out, wide(bytes[i]) as u64);
+        } else if bytes[i] != 0 {
+            print_number(out, wide(bytes[i]) as u64);
+        }
+        i += 1;
+    }
+}
+
 // Prints what a session answers: `number,place,rules,units`, then each listed rule on a line.
 pub fn print_session(
     out: &mut [u8; OUTPUT],

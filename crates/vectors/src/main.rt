@@ -225,24 +225,7 @@ fn expect(
     expected_scans::list_expected_scans(grammar, tables, input, stack, listing, codes)
 }
 
-// Prints each byte that is not 0 from place n on.
-fn print_rest(out: &mut [u8; OUTPUT], bytes: &[u8], n: usize) {
-    let mut i = n;
-    while i < bytes.len() {
-        if bytes[i] == 0 {
-            i += 1;
-            continue;
-        }
-        program::print_number(out, wide(bytes[i]));
-        i += 1;
-    }
-}
-
-fn wide(b: u8) -> u64 {
-    b as u64
-}
-
-// Prints the codes that are counted, then what is not 0 in each slice; of the codes, past those.
+// Prints the codes that are counted.
 fn show_expected(
     out: &mut [u8; OUTPUT],
     call: usize,
@@ -255,9 +238,7 @@ fn show_expected(
 ) {
     let answer = expect(call, grammar, tables, input, stack, listing, codes);
     print_reply(out, expected::as_reply(answer));
-    let n = expected::code_count(answer);
-    program::print_first(out, codes, n);
-    print_rest(out, codes, n);
+    program::print_list(out, codes, expected::code_count(answer));
     program::print_bytes(out, listing);
     program::print_bytes(out, stack);
 }
@@ -350,7 +331,16 @@ fn run_session(call: usize, i: usize, n: usize, k: usize, m: usize)
         show_lent(call, i + 2, &grammar[..a], &tables[..b], &input[..c], n, k);
         return;
     }
-    show_expected_lent(call, i + 2, &grammar[..a], &tables[..b], &input[..c], n, k, m);
+    show_expected_lent(
+        call,
+        i + 2,
+        &grammar[..a],
+        &tables[..b],
+        &input[..c],
+        n,
+        k,
+        m,
+    );
 }
 
 // Runs the case that begins at argument i, and answers where the next begins.
@@ -373,7 +363,13 @@ fn run_case(i: usize) -> usize
             i + 3
         }
         5 | 6 => {
-            run_session(call, i + 1, argument_number(i + 4), argument_number(i + 5), 0);
+            run_session(
+                call,
+                i + 1,
+                argument_number(i + 4),
+                argument_number(i + 5),
+                0,
+            );
             i + 6
         }
         _ => {

@@ -19,11 +19,8 @@ slice-aggregate-try-codes c = search needs
 try-codes-requires : tie.Need-try-codes-requires
 try-codes-requires c κs = search needs
 
-clear-requires : tie.Need-clear-requires
-clear-requires c κs = search needs
-
-clear-requires-2 : tie.Need-clear-requires-2
-clear-requires-2 c κs = search needs
+clear-walks-requires : tie.Need-clear-walks-requires
+clear-walks-requires c κs = search needs
 
 same-length : tie.Need-same-length
 same-length c = search needs
@@ -36,16 +33,16 @@ same-length-3 c = search needs
 
 returns : tie.Need-returns
 returns c =
-    let at-clear = c .before .before .before .before .before .before in
-    let at-try = at-clear .before .before .before .before .before .before .before .before .before in
+    let at-clear = c .before .before .before .before in
+    let at-try = at-clear .before .before .before .before .before .before .before .before .before .before in
     let at-copy = at-try .before .before .before .before .before .before in
     let k = at-copy .before .before .before .before .before .before .before .before .before .before .args in
     let t = at-try .try-codes in
     record {
       told = list-told (k .kinds .now) (k .values .now) (k .gotos .now) (k .rows .now) (k .machine) (length (k .stack .now)) (length (k .listing .now)) (k .place)
           (length (k .codes .now)) (at-copy .copy-front .ensures) (t .ensures);
-      stack-is = at-clear .clear .ensures ∙ ap (λ (i : ℕ). replicate i 0) (t .kept .1 .1 .1 .1 .1 .1 .1 .0);
-      listing-is = c .before .before .clear2 .ensures ∙ ap (λ (i : ℕ). replicate i 0) (t .kept .1 .1 .1 .1 .1 .1 .1 .1 .0);
+      stack-is = at-clear .clear-walks .ensures .0 ∙ ap (λ (i : ℕ). replicate i 0) (t .kept .1 .1 .1 .1 .1 .1 .1 .0);
+      listing-is = at-clear .clear-walks .ensures .1 ∙ ap (λ (i : ℕ). replicate i 0) (t .kept .1 .1 .1 .1 .1 .1 .1 .1 .0);
     }
 
 pub list-at-spec : {M : Type 1} → statement M
@@ -56,8 +53,7 @@ list-at-spec =
     copy-front-requires
     slice-aggregate-try-codes
     try-codes-requires
-    clear-requires
-    clear-requires-2
+    clear-walks-requires
     same-length
     same-length-2
     same-length-3

@@ -70,12 +70,16 @@ same-length-5 c = search needs
 
 returns-2 : tie.Need-returns-2
 returns-2 c = λ g t D.
-    let at-walk = c .before .before .before .before .before .before .before .before .before .before .before .before .before .before .before .before .before in
+    let at-list = c .before .before .before .before .before .before in
+    let at-reply = at-list .before .before .before .before .before in
+    let at-walk = at-reply .before .before .before .before .before .before in
     let k = at-walk .before .before .before .before .before .before .before .before .before .before .before .args in
     let w = at-walk .walk-machine in
-    let p = c .before .before .before .before .before .before .before .before .before .before .before .walked .given .0 .0 .tokens in
-    listed-told (k .kinds .now) (k .values .now) (k .gotos .now) (k .rows .now) (k .machine) p (length (k .codes .now)) (take p (k .tokens .now)) (w .kept .1 .1 .1 .1 .1 .1 .0) (w .kept .1 .1 .1 .1 .1 .1 .1 .0)
-    (list-is g t (length (k .stack .now)) (length (k .listing .now)) (k .tokens .now) D (w .ensures g t D .reply-is) p (ends-whole (c .before .before .before .before .before .before .before .before .before .before .before .walked .given .1)) (length (k .codes .now))) (c .before .before .before .before .before .before .list-at .ensures)
+    let p = at-reply .walked .given .0 .0 .tokens in
+    let ends = ends-whole (at-reply .walked .given .1) in
+    listed-told (k .kinds .now) (k .values .now) (k .gotos .now) (k .rows .now) (k .machine) p (length (k .codes .now)) (take p (k .tokens .now))
+    (w .kept .1 .1 .1 .1 .1 .1 .0) (w .kept .1 .1 .1 .1 .1 .1 .1 .0)
+    (list-is g t (length (k .stack .now)) (length (k .listing .now)) (k .tokens .now) D (w .ensures g t D .reply-is) p ends (length (k .codes .now))) (at-list .list-at .ensures)
 
 same-length-6 : tie.Need-same-length-6
 same-length-6 c = search needs
@@ -88,12 +92,17 @@ same-length-8 c = search needs
 
 returns-3 : tie.Need-returns-3
 returns-3 c = λ g t D.
-    let at-walk = c .before .before .before .before .before .before .before .before .before .before .before .before .before .before .before .before .before .before .before in
+    let at-list = c .before .before .before .before .before .before in
+    let at-if = at-list .before .before .before .before in
+    let at-reply = at-if .before .before .before in
+    let at-walk = at-reply .before .before .before .before .before .before in
     let k = at-walk .before .before .before .before .before .before .before .before .before .before .before .args in
     let w = at-walk .walk-machine in
-    let p = c .before .before .before .before .before .before .before .before .before .before .before .before .before .walked2 .given .0 .0 .place in
-    listed-told (k .kinds .now) (k .values .now) (k .gotos .now) (k .rows .now) (k .machine) p (length (k .codes .now)) (take p (k .tokens .now)) (w .kept .1 .1 .1 .1 .1 .1 .0) (w .kept .1 .1 .1 .1 .1 .1 .1 .0)
-    (list-is g t (length (k .stack .now)) (length (k .listing .now)) (k .tokens .now) D (w .ensures g t D .reply-is) p (ends-wrong (c .before .before .before .before .before .before .before .before .before .before .before .before .before .walked2 .given .1) (sym (c .before .before .before .before .before .before .before .before .before .before .before .kind-number .ensures) ∙ c .before .before .before .before .before .before .before .before .before .before .if1 .left)) (length (k .codes .now))) (c .before .before .before .before .before .before .list-at2 .ensures)
+    let p = at-reply .walked2 .given .0 .0 .place in
+    let ends = ends-wrong (at-reply .walked2 .given .1) (sym (at-if .before .kind-number .ensures) ∙ at-if .if1 .left) in
+    listed-told (k .kinds .now) (k .values .now) (k .gotos .now) (k .rows .now) (k .machine) p (length (k .codes .now)) (take p (k .tokens .now))
+    (w .kept .1 .1 .1 .1 .1 .1 .0) (w .kept .1 .1 .1 .1 .1 .1 .1 .0)
+    (list-is g t (length (k .stack .now)) (length (k .listing .now)) (k .tokens .now) D (w .ensures g t D .reply-is) p ends (length (k .codes .now))) (at-list .list-at2 .ensures)
 
 pub list-machine-spec : {M : Type 1} → statement M
 list-machine-spec =

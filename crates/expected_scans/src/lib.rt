@@ -1,0 +1,65 @@
+// What could have come over a scan file.
+// The door is `list_expected_scans`.
+use expected::ExpectedReply;
+use reply::Kind;
+use reply::Refusal;
+use reply::Reply;
+ghost use mathlib.Core.Path.{_≡_};
+ghost use Prim.Native.Nat.{_≤_};
+ghost use lib.ListN.{length, replicate};
+ghost use Rattle.scans.specs.File.{scanned, house};
+ghost use Rattle.expected.specs.Expected.{Tells};
+ghost use Rattle.expected_scans.specs.ExpectedScans.{afterScans, expectedScans};
+
+// Reads a scan file that is not too long, and lists what could have come where its tokens end.
+fn list_scans(
+    grammar: &[u8],
+    tables: &[u8],
+    file: &[u8],
+    stack: &mut [u8],
+    listing: &mut [u8],
+    codes: &mut [u8],
+) -> ExpectedReply
+    requires { ⌜ length (now file) ≤ 65536 ⌝ }
+    ensures { λ r. ⌜ Tells (length (now (stack .entry))) (length (now (listing .entry))) (afterScans (length (now (stack .entry))) (length (now (listing .entry))) (length (now (codes .entry))) (now (grammar .entry)) (now (tables .entry)) (scanned house (now (file .entry)))) r (now (stack .exit)) (now (listing .exit)) (now (codes .exit)) ⌝ }
+{
+    let mut tokens = [0u8; 65536];
+    let read = scans::read_scans(file, &mut tokens);
+    match read {
+        Reply::Accepted(n) => {
+            expected::list_expected(grammar, tables, &tokens[..n], stack, listing, codes)
+        }
+        Reply::Refused(why) => {
+            let first = scan_session::first_refusal(grammar, tables, why);
+            expected::refuse(first, stack, listing, codes)
+        }
+    }
+}
+
+// What could have come after the scans of a file with the house letters, as `expected::list_expected` tells it of their tokens.
+pub fn list_expected_scans(
+    grammar: &[u8],
+    tables: &[u8],
+    file: &[u8],
+    stack: &mut [u8],
+    listing: &mut [u8],
+    codes: &mut [u8],
+) -> ExpectedReply
+    ensures replied { λ r. ⌜ r ≡ expectedScans (now (grammar .entry)) (now (tables .entry)) (now (file .entry)) (length (now (stack .entry))) (length (now (listing .entry))) (length (now (codes .entry))) .reply ⌝ }
+    ensures coded { λ r. ⌜ now (codes .exit) ≡ expectedScans (now (grammar .entry)) (now (tables .entry)) (now (file .entry)) (length (now (stack .entry))) (length (now (listing .entry))) (length (now (codes .entry))) .codes ⌝ }
+    ensures unlisted { λ r. ⌜ now (listing .exit) ≡ replicate (length (now (listing .entry))) 0 ⌝ }
+    ensures cleared { λ r. ⌜ now (stack .exit) ≡ replicate (length (now (stack .entry))) 0 ⌝ }
+{
+    if 65536 < file.len() {
+        return expected::refuse(
+            Refusal {
+                kind: Kind::LimitExceeded,
+                place: 0,
+            },
+            stack,
+            listing,
+            codes,
+        );
+    }
+    list_scans(grammar, tables, file, stack, listing, codes)
+}
