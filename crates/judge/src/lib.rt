@@ -26,7 +26,7 @@ struct State {
     cells: bool,
 }
 
-// Tells of state q, and flags in `grown` the lookaheads that its items ask.
+// Tells of state q, and flags in `asked` the lookaheads that its items ask.
 fn judge_state(
     items: &[u8],
     entries: &[u8],
