@@ -11,8 +11,8 @@ struct lent {
     size_t length;
 };
 
-static struct lent one, other;
-static uint64_t place, size, rules, units;
+static struct lent one, other, third;
+static uint64_t place, size, rules, units, count;
 static uint8_t grammar[65537], tables[65537], ambiguous[65537];
 static size_t g, t, a;
 static unsigned cases, wrong, all, all_wrong;
@@ -20,7 +20,7 @@ static unsigned cases, wrong, all, all_wrong;
 static uint8_t *lend(struct lent *s, size_t length) {
     memset(s->bytes, 7, sizeof s->bytes);
     s->length = length;
-    place = size = rules = units = 7;
+    place = size = rules = units = count = 7;
     return s->bytes;
 }
 
@@ -133,6 +133,25 @@ static void sessions(session *call, const void *input, size_t n) {
     run(call, t - 1, input, n, 9, 5, BURAIGUE_MALFORMED, t - 9);
 }
 
+static void list(size_t length, const void *input, size_t n, size_t s, size_t l, size_t c, enum buraigue_reply reply, uint64_t at,
+                 const char *codes, size_t k) {
+    uint8_t *stack = lend(&one, s), *list = lend(&other, l), *slice = lend(&third, c);
+    uint64_t number = buraigue_list_expected(grammar, g, tables, length, input, n, stack, s, list, l, slice, c, &place, &count);
+    expect(number, reply, at, count == k && holds(&one, "", 0) && holds(&other, "", 0) && holds(&third, codes, k));
+}
+
+/* after 1423 a bag is whole, and another may begin; 11.. is wrong at 1, where a group or a repeat fits; a trial of 2 needs what 14 needs */
+static void lists(void) {
+    list(t, tokens, sizeof tokens, BURAIGUE_BOOK, BURAIGUE_BOOK, BURAIGUE_CODES, BURAIGUE_ACCEPTED, 4, "\0\1", 2);
+    list(t, tokens, sizeof tokens, BURAIGUE_BOOK, BURAIGUE_BOOK, 2, BURAIGUE_ACCEPTED, 4, "\0\1", 2);
+    list(t, tokens, sizeof tokens, BURAIGUE_BOOK, BURAIGUE_BOOK, 1, BURAIGUE_BUFFER_TOO_SMALL, 4, "", 0);
+    list(t, "\1\1\2\3", 4, BURAIGUE_BOOK, BURAIGUE_BOOK, BURAIGUE_CODES, BURAIGUE_ACCEPTED, 1, "\2\4", 2);
+    list(t, "\1\4", 2, BURAIGUE_BOOK, 4, BURAIGUE_CODES, BURAIGUE_BUFFER_TOO_SMALL, 2, "", 0);
+    list(t, "\1\5\2\3", 4, BURAIGUE_BOOK, BURAIGUE_BOOK, BURAIGUE_CODES, BURAIGUE_UNDECLARED, 1, "", 0);
+    list(t - 1, tokens, sizeof tokens, BURAIGUE_BOOK, BURAIGUE_BOOK, BURAIGUE_CODES, BURAIGUE_MALFORMED, t - 9, "", 0);
+    done("buraigue_list_expected");
+}
+
 int main(void) {
     g = load("examples/d.grammar", grammar), t = load("examples/d.tables", tables), a = load("examples/ambiguous.grammar", ambiguous);
     read_grammars();
@@ -147,6 +166,7 @@ int main(void) {
     run(buraigue_run_scans, t, "D,W0001\nD,W0002\n", 16, 9, 5, BURAIGUE_SYNTAX_ERROR, 1);
     run(buraigue_run_scans, t, scans, SCANS - 1, 9, 5, BURAIGUE_MALFORMED, 20);
     done("buraigue_run_scans");
+    lists();
     printf("%u cases, %u wrong\n", all, all_wrong);
     return all_wrong != 0;
 }

@@ -8,7 +8,7 @@
 
 enum { SIZE = 8 << 20, PAINT = 0xa5 };
 
-static uint8_t grammar[65537], tables[65537], items[BURAIGUE_ITEMS], tokens[65535], read[BURAIGUE_TOKENS], book[BURAIGUE_BOOK], states[1 << 20], listing[1 << 20];
+static uint8_t grammar[65537], tables[65537], items[BURAIGUE_ITEMS], tokens[65535], read[BURAIGUE_TOKENS], book[BURAIGUE_BOOK], states[1 << 20], listing[1 << 20], codes[BURAIGUE_CODES];
 static size_t g, t;
 static const uint8_t scans[] = "D,W0001\nD,W0001\nG,O\nP,E4532\n";
 static uint64_t place, size, rules, units;
@@ -24,6 +24,10 @@ static void run_session(void) {
 }
 static void run_scans(void) {
     buraigue_run_scans(grammar, g, tables, t, scans, sizeof scans - 1, states, sizeof states, listing, sizeof listing, &place, &rules, &units);
+}
+static void list_expected(void) {
+    for (uint64_t k = 0; k <= sizeof tokens; k = 2 * k + 1)
+        buraigue_list_expected(grammar, g, tables, t, tokens, k, states, sizeof states, listing, sizeof listing, codes, sizeof codes, &place, &size);
 }
 
 static void *run(void *call) {
@@ -50,7 +54,7 @@ static size_t depth(void (*call)(void)) {
 int main(int argc, char **argv) {
     static const struct { const char *name; void (*call)(void); } calls[] = {
         {"read_grammar", read_grammar}, {"read_scans", read_scans}, {"check_tables", check_tables},
-        {"build_tables", build_tables}, {"run_session", run_session}, {"run_scans", run_scans}};
+        {"build_tables", build_tables}, {"run_session", run_session}, {"run_scans", run_scans}, {"list_expected", list_expected}};
     memset(tokens, 1, sizeof tokens);
     size_t base = depth(nothing);
     for (size_t k = 0; k < sizeof calls / sizeof *calls; k++) {

@@ -38,8 +38,8 @@ enum buraigue_reply {
     BURAIGUE_SYNTAX_ERROR = 12
 };
 
-/* what is always enough to lend: for an item table, for the tokens of a scan file, for a table book */
-enum { BURAIGUE_ITEMS = 8192, BURAIGUE_TOKENS = 16384, BURAIGUE_BOOK = 65536 };
+/* what is always enough to lend: for an item table, for the tokens of a scan file, for a table book, for the codes that could come */
+enum { BURAIGUE_ITEMS = 8192, BURAIGUE_TOKENS = 16384, BURAIGUE_BOOK = 65536, BURAIGUE_CODES = 64 };
 
 /* Reads a grammar book into the item table: rule i in the 64 bytes from items[64 * i] on, its left side, length, recognition point and
    unit flag (1 for U), symbol k at 16 + k, and at 32 + k a 1 where symbol k begins a group. Less than BURAIGUE_ITEMS bytes are too few.
@@ -67,6 +67,15 @@ uint64_t buraigue_run_session(const uint8_t *grammar, size_t grammar_length, con
 uint64_t buraigue_run_scans(const uint8_t *grammar, size_t grammar_length, const uint8_t *tables, size_t tables_length,
                             const uint8_t *file, size_t file_length, uint8_t *stack, size_t stack_length, uint8_t *listing,
                             size_t listing_length, uint64_t *place, uint64_t *rules, uint64_t *units);
+
+/* What could have come: where buraigue_run_session, lent this stack and listing, would reply 0 or 12 at a place, every code that could
+   stand there, in rising order: 0 where the tokens before the place are a sentence already, and each terminal that after them begins one.
+   The reply is then 0 at that place, and *count codes stand in codes, of which BURAIGUE_CODES are always enough; 0 is a code and the
+   filling too, so look at *count. Where a code's trial outgrows stack or listing, or the list its slice, the reply is
+   BURAIGUE_BUFFER_TOO_SMALL at the place. Every other reply is the session's. stack and listing are zeros after. Machine stack: 1,792 KiB. */
+uint64_t buraigue_list_expected(const uint8_t *grammar, size_t grammar_length, const uint8_t *tables, size_t tables_length,
+                                const uint8_t *tokens, size_t tokens_length, uint8_t *stack, size_t stack_length, uint8_t *listing,
+                                size_t listing_length, uint8_t *codes, size_t codes_length, uint64_t *place, uint64_t *count);
 
 #ifdef __cplusplus
 }

@@ -6,7 +6,10 @@ use Rattle.reply.specs.declared.Reply.{Reply}
 use Rattle.walker.specs.declared.Walked.{Walked}
 use Rattle.walker.specs.Walked.{asReply, ruleCount, unitCount}
 use Rattle.session.specs.Session.{Session}
-use Rattle.buraigue_c.specs.Told.{ReplyTold, SessionTold}
+use Rattle.expected.specs.declared.ExpectedReply.{ExpectedReply}
+use Rattle.expected.specs.Expected.{Expected, codeCount}
+use Rattle.expected.specs.Expected as expected
+use Rattle.buraigue_c.specs.Told.{ReplyTold, SessionTold, ExpectedTold}
 
 pub told : {r x : Reply} {number place : ℕ} → r ≡ x → ReplyTold r number place → ReplyTold x number place
 told {number = n} {place = p} e t = subst (λ (y : Reply). ReplyTold y n p) e t
@@ -21,3 +24,7 @@ session-told e t = record {
   stack-is = e .1 .1;
   listing-is = e .1 .0;
 }
+
+pub expected-told : {x : Expected} {a : ExpectedReply} {y : Reply} {number place count : ℕ} {codes : List ℕ} → a ≡ x .reply → codes ≡ x .codes
+    → y ≡ expected.asReply a → count ≡ codeCount a → ReplyTold y number place → ExpectedTold x number place count codes
+expected-told e c r n t = record { reply-told = told (r ∙ ap expected.asReply e) t; count-is = n ∙ ap codeCount e; codes-are = c }

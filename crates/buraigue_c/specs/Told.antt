@@ -6,6 +6,8 @@ use Rattle.reply.specs.declared.Reply.{Reply}
 use Rattle.reply.specs.Reply.{numberOf, placeOf}
 use Rattle.walker.specs.Walked.{asReply, ruleCount, unitCount}
 use Rattle.session.specs.Session.{Session}
+use Rattle.expected.specs.Expected.{Expected, codeCount}
+use Rattle.expected.specs.Expected as expected
 
 -- a reply's number and place
 pub record ReplyTold (r : Reply) (number place : ℕ) : Type 0 where
@@ -19,3 +21,9 @@ pub record SessionTold (s : Session) (number place rules units : ℕ) (stack lis
   pub units-are : units ≡ unitCount (s .reply)
   pub stack-is : stack ≡ s .stack
   pub listing-is : listing ≡ s .listing
+
+-- a list of what could have come: the reply, the count and the list slice
+pub record ExpectedTold (x : Expected) (number place count : ℕ) (codes : List ℕ) : Type 0 where
+  pub reply-told : ReplyTold (expected.asReply (x .reply)) number place
+  pub count-is : count ≡ codeCount (x .reply)
+  pub codes-are : codes ≡ x .codes

@@ -4,7 +4,7 @@
 use reply::Reply;
 use session::SessionReply;
 ghost use mathlib.Core.Path.{_≡_};
-ghost use lib.ListN.{length};
+ghost use lib.ListN.{length, replicate};
 ghost use Rattle.grammar.specs.Memory.{asReply, replyOf, readOf, memoryOf};
 ghost use Rattle.scans.specs.File.{scansOf};
 ghost use Rattle.checker.specs.Checked.{verdictOf};
@@ -12,7 +12,8 @@ ghost use Rattle.builder.specs.Build.{buildOf};
 ghost use Rattle.walker.specs.Walked as walker;
 ghost use Rattle.session.specs.Session.{session};
 ghost use Rattle.scan_session.specs.ScanSession.{scanSession};
-ghost use Rattle.buraigue_c.specs.Told.{ReplyTold, SessionTold};
+ghost use Rattle.expected.specs.Expected.{expected};
+ghost use Rattle.buraigue_c.specs.Told.{ReplyTold, SessionTold, ExpectedTold};
 
 fn tell_reply(reply: Reply, place: &mut u64) -> u64
     ensures { λ r. ⌜ ReplyTold reply r (now (place .exit)) ⌝ }
@@ -111,4 +112,24 @@ pub extern "C" fn buraigue_run_scans(
 {
     let answer = scan_session::run_scans(grammar, tables, file, stack, listing);
     tell_session(answer, place, rules, units)
+}
+
+// What could have come, as expected::list_expected.
+#[no_mangle]
+pub extern "C" fn buraigue_list_expected(
+    grammar: &[u8],
+    tables: &[u8],
+    tokens: &[u8],
+    stack: &mut [u8],
+    listing: &mut [u8],
+    codes: &mut [u8],
+    place: &mut u64,
+    count: &mut u64,
+) -> u64
+    ensures { λ r. ⌜ ExpectedTold (expected (now (grammar .entry)) (now (tables .entry)) (now (tokens .entry)) (length (now (stack .entry))) (length (now (listing .entry))) (length (now (codes .entry)))) r (now (place .exit)) (now (count .exit)) (now (codes .exit)) ⌝ }
+    ensures { λ r. ⌜ (now (stack .exit) ≡ replicate (length (now (stack .entry))) 0) × (now (listing .exit) ≡ replicate (length (now (listing .entry))) 0) ⌝ }
+{
+    let answer = expected::list_expected(grammar, tables, tokens, stack, listing, codes);
+    *count = expected::code_count(answer) as u64;
+    tell_reply(expected::as_reply(answer), place)
 }

@@ -16,6 +16,8 @@ use Rattle.checker.specs.Checked.{verdictOf, Accepts}
 use Rattle.checker.proofs.Exactly as checker
 use Rattle.session.specs.Demand3.{Demanded}
 use Rattle.session.proofs.Demand3 as session
+use Rattle.expected.specs.Promise as expected
+use Rattle.expected.proofs.Promise as listed
 use Rattle.builder_promise.specs.Promise.{Promise}
 use Rattle.builder_promise.proofs.Promise as builder
 use Rattle.worked_examples.specs.Books.{smallest, g1, g1-cut, d}
@@ -37,6 +39,10 @@ pub demand3 : (gs s : List ℕ) → verdictOf gs s ≡ Accepted 0
     → (g : Grammar) × (t : Table) × Accepts gs s g t
     × ((w : List ℕ) → length w ≤ 65535 → ((a : ℕ) → In a w → IsTerminal g a) → Demanded gs s g t w)
 demand3 = session.demand3
+
+-- Document 02, S-1, of the call that lists what could have come: `Promise` has its sentences, one by one
+pub expected-promise : expected.Promise
+expected-promise = listed.promise
 
 -- None of them speaks of nothing: the books of document 01 are built and accepted, and its starred sessions answer what is told
 pub built : Each Built (smallest ∷ g1 ∷ g1-cut ∷ d ∷ [])

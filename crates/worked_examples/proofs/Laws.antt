@@ -27,10 +27,15 @@ use Rattle.checker.proofs.Exactly.{accepts}
 use Rattle.builder.specs.Build.{textLength, buildFrom, buildOf}
 use Rattle.worked_examples.specs.Books.{book, Books}
 use Rattle.session.specs.Session.{Session, refusedAt, tableSession, afterBooks, session}
+use Rattle.expected.specs.Expected.{Expected, onReply, listFor, expected}
 
 -- a session over books that are those of g and t
 abbrev pub sessionOver : Grammar → Table → List ℕ → ℕ → ℕ → Session
 sessionOver g t w i k = cond (ltb 65535 (length w)) (refusedAt i k LimitExceeded 0) (tableSession i k g t w)
+
+-- and what could have come where it ends
+abbrev pub expectedOver : Grammar → Table → List ℕ → ℕ → ℕ → ℕ → Expected
+expectedOver g t w i k room = onReply room (sessionOver g t w i k .reply) (listFor room i k (whole g t) w)
 
 pub record Computes (b : Books) (g : Grammar) (n : ℕ) : Type 0 where
   -- the grammar book reads as g,
@@ -96,3 +101,9 @@ module _ {b : Books} {g : Grammar} {n : ℕ} (h : Computes b g n) where
   pub session-is : (w : List ℕ) (i k : ℕ) → session gs s w i k ≡ sessionOver g (computed g n) w i k
   unfolding session
   session-is w i k = ap (λ (x : Reading). cond (ltb 65535 (length w)) (refusedAt i k LimitExceeded 0) (afterBooks i k x w)) checked
+
+  pub expected-is : (w : List ℕ) (i k room : ℕ) → expected gs s w i k room ≡ expectedOver g (computed g n) w i k room
+  unfolding expected
+  expected-is w i k room =
+      ap (λ (x : Session). onReply room (x .reply) (listFor room i k (checkedOf gs s) w)) (session-is w i k)
+      ∙ ap (λ (x : Reading). onReply room (sessionOver g (computed g n) w i k .reply) (listFor room i k x w)) checked

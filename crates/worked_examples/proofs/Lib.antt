@@ -2,3 +2,4 @@ pub mod Built
 pub mod Starred
 pub mod Computing
 pub mod Laws
+pub mod Expected

@@ -1,3 +1,4 @@
 pub mod Books
 pub mod Built
 pub mod Starred
+pub mod Expected
