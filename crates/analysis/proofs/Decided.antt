@@ -14,8 +14,8 @@ use Rattle.language.specs.Nullable.{Nullable, AllIn, Starts}
 use Rattle.fixpoint.proofs.Tests.{map?, both?, either?}
 use Rattle.fixpoint.specs.Each.{Each}
 use Rattle.fixpoint.proofs.Decision.{decide}
-use Rattle.reduction.specs.Reaches.{Occurrence, occurs}
-use Rattle.reduction.specs.Reduced.{derived?, terminal?}
+use Rattle.grammar_reduction.specs.Reaches.{Occurrence, occurs}
+use Rattle.grammar_reduction.specs.Reduced.{derived?, terminal?}
 use Rattle.analysis.specs.ByRules.{Below, rightOf, NoSeed, starting, Itself, BeginsByRules, FirstByRules}
 use Rattle.analysis.proofs.RuleSets.{rules-nullable, nullable-rules}
 

@@ -8,8 +8,8 @@ use Rattle.items.specs.Layout.{leftAt, lengthAt, symbolAt}
 use Rattle.fixpoint.specs.Flags.{On, Off, Marks}
 use Rattle.fixpoint.specs.Least.{seed, by, least-every, least-join}
 use Rattle.fixpoint.specs.Rows.{cell, Row, row-cell, column-low, to-row, from-row}
-use Rattle.reduction.specs.Reaches.{occurs, ruleOf, symbolOf}
-use Rattle.reduction.specs.InMemory.{IsRule}
+use Rattle.grammar_reduction.specs.Reaches.{occurs, ruleOf, symbolOf}
+use Rattle.grammar_reduction.specs.InMemory.{IsRule}
 use Rattle.analysis.specs.InMemory.{startingIn, Has, FirstFrom, Copied, old, copy, Includes, RuleMet}
 
 module _ (m : List ℕ) (rules : ℕ) (N : ℕ → Type 0) where

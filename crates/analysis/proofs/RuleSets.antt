@@ -13,8 +13,8 @@ use Rattle.language.specs.First.{First}
 use Rattle.language.specs.Nullable.{Nullable, Begins, RightProductive, AllIn, Starts}
 use Rattle.language.proofs.FirstLaws.{nullable-in, begins-in, empty-forest, starts-forest, first-starts, starts-first}
 use Rattle.fixpoint.specs.Least.{Least, seed, by, least-every}
-use Rattle.reduction.specs.Derives.{leftOf, derive, derive-every}
-use Rattle.reduction.specs.Reaches.{occurs, ruleOf, symbolOf}
+use Rattle.grammar_reduction.specs.Derives.{leftOf, derive, derive-every}
+use Rattle.grammar_reduction.specs.Reaches.{occurs, ruleOf, symbolOf}
 use Rattle.analysis.specs.ByRules.{Below, rightOf, starting, NullableByRules, Itself, BeginsByRules, FirstByRules}
 
 -- ---- strings by place

@@ -14,10 +14,10 @@ use Rattle.fixpoint.specs.Flags.{On, Marks}
 use Rattle.fixpoint.specs.Least.{Least, Among, least-map}
 use Rattle.fixpoint.specs.Rows.{cell, Row, column-low, to-row, from-row}
 use Rattle.fixpoint.proofs.PassLaws.{all-off}
-use Rattle.reduction.specs.Derives.{leftOf}
-use Rattle.reduction.specs.Reaches.{Occurrence, ruleOf, symbolOf}
-use Rattle.reduction.specs.InMemory.{IsRule, productionsIn}
-use Rattle.reduction.proofs.TransferLaws.{productions-to, productions-from, marks-map}
+use Rattle.grammar_reduction.specs.Derives.{leftOf}
+use Rattle.grammar_reduction.specs.Reaches.{Occurrence, ruleOf, symbolOf}
+use Rattle.grammar_reduction.specs.InMemory.{IsRule, productionsIn}
+use Rattle.grammar_reduction.proofs.TransferLaws.{productions-to, productions-from, marks-map}
 use Rattle.analysis.specs.ByRules.{rightOf, starting, Itself, BeginsByRules}
 use Rattle.analysis.proofs.RuleSets.{rules-nullable, nullable-rules}
 use Rattle.analysis.specs.InMemory.{startingIn, Has, FirstFrom, Diagonal, SetsOf}

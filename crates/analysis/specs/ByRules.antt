@@ -8,8 +8,8 @@ use lib.ListN.{length, getD}
 use Rattle.language.specs.Grammar.{Grammar, Rule, right, ruleAt, IsTerminal}
 use Rattle.language.specs.Nullable.{Nullable, AllIn, Starts}
 use Rattle.fixpoint.specs.Least.{Clauses, Least}
-use Rattle.reduction.specs.Derives.{leftOf, productions}
-use Rattle.reduction.specs.Reaches.{Occurrence, ruleOf, symbolOf}
+use Rattle.grammar_reduction.specs.Derives.{leftOf, productions}
+use Rattle.grammar_reduction.specs.Reaches.{Occurrence, ruleOf, symbolOf}
 
 -- N of every symbol of α below place k
 abbrev pub Below : (ℕ → Type 0) → List ℕ → ℕ → Type 0

@@ -8,8 +8,8 @@ use Rattle.items.specs.Layout.{leftAt, lengthAt, symbolAt}
 use Rattle.fixpoint.specs.Flags.{On, Marks}
 use Rattle.fixpoint.specs.Least.{Clauses, Least}
 use Rattle.fixpoint.specs.Rows.{cell, Row}
-use Rattle.reduction.specs.Reaches.{Occurrence, ruleOf, symbolOf}
-use Rattle.reduction.specs.InMemory.{IsRule}
+use Rattle.grammar_reduction.specs.Reaches.{Occurrence, ruleOf, symbolOf}
+use Rattle.grammar_reduction.specs.InMemory.{IsRule}
 use Rattle.analysis.specs.ByRules.{BeginsByRules}
 
 -- a place in a rule, behind symbols of N

@@ -94,7 +94,7 @@ pub fn find_sets(m: &[u8], terminals: usize, rules: usize, nullable: &mut [u8], 
     requires { ⌜ (now nullable ≡ replicate 128 0) × (now first ≡ replicate 8192 0) ⌝ }
     ensures { λ _. ⌜ ((g : Grammar) → Holds (now (m .entry)) rules g → g .terminals ≡ terminals → SetsOf g (now (nullable .exit)) (now (first .exit))) ⌝ }
 {
-    reduction::close_productions(m, rules, nullable);
+    grammar_reduction::close_productions(m, rules, nullable);
     flag_diagonal(terminals, first);
     close_first(m, rules, nullable, first);
 }

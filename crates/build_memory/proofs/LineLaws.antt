@@ -14,19 +14,19 @@ use Rattle.analysis.proofs.Decided.{first?}
 use Rattle.analysis.specs.InMemory.{SetsOf}
 use Rattle.memory.specs.Memory.{HoldsKernels, stateAt, itemAt, dotAt}
 use Rattle.analysis.specs.FirstBy.{FirstBy}
-use Rattle.lalr_states.specs.Strings.{entryStrings, entryLines}
-use Rattle.lalr_states.specs.Lookaheads.{Lookahead}
-use Rattle.lalr_states.proofs.CodeLaws.{look-over}
-use Rattle.lalr_states.proofs.Distinct.{at-in}
-use Rattle.lalr.proofs.LineLaws.{same-entries, code-only, code-every, line-of}
-use Rattle.lalr.proofs.Carried.{look-low}
-use Rattle.lalr.proofs.ItemForm.{items-lines}
-use Rattle.lalr_states.specs.Lookaheads.{terminalCodes}
-use Rattle.lalr_states.proofs.CodeLaws.{first-in, codes-low}
-use Rattle.state_kernels.proofs.ItemLines.{item-line}
+use Rattle.build_states.specs.Strings.{entryStrings, entryLines}
+use Rattle.build_states.specs.Lookaheads.{Lookahead}
+use Rattle.build_states.proofs.CodeLaws.{look-over}
+use Rattle.build_states.proofs.Distinct.{at-in}
+use Rattle.build_book.proofs.LineLaws.{same-entries, code-only, code-every, line-of}
+use Rattle.build_book.proofs.Carried.{look-low}
+use Rattle.build_book.proofs.ItemForm.{items-lines}
+use Rattle.build_states.specs.Lookaheads.{terminalCodes}
+use Rattle.build_states.proofs.CodeLaws.{first-in, codes-low}
+use Rattle.build_kernels.proofs.ItemLines.{item-line}
 use Rattle.analysis.proofs.FirstLaws.{first-flags}
-use Rattle.least_lookaheads.specs.StatesHeld.{HoldsLookaheads}
-use Rattle.table_cells.specs.Cells.{itemsOf, HoldsMoves, HoldsLines, Filled}
+use Rattle.build_lookaheads.specs.StatesHeld.{HoldsLookaheads}
+use Rattle.build_cells.specs.Cells.{itemsOf, HoldsMoves, HoldsLines, Filled}
 use Rattle.build_memory.specs.Stages.{Stated, Numbered, Settled}
 use Rattle.build_memory.proofs.StateLaws.{limits-of, entries-hold}
 use Rattle.build_memory.proofs.MoveLaws.{moves-hold}

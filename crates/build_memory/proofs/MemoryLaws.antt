@@ -8,9 +8,9 @@ use Rattle.language.specs.Grammar.{Grammar}
 use Rattle.grammar.specs.Book.{accepted, grammarOf}
 use Rattle.table.specs.declared.Counts.{Counts}
 use Rattle.moves.specs.Moves.{Cells}
-use Rattle.judge.specs.Given.{Sized}
-use Rattle.table_cells.specs.Cells.{Filled}
-use Rattle.build_memory.specs.Stages.{Stated, Numbered, Settled, Rooms}
+use Rattle.check_memory.specs.Given.{TableRoom}
+use Rattle.build_cells.specs.Cells.{Filled}
+use Rattle.build_memory.specs.Stages.{Stated, Numbered, Settled, BuildRoom}
 use Rattle.build_memory.specs.Memory.{Lent, Constructed}
 use Rattle.build_memory.proofs.StateLaws.{few-rules, few-strings, some-strings, few-terminals, few-flags}
 
@@ -26,7 +26,7 @@ module _ {items entries kernels lookaheads kinds values gotos : List ℕ} (L : L
   }
 
   -- what was stored there since changed no length
-  pub rooms-kept : {ks cs vs gs : List ℕ} → length ks ≡ length kernels → length cs ≡ length kinds → length vs ≡ length values → length gs ≡ length gotos → Rooms ks cs vs gs
+  pub rooms-kept : {ks cs vs gs : List ℕ} → length ks ≡ length kernels → length cs ≡ length kinds → length vs ≡ length values → length gs ≡ length gotos → BuildRoom ks cs vs gs
   rooms-kept k c v g = record {
     kernels-room = k ∙ L .kernels-room;
     kinds-room = c ∙ zeros-long (L .kinds-zeros);
@@ -36,7 +36,7 @@ module _ {items entries kernels lookaheads kinds values gotos : List ℕ} (L : L
 
 pub constructed-of : {gs : List ℕ} {g : Grammar} {n : Counts} {p q : ℕ} {items entries kernels lookaheads k v kinds values gotos : List ℕ} → grammarOf gs ≡ accepted g
     → Stated g items kernels k v gotos (n .grammar .terminals) (n .grammar .goal) (n .grammar .rules) (n .entries) (n .states) (n .kernels) → Numbered entries (n .entries)
-    → Settled g kernels lookaheads kinds values gotos p → p ≡ q → Rooms kernels kinds values gotos → length lookaheads ≡ 65536
+    → Settled g kernels lookaheads kinds values gotos p → p ≡ q → BuildRoom kernels kinds values gotos → length lookaheads ≡ 65536
     → Constructed gs n q items entries kernels lookaheads kinds values gotos
 constructed-of {g = g} {kernels = kernels} {lookaheads = lookaheads} {k = k} {v = v} {kinds = kinds} {values = values} {gotos = gotos} e T N s z R l = record {
   grammar = g;
@@ -51,7 +51,7 @@ constructed-of {g = g} {kernels = kernels} {lookaheads = lookaheads} {k = k} {v 
 }
 
 module _ {gs : List ℕ} {n : Counts} {q : ℕ} {items entries kernels lookaheads kinds values gotos : List ℕ} (C : Constructed gs n q items entries kernels lookaheads kinds values gotos) where
-  pub memory-sized : {named : List ℕ} → 256 ≤ length named → Sized items entries kernels lookaheads kinds values gotos named (n .grammar .rules + n .entries) (n .grammar .rules) (n .entries) (n .kernels)
+  pub memory-sized : {named : List ℕ} → 256 ≤ length named → TableRoom items entries kernels lookaheads kinds values gotos named (n .grammar .rules + n .entries) (n .grammar .rules) (n .entries) (n .kernels)
   memory-sized room =
       let E = C .stated .entered in
       let R = C .rooms in

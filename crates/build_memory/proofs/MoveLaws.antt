@@ -11,16 +11,16 @@ use Rattle.leftcorner.specs.Table.{S}
 use Rattle.leftcorner.specs.Construction.{to-move}
 use Rattle.analysis.specs.ByRules.{FirstByRules}
 use Rattle.analysis.proofs.Decided.{first?}
-use Rattle.lalr_states.specs.States.{Kernel, move, states, kernelOf, goto}
-use Rattle.lalr_states.proofs.MoveLaws.{move-only, move-nothing, in-move}
-use Rattle.lalr_states.proofs.StateLaws.{goes-to}
-use Rattle.lalr.proofs.LineLaws.{moved-alone, alone-moved}
-use Rattle.lalr.proofs.BuiltForm.{asked-place, asked-moved}
-use Rattle.lalr_states.specs.Lookaheads.{terminalCodes}
-use Rattle.lalr_states.proofs.CodeLaws.{first-in, codes-low}
-use Rattle.kernel_sets.specs.Cells.{shiftKind}
-use Rattle.state_kernels.specs.Discovered.{nextState, next-none, next-some, HoldsNext}
-use Rattle.table_cells.specs.Cells.{AskedOf, HoldsMoves}
+use Rattle.build_states.specs.States.{Kernel, move, states, kernelOf, goto}
+use Rattle.build_states.proofs.MoveLaws.{move-only, move-nothing, in-move}
+use Rattle.build_states.proofs.StateLaws.{goes-to}
+use Rattle.build_book.proofs.LineLaws.{moved-alone, alone-moved}
+use Rattle.build_book.proofs.BuiltForm.{asked-place, asked-moved}
+use Rattle.build_states.specs.Lookaheads.{terminalCodes}
+use Rattle.build_states.proofs.CodeLaws.{first-in, codes-low}
+use Rattle.build_kernel_sets.specs.Cells.{shiftKind}
+use Rattle.build_kernels.specs.Discovered.{nextState, next-none, next-some, HoldsNext}
+use Rattle.build_cells.specs.Cells.{AskedOf, HoldsMoves}
 use Rattle.build_memory.specs.Stages.{Stated}
 use Rattle.build_memory.proofs.StateLaws.{kind-one, limits-of}
 

@@ -5,8 +5,8 @@ use native.Mathlib.Omega.{arith}
 use mathlib.Core.Path.{_≡_}
 use mathlib.Core.List.{List, [], _∷_}
 use lib.ListN.{length, getD}
-use Rattle.lalr_states.specs.States.{Kernel, total}
-use Rattle.state_kernels.specs.Discovered.{firstLine}
+use Rattle.build_states.specs.States.{Kernel, total}
+use Rattle.build_kernels.specs.Discovered.{firstLine}
 
 pub record Place (ks : List Kernel) (l : ℕ) : Type 0 where
   pub state : ℕ

@@ -11,18 +11,18 @@ use Rattle.leftcorner.proofs.ReadOff.{clash}
 use Rattle.items.specs.Layout.{layout, Shaped}
 use Rattle.reply.specs.declared.Refusal.{Refusal}
 use Rattle.reply.specs.declared.Kind.the-variants as kind
-use Rattle.header.specs.declared.Heading.{Heading}
+use Rattle.grammar_header.specs.declared.Heading.{Heading}
 use Rattle.grammar.specs.declared.GrammarReply.{GrammarReply}
 use Rattle.grammar.specs.declared.GrammarReply.the-variants as reply
 use Rattle.grammar.specs.Book.{Book, accepted, rejected, rejectedAt, grammarOf}
-use Rattle.grammar.specs.Memory.{headingOf, replyOf, within, readOf, memoryOf}
+use Rattle.grammar.specs.Memory.{headingOf, replyOf, fitted, readOf, memoryOf}
 use Rattle.grammar.proofs.GrammarLaws.{accepted-reduced}
-use Rattle.lalr_states.specs.Strings.{entryStrings}
-use Rattle.lalr_states.specs.States.{states}
-use Rattle.lalr_states.proofs.Discovery.{Fits}
-use Rattle.lalr.proofs.BookLaws.{Within}
-use Rattle.entry_strings.specs.Memory.{Blank, Listed}
-use Rattle.entry_strings.proofs.HoldsLaws.{entries-shaped, entries-held}
+use Rattle.build_states.specs.Strings.{entryStrings}
+use Rattle.build_states.specs.States.{states}
+use Rattle.build_states.proofs.Discovery.{Fits}
+use Rattle.build_book.proofs.BookLaws.{Within}
+use Rattle.build_entries.specs.Memory.{RulesOnly, Listed}
+use Rattle.build_entries.proofs.HoldsLaws.{entries-shaped, entries-held}
 use Rattle.build_memory.specs.Stages.{Entered}
 use Rattle.build_memory.specs.Memory.{PastLimits}
 
@@ -39,7 +39,7 @@ module _ (gs : List ℕ) (size : ℕ) (room : 8192 ≤ size) where
   enough : readOf gs size ≡ grammarOf gs
   enough = go (grammarOf gs)
     where
-      go : (b : Book) → within size b ≡ b
+      go : (b : Book) → fitted size b ≡ b
       go (accepted g) = ap (λ (t : Bool). cond t (rejectedAt kind.BufferTooSmall 0) (accepted g)) (le-ltb size 8192 room)
       go (rejected x) = refl
 
@@ -69,7 +69,7 @@ module _ (gs : List ℕ) (size : ℕ) (room : 8192 ≤ size) where
 -- ---- its entries
 
 module _ {gs m : List ℕ} {h : Heading} (R : ReadAs gs h m) (room : 16640 ≤ length m) where
-  pub blank-of : Blank (R .grammar) m (h .rules) (h .goal)
+  pub blank-of : RulesOnly (R .grammar) m (h .rules) (h .goal)
   blank-of = record {
     formed = accepted-reduced gs (R .grammar) (R .book-is) .formed;
     room = room;

@@ -19,20 +19,20 @@ use Rattle.memory.specs.Memory.{HoldsEntries, stateAt, itemAt, dotAt}
 use Rattle.closure.specs.InMemory.{LineIs}
 use Rattle.moves.specs.Moves.{nextAt}
 use Rattle.moves.proofs.MoveLaws.{next-goto, next-shift}
-use Rattle.entry_list.specs.Uses.{HoldsStrings, HoldsUses}
-use Rattle.lalr_states.specs.Strings.{entryStrings, entryLines}
-use Rattle.lalr_states.proofs.EntryLaws.{some-entry, entry-line, entries-meet, lines-length}
-use Rattle.lalr_states.specs.States.{itemOf, dotOf, move, states, kernelOf, goto}
-use Rattle.lalr_states.proofs.Lists.{range-in}
-use Rattle.lalr_states.proofs.Limits.{Limits}
-use Rattle.lalr_states.proofs.MoveLaws.{move-only, moved-symbol}
-use Rattle.lalr_states.proofs.StateLaws.{goes-to}
-use Rattle.lalr.proofs.BookLaws.{Within}
-use Rattle.kernel_sets.specs.Cells.{shiftKind}
-use Rattle.state_kernels.specs.Discovered.{firstLine, nextState, next-some, HoldsStates, SafeStates}
-use Rattle.least_lookaheads.specs.StatesHeld.{entryTable, LineOf, StatesHeld}
-use Rattle.least_lookaheads.proofs.TableLaws.{entries-fit}
-use Rattle.kernel_moves.specs.Held.{HoldsGrammar, holds-grammar}
+use Rattle.check_entries.specs.Uses.{HoldsStrings, HoldsUses}
+use Rattle.build_states.specs.Strings.{entryStrings, entryLines}
+use Rattle.build_states.proofs.EntryLaws.{some-entry, entry-line, entries-meet, lines-length}
+use Rattle.build_states.specs.States.{itemOf, dotOf, move, states, kernelOf, goto}
+use Rattle.build_states.proofs.Lists.{range-in}
+use Rattle.build_states.proofs.Limits.{Limits}
+use Rattle.build_states.proofs.MoveLaws.{move-only, moved-symbol}
+use Rattle.build_states.proofs.StateLaws.{goes-to}
+use Rattle.build_book.proofs.BookLaws.{Within}
+use Rattle.build_kernel_sets.specs.Cells.{shiftKind}
+use Rattle.build_kernels.specs.Discovered.{firstLine, nextState, next-some, HoldsStates, SafeStates}
+use Rattle.build_lookaheads.specs.StatesHeld.{entryTable, LineOf, StatesHeld}
+use Rattle.build_lookaheads.proofs.TableLaws.{entries-fit}
+use Rattle.build_moves.specs.Held.{HoldsGrammar, holds-grammar}
 use Rattle.build_memory.specs.Stages.{Entered, Stated, Numbered}
 use Rattle.build_memory.proofs.PlaceLaws.{Place, place-of, place-low}
 

@@ -6,10 +6,10 @@ use lib.ListN.{length, replicate}
 use Rattle.language.specs.Grammar.{Grammar}
 use Rattle.grammar.specs.Book.{accepted, rejected, grammarOf}
 use Rattle.table.specs.declared.Counts.{Counts}
-use Rattle.lalr.proofs.BookLaws.{Within}
+use Rattle.build_book.proofs.BookLaws.{Within}
 use Rattle.build_memory.specs.declared.Built.{Built}
 use Rattle.build_memory.specs.declared.Built.the-variants as built
-use Rattle.build_memory.specs.Stages.{Stated, Numbered, Settled, Rooms}
+use Rattle.build_memory.specs.Stages.{Stated, Numbered, Settled, BuildRoom}
 
 -- the slices that are lent: each has its whole length, and no cell is filled
 pub record Lent (items entries kernels lookaheads kinds values gotos : List ℕ) : Type 0 where
@@ -31,7 +31,7 @@ pub record Constructed (gs : List ℕ) (n : Counts) (q : ℕ) (items entries ker
   pub stated : Stated grammar items kernels move-kinds move-values gotos (n .grammar .terminals) (n .grammar .goal) (n .grammar .rules) (n .entries) (n .states) (n .kernels)
   pub numbered : Numbered entries (n .entries)
   pub settled : Settled grammar kernels lookaheads kinds values gotos q
-  pub rooms : Rooms kernels kinds values gotos
+  pub rooms : BuildRoom kernels kinds values gotos
   pub lookaheads-room : length lookaheads ≡ 65536
 
 -- a grammar with more entries, states or kernel lines than a table may have

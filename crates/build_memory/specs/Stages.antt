@@ -9,9 +9,9 @@ use Rattle.language.specs.WellFormed.{WellFormed}
 use Rattle.leftcorner.specs.Table.{Table}
 use Rattle.items.specs.Layout.{Shaped}
 use Rattle.memory.specs.Memory.{HoldsItems, HoldsKernels}
-use Rattle.lalr_states.specs.Strings.{entryStrings, entryLines}
-use Rattle.state_kernels.specs.Discovered.{HoldsStates, SafeStates}
-use Rattle.table_cells.specs.Cells.{itemsOf, Filled}
+use Rattle.build_states.specs.Strings.{entryStrings, entryLines}
+use Rattle.build_kernels.specs.Discovered.{HoldsStates, SafeStates}
+use Rattle.build_cells.specs.Cells.{itemsOf, Filled}
 
 -- a grammar that was accepted, and its entries, up to 127
 pub record Entered (g : Grammar) (items : List ℕ) (terminals goal rules strings : ℕ) : Type 0 where
@@ -52,7 +52,7 @@ pub record SomeStated (items kernels kinds values gotos : List ℕ) (terminals g
   pub grammar : Grammar
   pub is : Stated grammar items kernels kinds values gotos terminals goal rules strings all lines
 
-pub record Rooms (kernels kinds values gotos : List ℕ) : Type 0 where
+pub record BuildRoom (kernels kinds values gotos : List ℕ) : Type 0 where
   pub kernels-room : length kernels ≡ 4096
   pub kinds-room : length kinds ≡ 16640
   pub values-room : length values ≡ 16640

@@ -1,10 +1,10 @@
 // The construction's table of a grammar book, in memory.
 // Inner: for `builder` and `explain_grammar`.
+use build_kernels::Discovery;
 use grammar::GrammarReply;
-use header::Heading;
+use grammar_header::Heading;
 use memory::Totals;
 use reply::Refusal;
-use state_kernels::Discovery;
 use symbol::CODES;
 use symbol::SYMBOLS;
 use table::Counts;
@@ -14,7 +14,7 @@ ghost use Prim.Native.Nat.{ℕ, _≤_};
 ghost use lib.ListN.{length};
 ghost use Rattle.language.specs.Grammar.{Grammar};
 ghost use Rattle.grammar.specs.Book.{accepted, grammarOf};
-ghost use Rattle.build_memory.specs.Stages.{Entered, Stated, Numbered, Settled, SomeEntered, SomeStated, Rooms};
+ghost use Rattle.build_memory.specs.Stages.{Entered, Stated, Numbered, Settled, SomeEntered, SomeStated, BuildRoom};
 ghost use Rattle.build_memory.specs.Memory.{Lent, BuiltIs};
 
 // What building comes to: a table, one whose lowest state with a conflict is told first, why the grammar book is refused, or that there would be
@@ -40,7 +40,7 @@ fn number_entries(strings: usize, entries: &mut [u8])
 
 // Finds the lookaheads of each kernel line, and adds announces and pops to the cells, which hold the moves. Answers the lowest state with a
 // conflict, 0 where there is none.
-fn settle_cells(
+fn complete_cells(
     items: &[u8],
     entries: &[u8],
     kernels: &[u8],
@@ -54,10 +54,10 @@ fn settle_cells(
     values: &mut [u8],
 ) -> usize
     requires { ⌜ SomeStated (now items) (now kernels) (now kinds) (now values) (now gotos) (heading .terminals) (heading .goal) (heading .rules) strings all lines ⌝ }
-    requires { ⌜ Rooms (now kernels) (now kinds) (now values) (now gotos) ⌝ }
+    requires { ⌜ BuildRoom (now kernels) (now kinds) (now values) (now gotos) ⌝ }
     requires { ⌜ Numbered (now entries) strings ⌝ }
     requires { ⌜ length (now lookaheads) ≡ 65536 ⌝ }
-    ensures { λ r. ⌜ (length (now (lookaheads .exit)) ≡ 65536) × Rooms (now (kernels .entry)) (now (kinds .exit)) (now (values .exit)) (now (gotos .entry)) ⌝ }
+    ensures { λ r. ⌜ (length (now (lookaheads .exit)) ≡ 65536) × BuildRoom (now (kernels .entry)) (now (kinds .exit)) (now (values .exit)) (now (gotos .entry)) ⌝ }
     ensures { λ r. ⌜ ((g : Grammar) → Stated g (now (items .entry)) (now (kernels .entry)) (now (kinds .entry)) (now (values .entry)) (now (gotos .entry)) (heading .terminals) (heading .goal) (heading .rules) strings all lines
         → Settled g (now (kernels .entry)) (now (lookaheads .exit)) (now (kinds .exit)) (now (values .exit)) (now (gotos .entry)) r) ⌝ }
 {
@@ -77,7 +77,7 @@ fn settle_cells(
     let mut starts = [0u8; 8192];
     let mut through = [0u8; 128];
     let mut links = [0usize; 1280];
-    entry_list::entries_meet(items, heading.rules, strings, heading.goal, &mut uses);
+    check_entries::entries_meet(items, heading.rules, strings, heading.goal, &mut uses);
     analysis::find_sets(
         items,
         heading.terminals,
@@ -96,7 +96,7 @@ fn settle_cells(
         &mut through,
     );
     kernel_lines::link_lines(kernels, lines, count, &mut links);
-    least_lookaheads::find_lookaheads(
+    build_lookaheads::find_lookaheads(
         items,
         entries,
         kernels,
@@ -112,7 +112,7 @@ fn settle_cells(
         totals,
         lookaheads,
     );
-    table_cells::fill_cells(
+    build_cells::fill_cells(
         items,
         kernels,
         &links,
@@ -142,13 +142,13 @@ fn build_stated(
     values: &mut [u8],
 ) -> Built
     requires { ⌜ SomeStated (now items) (now kernels) (now kinds) (now values) (now gotos) (heading .terminals) (heading .goal) (heading .rules) strings all lines ⌝ }
-    requires { ⌜ Rooms (now kernels) (now kinds) (now values) (now gotos) ⌝ }
+    requires { ⌜ BuildRoom (now kernels) (now kinds) (now values) (now gotos) ⌝ }
     requires { ⌜ (length (now entries) ≡ 256) × (length (now lookaheads) ≡ 65536) ⌝ }
     ensures { λ r. ⌜ ((gs : List ℕ) (g : Grammar) → grammarOf gs ≡ accepted g → Stated g (now (items .entry)) (now (kernels .entry)) (now (kinds .entry)) (now (values .entry)) (now (gotos .entry)) (heading .terminals) (heading .goal) (heading .rules) strings all lines
         → BuiltIs gs r (now (items .entry)) (now (entries .exit)) (now (kernels .entry)) (now (lookaheads .exit)) (now (kinds .exit)) (now (values .exit)) (now (gotos .entry))) ⌝ }
 {
     number_entries(strings, entries);
-    let conflict = settle_cells(
+    let conflict = complete_cells(
         items,
         entries,
         kernels,
@@ -191,7 +191,7 @@ fn build_entered(
         → BuiltIs gs r (now (items .entry)) (now (entries .exit)) (now (kernels .exit)) (now (lookaheads .exit)) (now (kinds .exit)) (now (values .exit)) (now (gotos .exit))) ⌝ }
 {
     let mut starts = [0usize; 257];
-    let found = state_kernels::find_states(
+    let found = build_kernels::find_states(
         items,
         heading.rules,
         strings,
@@ -240,7 +240,7 @@ pub fn build(
             return Built::Refused(why);
         }
     };
-    let strings = entry_strings::list_entries(items, heading.rules, heading.goal);
+    let strings = build_entries::list_entries(items, heading.rules, heading.goal);
     if 127 < strings {
         return Built::TooLarge;
     }

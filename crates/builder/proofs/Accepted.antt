@@ -7,11 +7,11 @@ use Rattle.leftcorner.proofs.ReadOff.{clash}
 use Rattle.reply.specs.declared.Reply.the-variants.{Accepted}
 use Rattle.grammar.specs.Book.{Book, accepted, rejected, grammarOf}
 use Rattle.grammar.proofs.GrammarLaws.{accepted-reduced}
-use Rattle.lalr.specs.Text.{tableText}
-use Rattle.lalr.specs.Book.{textSlice}
-use Rattle.lalr.specs.Builder.{builderTable, builderReply}
-use Rattle.lalr.proofs.BuilderLaws.{writes-fit, writes-meets, writes-readable, slice-text, table-text}
-use Rattle.read_back.proofs.Book.{books-read}
+use Rattle.build_book.specs.Text.{tableText}
+use Rattle.build_book.specs.Book.{textSlice}
+use Rattle.build_book.specs.Builder.{builderTable, builderReply}
+use Rattle.build_book.proofs.BuilderLaws.{writes-fit, writes-meets, writes-readable, slice-text, table-text}
+use Rattle.build_read_back.proofs.Book.{books-read}
 use Rattle.checker.proofs.Exactly.{exactly}
 use Rattle.builder.specs.Build.{textLength, buildFrom, buildOf}
 use Rattle.builder.specs.Accepted.{Written, WritesAccepted}

@@ -9,7 +9,7 @@ use Rattle.reply.specs.declared.Kind.the-variants.{LimitExceeded, Conflict}
 use Rattle.reply.specs.declared.Refusal.{Refusal}
 use Rattle.grammar.specs.Book.{Book, accepted, rejected, grammarOf}
 use Rattle.table.specs.declared.Counts.{Counts}
-use Rattle.table_writer.specs.MemoryTable.{memoryText}
+use Rattle.build_writer.specs.MemoryTable.{memoryText}
 use Rattle.build_memory.specs.Memory.{Constructed, PastLimits}
 use Rattle.builder.specs.declared.BuildReply.{BuildReply}
 use Rattle.builder.specs.Build.{buildFrom, buildOf, refusedBy, Writes}

@@ -15,24 +15,24 @@ use Rattle.memory.specs.Memory.{HoldsKernels}
 use Rattle.reply.specs.declared.Kind.the-variants.{LimitExceeded, Conflict, BufferTooSmall}
 use Rattle.reply.specs.declared.Refusal.{Refusal}
 use Rattle.reply.specs.declared.Reply.the-variants.{Accepted, Refused}
-use Rattle.verdict.specs.Verdict.{refused}
-use Rattle.lalr_states.specs.Strings.{entryStrings, entryLines}
-use Rattle.lalr_states.proofs.EntryLaws.{lines-length}
-use Rattle.lalr.proofs.BuiltForm.{built-entries, states-both}
-use Rattle.lalr.proofs.ItemForm.{items-lines, kernels-both}
-use Rattle.lalr.specs.Text.{tableText}
-use Rattle.lalr.specs.Book.{textReply, textSlice}
-use Rattle.lalr.proofs.BookLaws.{Within}
-use Rattle.lalr_states.specs.Lookaheads.{terminalCodes}
-use Rattle.lalr_states.proofs.CodeLaws.{first-in, codes-low}
-use Rattle.lalr.proofs.BuilderLaws.{builder-form, replies-many, replies-conflict, replies-text, slice-text, table-text}
-use Rattle.lalr.specs.Builder.{builderTable, builderReply, builderSlice}
-use Rattle.table_writer.specs.Sink.{inRoom, fits-room}
-use Rattle.table_writer.specs.MemoryTable.{memoryTable, memoryText, Sized}
-use Rattle.table_writer.proofs.InMemory.{memory-table}
-use Rattle.table_writer.proofs.BuiltOrder.{built-ordered}
-use Rattle.table_cells.specs.Cells.{itemsOf, tableOf, Filled}
-use Rattle.build_memory.specs.Stages.{Stated, Numbered, Settled, Rooms}
+use Rattle.check_verdict.specs.Verdict.{refused}
+use Rattle.build_states.specs.Strings.{entryStrings, entryLines}
+use Rattle.build_states.proofs.EntryLaws.{lines-length}
+use Rattle.build_book.proofs.BuiltForm.{built-entries, states-both}
+use Rattle.build_book.proofs.ItemForm.{items-lines, kernels-both}
+use Rattle.build_book.specs.Text.{tableText}
+use Rattle.build_book.specs.Book.{textReply, textSlice}
+use Rattle.build_book.proofs.BookLaws.{Within}
+use Rattle.build_states.specs.Lookaheads.{terminalCodes}
+use Rattle.build_states.proofs.CodeLaws.{first-in, codes-low}
+use Rattle.build_book.proofs.BuilderLaws.{builder-form, replies-many, replies-conflict, replies-text, slice-text, table-text}
+use Rattle.build_book.specs.Builder.{builderTable, builderReply, builderSlice}
+use Rattle.build_writer.specs.Sink.{inRoom, fits-room}
+use Rattle.build_writer.specs.MemoryTable.{memoryTable, memoryText, WriterRoom}
+use Rattle.build_writer.proofs.InMemory.{memory-table}
+use Rattle.build_writer.proofs.BuiltOrder.{built-ordered}
+use Rattle.build_cells.specs.Cells.{itemsOf, tableOf, Filled}
+use Rattle.build_memory.specs.Stages.{Stated, Numbered, Settled, BuildRoom}
 use Rattle.build_memory.proofs.StateLaws.{few-strings, few-terminals, few-flags, limits-of, within-of, entries-hold}
 use Rattle.builder.specs.declared.BuildReply.{BuildReply}
 use Rattle.builder.specs.Build.{textLength, refusedBy, Writes}
@@ -100,8 +100,8 @@ module _ {g : Grammar} {items kernels kinds values gotos : List ℕ} {terminals 
 
   -- ---- the book
 
-  pub sized-of : {entries lookaheads k v : List ℕ} → Numbered entries strings → Rooms kernels k v gotos → length lookaheads ≡ 65536
-      → Sized items entries kernels lookaheads k v gotos rules strings lines all (terminals + 1)
+  pub sized-of : {entries lookaheads k v : List ℕ} → Numbered entries strings → BuildRoom kernels k v gotos → length lookaheads ≡ 65536
+      → WriterRoom items entries kernels lookaheads k v gotos rules strings lines all (terminals + 1)
   sized-of N R e = record {
     shaped = T .entered .shaped;
     entries-room = let z = few-strings (T .entered) in omega (arith, z, N .room);

@@ -6,8 +6,8 @@ use lib.ListN.{length, replicate}
 use Rattle.language.specs.Grammar.{Grammar}
 use Rattle.reply.specs.declared.Reply.the-variants.{Accepted}
 use Rattle.grammar.specs.Book.{accepted, grammarOf}
-use Rattle.lalr.specs.Text.{tableText}
-use Rattle.lalr.specs.Builder.{builderTable}
+use Rattle.build_book.specs.Text.{tableText}
+use Rattle.build_book.specs.Builder.{builderTable}
 use Rattle.checker.specs.Checked.{verdictOf}
 use Rattle.builder.specs.Build.{buildOf}
 

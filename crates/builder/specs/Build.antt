@@ -8,9 +8,9 @@ use Rattle.reply.specs.declared.Refusal.{Refusal}
 use Rattle.reply.specs.declared.Reply.{Reply}
 use Rattle.reply.specs.declared.Reply.the-variants.{Accepted, Refused}
 use Rattle.grammar.specs.Book.{Book, accepted, rejected, grammarOf}
-use Rattle.lalr.specs.Text.{tableText}
-use Rattle.lalr.specs.Book.{textReply, textSlice}
-use Rattle.lalr.specs.Builder.{builderTable, builderReply, builderSlice}
+use Rattle.build_book.specs.Text.{tableText}
+use Rattle.build_book.specs.Book.{textReply, textSlice}
+use Rattle.build_book.specs.Builder.{builderTable, builderReply, builderSlice}
 use Rattle.builder.specs.declared.BuildReply.{BuildReply}
 
 -- the reply, the book's length, and the slice that was lent for the book

@@ -8,7 +8,7 @@ use table::Counts;
 ghost use mathlib.Core.Path.{_≡_};
 ghost use Prim.Native.Nat.{_+_, _≤_};
 ghost use lib.ListN.{length, replicate};
-ghost use Rattle.table_writer.specs.MemoryTable.{memoryText, Sized};
+ghost use Rattle.build_writer.specs.MemoryTable.{memoryText, WriterRoom};
 ghost use Rattle.builder.specs.Build.{buildOf, refusedBy, Writes};
 
 // The reply, and how many bytes of the slice the book takes: 0 after a refusal.
@@ -38,11 +38,11 @@ fn write_book(
     counts: Counts,
     out: &mut [u8],
 ) -> BuildReply
-    requires { ⌜ Sized (now items) (now entries) (now kernels) (now lookaheads) (now kinds) (now values) (now gotos) (counts .grammar .rules) (counts .entries) (counts .kernels) (counts .states) (counts .grammar .terminals + 1) ⌝ }
+    requires { ⌜ WriterRoom (now items) (now entries) (now kernels) (now lookaheads) (now kinds) (now values) (now gotos) (counts .grammar .rules) (counts .entries) (counts .kernels) (counts .states) (counts .grammar .terminals + 1) ⌝ }
     requires { ⌜ now out ≡ replicate (length (now out)) 0 ⌝ }
     ensures { λ r. ⌜ Writes (memoryText (now (items .entry)) (now (entries .entry)) (now (kernels .entry)) (now (lookaheads .entry)) (now (kinds .entry)) (now (values .entry)) (now (gotos .entry)) (counts .grammar .rules) (counts .entries) (counts .kernels) (counts .states) (counts .grammar .terminals + 1)) (length (now (out .entry))) r (now (out .exit)) ⌝ }
 {
-    let n = table_writer::write_table(
+    let n = build_writer::write_table(
         items,
         entries,
         kernels,

@@ -9,14 +9,14 @@ use Rattle.session.specs.Session.{Session}
 use Rattle.expected.specs.declared.ExpectedReply.{ExpectedReply}
 use Rattle.expected.specs.Expected.{Expected, codeCount}
 use Rattle.expected.specs.Expected as expected
-use Rattle.buraigue_c.specs.Told.{ReplyTold, SessionTold, ExpectedTold}
+use Rattle.buraigue_c.specs.Told.{ReplyGiven, SessionGiven, ExpectedTold}
 
-pub told : {r x : Reply} {number place : ℕ} → r ≡ x → ReplyTold r number place → ReplyTold x number place
-told {number = n} {place = p} e t = subst (λ (y : Reply). ReplyTold y n p) e t
+pub told : {r x : Reply} {number place : ℕ} → r ≡ x → ReplyGiven r number place → ReplyGiven x number place
+told {number = n} {place = p} e t = subst (λ (y : Reply). ReplyGiven y n p) e t
 
 pub session-told : {s : Session} {a : Walked} {number place rules units : ℕ} {stack listing : List ℕ}
     → (a ≡ s .reply) × ((listing ≡ s .listing) × (stack ≡ s .stack))
-    → ReplyTold (asReply a) number place × ((rules ≡ ruleCount a) × (units ≡ unitCount a)) → SessionTold s number place rules units stack listing
+    → ReplyGiven (asReply a) number place × ((rules ≡ ruleCount a) × (units ≡ unitCount a)) → SessionGiven s number place rules units stack listing
 session-told e t = record {
   reply-told = told (ap asReply (e .0)) (t .0);
   rules-are = t .1 .0 ∙ ap ruleCount (e .0);
@@ -26,5 +26,5 @@ session-told e t = record {
 }
 
 pub expected-told : {x : Expected} {a : ExpectedReply} {y : Reply} {number place count : ℕ} {codes : List ℕ} → a ≡ x .reply → codes ≡ x .codes
-    → y ≡ expected.asReply a → count ≡ codeCount a → ReplyTold y number place → ExpectedTold x number place count codes
+    → y ≡ expected.asReply a → count ≡ codeCount a → ReplyGiven y number place → ExpectedTold x number place count codes
 expected-told e c r n t = record { reply-told = told (r ∙ ap expected.asReply e) t; count-is = n ∙ ap codeCount e; codes-are = c }

@@ -10,13 +10,13 @@ use Rattle.expected.specs.Expected.{Expected, codeCount}
 use Rattle.expected.specs.Expected as expected
 
 -- a reply's number and place
-pub record ReplyTold (r : Reply) (number place : ℕ) : Type 0 where
+pub record ReplyGiven (r : Reply) (number place : ℕ) : Type 0 where
   pub number-is : number ≡ numberOf r
   pub place-is : place ≡ placeOf r
 
 -- a session's: the reply, the counts and both slices
-pub record SessionTold (s : Session) (number place rules units : ℕ) (stack listing : List ℕ) : Type 0 where
-  pub reply-told : ReplyTold (asReply (s .reply)) number place
+pub record SessionGiven (s : Session) (number place rules units : ℕ) (stack listing : List ℕ) : Type 0 where
+  pub reply-told : ReplyGiven (asReply (s .reply)) number place
   pub rules-are : rules ≡ ruleCount (s .reply)
   pub units-are : units ≡ unitCount (s .reply)
   pub stack-is : stack ≡ s .stack
@@ -24,6 +24,6 @@ pub record SessionTold (s : Session) (number place rules units : ℕ) (stack lis
 
 -- a list of what could have come: the reply, the count and the list slice
 pub record ExpectedTold (x : Expected) (number place count : ℕ) (codes : List ℕ) : Type 0 where
-  pub reply-told : ReplyTold (expected.asReply (x .reply)) number place
+  pub reply-told : ReplyGiven (expected.asReply (x .reply)) number place
   pub count-is : count ≡ codeCount (x .reply)
   pub codes-are : codes ≡ x .codes

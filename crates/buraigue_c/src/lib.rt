@@ -13,17 +13,17 @@ ghost use Rattle.walker.specs.Walked as walker;
 ghost use Rattle.session.specs.Session.{session};
 ghost use Rattle.scan_session.specs.ScanSession.{scanSession};
 ghost use Rattle.expected.specs.Expected.{expected};
-ghost use Rattle.buraigue_c.specs.Told.{ReplyTold, SessionTold, ExpectedTold};
+ghost use Rattle.buraigue_c.specs.Told.{ReplyGiven, SessionGiven, ExpectedTold};
 
 fn tell_reply(reply: Reply, place: &mut u64) -> u64
-    ensures { λ r. ⌜ ReplyTold reply r (now (place .exit)) ⌝ }
+    ensures { λ r. ⌜ ReplyGiven reply r (now (place .exit)) ⌝ }
 {
     *place = reply::place(reply) as u64;
     reply::number(reply)
 }
 
 fn tell_session(answer: SessionReply, place: &mut u64, rules: &mut u64, units: &mut u64) -> u64
-    ensures { λ r. ⌜ ReplyTold (walker.asReply answer) r (now (place .exit)) ⌝ }
+    ensures { λ r. ⌜ ReplyGiven (walker.asReply answer) r (now (place .exit)) ⌝ }
     ensures { λ r. ⌜ (now (rules .exit) ≡ walker.ruleCount answer) × (now (units .exit) ≡ walker.unitCount answer) ⌝ }
 {
     *rules = walker::rule_count(answer) as u64;
@@ -34,7 +34,7 @@ fn tell_session(answer: SessionReply, place: &mut u64, rules: &mut u64, units: &
 // Reads a grammar book into the item table, as grammar::read_grammar.
 #[no_mangle]
 pub extern "C" fn buraigue_read_grammar(book: &[u8], items: &mut [u8], place: &mut u64) -> u64
-    ensures told { λ r. ⌜ ReplyTold (asReply (replyOf (readOf (now (book .entry)) (length (now (items .entry)))))) r (now (place .exit)) ⌝ }
+    ensures told { λ r. ⌜ ReplyGiven (asReply (replyOf (readOf (now (book .entry)) (length (now (items .entry)))))) r (now (place .exit)) ⌝ }
     ensures stored { λ r. ⌜ now (items .exit) ≡ memoryOf (readOf (now (book .entry)) (length (now (items .entry)))) (length (now (items .entry))) ⌝ }
 {
     let reply = grammar::as_reply(grammar::read_grammar(book, items));
@@ -44,7 +44,7 @@ pub extern "C" fn buraigue_read_grammar(book: &[u8], items: &mut [u8], place: &m
 // Reads a scan file, as scans::read_scans.
 #[no_mangle]
 pub extern "C" fn buraigue_read_scans(file: &[u8], tokens: &mut [u8], place: &mut u64) -> u64
-    ensures told { λ r. ⌜ ReplyTold (scansOf (now (file .entry)) (length (now (tokens .entry))) .reply) r (now (place .exit)) ⌝ }
+    ensures told { λ r. ⌜ ReplyGiven (scansOf (now (file .entry)) (length (now (tokens .entry))) .reply) r (now (place .exit)) ⌝ }
     ensures stored { λ r. ⌜ now (tokens .exit) ≡ scansOf (now (file .entry)) (length (now (tokens .entry))) .tokens ⌝ }
 {
     let reply = scans::read_scans(file, tokens);
@@ -54,7 +54,7 @@ pub extern "C" fn buraigue_read_scans(file: &[u8], tokens: &mut [u8], place: &mu
 // Checks a table book against its grammar book, as checker::check_tables.
 #[no_mangle]
 pub extern "C" fn buraigue_check_tables(grammar: &[u8], book: &[u8], place: &mut u64) -> u64
-    ensures told { λ r. ⌜ ReplyTold (verdictOf (now (grammar .entry)) (now (book .entry))) r (now (place .exit)) ⌝ }
+    ensures told { λ r. ⌜ ReplyGiven (verdictOf (now (grammar .entry)) (now (book .entry))) r (now (place .exit)) ⌝ }
 {
     let reply = checker::check_tables(grammar, book);
     tell_reply(reply, place)
@@ -68,7 +68,7 @@ pub extern "C" fn buraigue_build_tables(
     place: &mut u64,
     size: &mut u64,
 ) -> u64
-    ensures told { λ r. ⌜ ReplyTold (buildOf (now (grammar .entry)) (length (now (book .entry))) .reply) r (now (place .exit)) ⌝ }
+    ensures told { λ r. ⌜ ReplyGiven (buildOf (now (grammar .entry)) (length (now (book .entry))) .reply) r (now (place .exit)) ⌝ }
     ensures counted { λ r. ⌜ now (size .exit) ≡ buildOf (now (grammar .entry)) (length (now (book .entry))) .length ⌝ }
     ensures written { λ r. ⌜ now (book .exit) ≡ buildOf (now (grammar .entry)) (length (now (book .entry))) .slice ⌝ }
 {
@@ -90,7 +90,7 @@ pub extern "C" fn buraigue_run_session(
     rules: &mut u64,
     units: &mut u64,
 ) -> u64
-    ensures { λ r. ⌜ SessionTold (session (now (grammar .entry)) (now (tables .entry)) (now (tokens .entry)) (length (now (stack .entry))) (length (now (listing .entry)))) r (now (place .exit)) (now (rules .exit)) (now (units .exit)) (now (stack .exit)) (now (listing .exit)) ⌝ }
+    ensures { λ r. ⌜ SessionGiven (session (now (grammar .entry)) (now (tables .entry)) (now (tokens .entry)) (length (now (stack .entry))) (length (now (listing .entry)))) r (now (place .exit)) (now (rules .exit)) (now (units .exit)) (now (stack .exit)) (now (listing .exit)) ⌝ }
 {
     let answer = session::run_session(grammar, tables, tokens, stack, listing);
     tell_session(answer, place, rules, units)
@@ -108,7 +108,7 @@ pub extern "C" fn buraigue_run_scans(
     rules: &mut u64,
     units: &mut u64,
 ) -> u64
-    ensures { λ r. ⌜ SessionTold (scanSession (now (grammar .entry)) (now (tables .entry)) (now (file .entry)) (length (now (stack .entry))) (length (now (listing .entry)))) r (now (place .exit)) (now (rules .exit)) (now (units .exit)) (now (stack .exit)) (now (listing .exit)) ⌝ }
+    ensures { λ r. ⌜ SessionGiven (scanSession (now (grammar .entry)) (now (tables .entry)) (now (file .entry)) (length (now (stack .entry))) (length (now (listing .entry)))) r (now (place .exit)) (now (rules .exit)) (now (units .exit)) (now (stack .exit)) (now (listing .exit)) ⌝ }
 {
     let answer = scan_session::run_scans(grammar, tables, file, stack, listing);
     tell_session(answer, place, rules, units)

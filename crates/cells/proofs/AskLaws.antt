@@ -14,8 +14,8 @@ use Rattle.fixpoint.proofs.PassLaws.{all-off, set-on, on-at}
 use Rattle.memory.specs.Memory.{stateAt, itemAt, dotAt}
 use Rattle.analysis.specs.FirstBy.{first-low}
 use Rattle.analysis.specs.Adds.{Adds}
-use Rattle.carried.specs.Rows.{FirstsAt}
-use Rattle.carried.proofs.FirstLaws.{at-zero}
+use Rattle.item_first.specs.Rows.{FirstsAt}
+use Rattle.item_first.proofs.FirstLaws.{at-zero}
 use Rattle.cells.specs.Demands.{Demand, Differs, Met, Asking, Asks, Wants, CodeAsks, ItemAsks, announces, pops, LinesAsk, RuleAsks}
 
 module _ {D : ℕ → ℕ → Type 0} where

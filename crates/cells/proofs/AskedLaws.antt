@@ -22,7 +22,7 @@ use Rattle.items.specs.Layout.{lengthAt, markAt}
 use Rattle.fixpoint.specs.Flags.{On, Off, Decides}
 use Rattle.fixpoint.proofs.PassLaws.{none-on, set-on}
 use Rattle.memory.specs.Memory.{itemAt, dotAt, popValue}
-use Rattle.memory.specs.Held.{Held}
+use Rattle.memory.specs.Held.{HoldsTable}
 use Rattle.analysis.specs.FirstBy.{FirstBy, first-low}
 use Rattle.analysis.specs.Rests.{restAt}
 use Rattle.closure.specs.Expansion.{HasBy, of-kernel, of-rule, has-by, HoldsClosure}
@@ -30,10 +30,10 @@ use Rattle.closure.specs.InMemory.{DeclaredItem}
 use Rattle.closure.proofs.ItemLaws.{item-held, line-at}
 use Rattle.moves.specs.Flags.{HoldsMoves}
 use Rattle.moves.proofs.RowLaws.{row-of}
-use Rattle.carried.specs.Rows.{RowOf}
-use Rattle.carried.specs.Rows as rows
-use Rattle.carried.proofs.FirstLaws.{at-zero}
-use Rattle.carried.proofs.CarryLaws.{row-declared, code-low, row-carries, carries-row}
+use Rattle.item_first.specs.Rows.{RowOf}
+use Rattle.item_first.specs.Rows as rows
+use Rattle.item_first.proofs.FirstLaws.{at-zero}
+use Rattle.item_first.proofs.CarryLaws.{row-declared, code-low, row-carries, carries-row}
 use Rattle.cells.specs.Demands.{Demand, Differs, Met, Asks, CodeAsks, ItemAsks, announces, pops, LinesAsk, RulesAsk, demandOf, HoldsAsked, Conflict, HoldsConflicts}
 
 -- a count that is right
@@ -71,7 +71,7 @@ pub refutes-conflict : {g : Grammar} {t : Table} {F : List ℕ → ℕ → ℕ �
 refutes-conflict {c = c} C l on u = let k = C .only c l on in k .differ (u .one c (k .first) (k .second) (k .first-asked) (k .second-asked))
 
 module _ (g : Grammar) (t : Table) {items entries kernels lookaheads kinds values gotos : List ℕ} {rules strings lines : ℕ}
-    (H : Held g t items entries kernels lookaheads kinds values gotos rules strings lines) where
+    (H : HoldsTable g t items entries kernels lookaheads kinds values gotos rules strings lines) where
   -- ---- symbols and strings
   symbol-kind : {i k X : ℕ} {β : List ℕ} → DeclaredItem g t i → Goes g t i k X β → IsTerminal g X ⊎ IsNonterminal g X
   symbol-kind {i} {k} {X} {β} d go = kind d (in-drop k (symbolsOf g t i) (subst (In X) (sym (go .before)) here))

@@ -20,7 +20,7 @@ use Rattle.fixpoint.specs.declared.Found.{Found}
 use Rattle.fixpoint.specs.Misses.{Any, Misses}
 use Rattle.fixpoint.proofs.PassLaws.{set-on}
 use Rattle.memory.specs.Memory.{kindOf, valueOf, popValue}
-use Rattle.memory.specs.Held.{Held}
+use Rattle.memory.specs.Held.{HoldsTable}
 use Rattle.analysis.specs.FirstBy.{FirstBy}
 use Rattle.moves.specs.Moves.{nextAt}
 use Rattle.moves.specs.Flags.{HoldsMoves}
@@ -92,7 +92,7 @@ next-forget (A i) e = clash cc
 next-forget (P n) e = clash cc
 
 module _ (g : Grammar) (t : Table) {items entries kernels lookaheads kinds values gotos : List ℕ} {rules strings lines : ℕ}
-    (H : Held g t items entries kernels lookaheads kinds values gotos rules strings lines)
+    (H : HoldsTable g t items entries kernels lookaheads kinds values gotos rules strings lines)
     {codes : ℕ} (nul fst : List ℕ) (count : codes ≡ suc (g .terminals)) {q : ℕ} (lq : q < 256) where
   asked-moves : {X : ℕ} → Asked g t (FirstBy codes nul fst) q X (S 0) → (i : ℕ) × (n : ℕ) × MovedBy g t q X i n
   asked-moves (to-move {i = i} {n = n} m) = (i, n, m)

@@ -12,7 +12,7 @@ use Rattle.items.specs.Layout.{leftAt, lengthAt, markAt}
 use Rattle.fixpoint.specs.Flags.{On}
 use Rattle.memory.specs.Memory.{stateAt, itemAt, dotAt, popValue}
 use Rattle.moves.specs.Moves.{Present}
-use Rattle.carried.specs.Rows.{FirstsAt}
+use Rattle.item_first.specs.Rows.{FirstsAt}
 
 -- v is asked of code c's cell
 pub record Demand (asked : List ℕ) (c v : ℕ) : Type 0 where

@@ -1,5 +1,5 @@
 // What the items of a state ask of its cells, and which cells are not so.
-// Inner: for the checker, the builder and `explanation`.
+// Inner: for the checker, the builder and `explain_states`.
 use fixpoint::Found;
 use memory::Totals;
 use symbol::CODES;
@@ -15,12 +15,12 @@ ghost use Rattle.leftcorner.specs.Construction.{CellsAgree, CellsMeet};
 ghost use Rattle.items.specs.Layout.{leftAt};
 ghost use Rattle.fixpoint.specs.Flags.{Off, Decides};
 ghost use Rattle.fixpoint.specs.Misses.{Any, Misses};
-ghost use Rattle.memory.specs.Held.{Held};
+ghost use Rattle.memory.specs.Held.{HoldsTable};
 ghost use Rattle.analysis.specs.FirstBy.{FirstBy};
 ghost use Rattle.closure.specs.Expansion.{HoldsClosure};
 ghost use Rattle.moves.specs.Moves.{Lined, Readable, Cells};
 ghost use Rattle.moves.specs.Flags.{HoldsMoves};
-ghost use Rattle.carried.specs.Rows.{Ready};
+ghost use Rattle.item_first.specs.Rows.{FirstRoom};
 ghost use Rattle.cells.specs.Demands.{Asks, Wants, CodeAsks, ItemAsks, RuleAsks, LinesAsk, RulesAsk, HoldsAsked, HoldsConflicts};
 ghost use Rattle.cells.specs.Contents.{demandAt, GotoMeets};
 
@@ -90,14 +90,14 @@ pub fn ask_item(
     asked: &mut [usize],
     others: &mut [usize],
 )
-    requires { ⌜ Ready (now items) (now nullable) (now first) (totals .items) (totals .codes) ⌝ }
+    requires { ⌜ FirstRoom (now items) (now nullable) (now first) (totals .items) (totals .codes) ⌝ }
     requires { ⌜ (i ≤ totals .items) × (i < 256) × (k ≤ 15) × (start + 64 ≤ length (now from)) ⌝ }
     requires { ⌜ (length (now asked) ≡ 64) × (length (now others) ≡ 64) ⌝ }
     ensures { λ _. ⌜ Asks (ItemAsks (now (items .entry)) (now (nullable .entry)) (now (first .entry)) (now (from .entry)) (totals .rules) (totals .codes) i k start) (now (asked .entry)) (now (others .entry)) (now (asked .exit)) (now (others .exit)) ⌝ }
 {
     if items::mark_of(items, totals.items, i) == k {
         let mut row = [0u8; CODES];
-        carried::item_first(
+        item_first::item_first(
             items,
             totals.items,
             i,
@@ -135,7 +135,7 @@ fn ask_lines(
     others: &mut [usize],
 )
     requires { ⌜ Lined (now items) (now kernels) (now links) (totals .items) (totals .lines) ⌝ }
-    requires { ⌜ Ready (now items) (now nullable) (now first) (totals .items) (totals .codes) ⌝ }
+    requires { ⌜ FirstRoom (now items) (now nullable) (now first) (totals .items) (totals .codes) ⌝ }
     requires { ⌜ (totals .items < 256) × (q < 256) × (totals .lines * 64 ≤ length (now lookaheads)) ⌝ }
     requires { ⌜ (length (now asked) ≡ 64) × (length (now others) ≡ 64) ⌝ }
     ensures { λ _. ⌜ Asks (LinesAsk (now (items .entry)) (now (nullable .entry)) (now (first .entry)) (now (kernels .entry)) (now (lookaheads .entry)) (totals .rules) (totals .lines) (totals .codes) q) (now (asked .entry)) (now (others .entry)) (now (asked .exit)) (now (others .exit)) ⌝ }
@@ -172,7 +172,7 @@ fn ask_rule(
     asked: &mut [usize],
     others: &mut [usize],
 )
-    requires { ⌜ Ready (now items) (now nullable) (now first) (totals .items) (totals .codes) ⌝ }
+    requires { ⌜ FirstRoom (now items) (now nullable) (now first) (totals .items) (totals .codes) ⌝ }
     requires { ⌜ (i ≤ totals .items) × (i < 256) × (64 ≤ leftAt (now items) i) × (length (now follow) ≡ 4096) ⌝ }
     requires { ⌜ (length (now asked) ≡ 64) × (length (now others) ≡ 64) ⌝ }
     ensures { λ _. ⌜ Asks (RuleAsks (now (items .entry)) (now (nullable .entry)) (now (first .entry)) (now (follow .entry)) (totals .rules) (totals .codes) i) (now (asked .entry)) (now (others .entry)) (now (asked .exit)) (now (others .exit)) ⌝ }
@@ -203,7 +203,7 @@ fn ask_rules(
     asked: &mut [usize],
     others: &mut [usize],
 )
-    requires { ⌜ Ready (now items) (now nullable) (now first) (totals .items) (totals .codes) ⌝ }
+    requires { ⌜ FirstRoom (now items) (now nullable) (now first) (totals .items) (totals .codes) ⌝ }
     requires { ⌜ (totals .rules ≤ totals .items) × (totals .items < 256) ⌝ }
     requires { ⌜ (length (now present) ≡ 64) × (length (now follow) ≡ 4096) ⌝ }
     requires { ⌜ (length (now asked) ≡ 64) × (length (now others) ≡ 64) ⌝ }
@@ -253,12 +253,12 @@ pub fn ask_cells(
     others: &mut [usize],
 ) -> bool
     requires { ⌜ Readable (now items) (now kernels) (now links) (now present) (totals .items) (totals .rules) (totals .lines) ⌝ }
-    requires { ⌜ Ready (now items) (now nullable) (now first) (totals .items) (totals .codes) ⌝ }
+    requires { ⌜ FirstRoom (now items) (now nullable) (now first) (totals .items) (totals .codes) ⌝ }
     requires { ⌜ (totals .items < 256) × (q < 256) × (totals .lines * 64 ≤ length (now lookaheads)) ⌝ }
     requires { ⌜ (length (now follow) ≡ 4096) × (length (now moves) ≡ 128) ⌝ }
     requires { ⌜ (now asked ≡ replicate 64 0) × (now others ≡ replicate 64 0) ⌝ }
     ensures { λ b. ⌜ (length (now (asked .exit)) ≡ 64) × (length (now (others .exit)) ≡ 64) ⌝ }
-    ensures { λ b. ⌜ ((g : Grammar) (t : Table) (entries kinds values gotos : List ℕ) (strings : ℕ) → Held g t (now (items .entry)) entries (now (kernels .entry)) (now (lookaheads .entry)) kinds values gotos (totals .rules) strings (totals .lines) → totals .codes ≡ suc (g .terminals) → HoldsClosure g t (FirstBy (totals .codes) (now (nullable .entry)) (now (first .entry))) q (now (present .entry)) (now (follow .entry)) → HoldsMoves g t q (now (moves .entry)) → Decides (CellsAgree g t (FirstBy (totals .codes) (now (nullable .entry)) (now (first .entry))) q) b × (b ≡ true → HoldsAsked g t (FirstBy (totals .codes) (now (nullable .entry)) (now (first .entry))) q (now (asked .exit))) × HoldsConflicts g t (FirstBy (totals .codes) (now (nullable .entry)) (now (first .entry))) q (now (asked .exit)) (now (others .exit))) ⌝ }
+    ensures { λ b. ⌜ ((g : Grammar) (t : Table) (entries kinds values gotos : List ℕ) (strings : ℕ) → HoldsTable g t (now (items .entry)) entries (now (kernels .entry)) (now (lookaheads .entry)) kinds values gotos (totals .rules) strings (totals .lines) → totals .codes ≡ suc (g .terminals) → HoldsClosure g t (FirstBy (totals .codes) (now (nullable .entry)) (now (first .entry))) q (now (present .entry)) (now (follow .entry)) → HoldsMoves g t q (now (moves .entry)) → Decides (CellsAgree g t (FirstBy (totals .codes) (now (nullable .entry)) (now (first .entry))) q) b × (b ≡ true → HoldsAsked g t (FirstBy (totals .codes) (now (nullable .entry)) (now (first .entry))) q (now (asked .exit))) × HoldsConflicts g t (FirstBy (totals .codes) (now (nullable .entry)) (now (first .entry))) q (now (asked .exit)) (now (others .exit))) ⌝ }
 {
     ask_codes(moves, 0, 1, totals.codes, SHIFT, asked, others);
     ask_lines(
@@ -367,7 +367,7 @@ pub fn cells_meet(
 ) -> bool
     requires { ⌜ Cells (now kinds) (now values) (now gotos) ⌝ }
     requires { ⌜ (length (now asked) ≡ 64) × (length (now moves) ≡ 128) × (codes ≤ 64) × (q < 256) ⌝ }
-    ensures { λ b. ⌜ ((g : Grammar) (t : Table) (items entries kernels lookaheads nul fst : List ℕ) (rules strings lines : ℕ) → Held g t items entries kernels lookaheads (now (kinds .entry)) (now (values .entry)) (now (gotos .entry)) rules strings lines → codes ≡ suc (g .terminals) → HoldsMoves g t q (now (moves .entry)) → HoldsAsked g t (FirstBy codes nul fst) q (now (asked .entry)) → Decides (CellsMeet g t (FirstBy codes nul fst) q) b) ⌝ }
+    ensures { λ b. ⌜ ((g : Grammar) (t : Table) (items entries kernels lookaheads nul fst : List ℕ) (rules strings lines : ℕ) → HoldsTable g t items entries kernels lookaheads (now (kinds .entry)) (now (values .entry)) (now (gotos .entry)) rules strings lines → codes ≡ suc (g .terminals) → HoldsMoves g t q (now (moves .entry)) → HoldsAsked g t (FirstBy codes nul fst) q (now (asked .entry)) → Decides (CellsMeet g t (FirstBy codes nul fst) q) b) ⌝ }
 {
     let cell = find_cell(asked, kinds, values, codes, q);
     if let Found::At(_) = cell {

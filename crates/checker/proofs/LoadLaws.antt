@@ -1,4 +1,4 @@
--- Tables that were read into slices with room are ready for the judge, what the reply makes of them, and what a walk is promised.
+-- Tables that were read into slices with room are ready for the check, what the reply makes of them, and what a walk is promised.
 use Prim.Native.Nat.{ℕ, suc, _+_, _≤_}
 use native.Mathlib.Omega.{arith}
 use mathlib.Core.Path.{_≡_, refl, sym, ap, subst, _∙_}
@@ -6,7 +6,7 @@ use mathlib.Core.Bool.{true}
 use mathlib.Core.List.{List}
 use Rattle.language.specs.Grammar.{Grammar}
 use Rattle.leftcorner.specs.Table.{Table}
-use Rattle.entry_list.specs.Uses.{strings-of}
+use Rattle.check_entries.specs.Uses.{strings-of}
 use Rattle.leftcorner.proofs.ReadOff.{clash}
 use Rattle.reply.specs.declared.Refusal.{Refusal}
 use Rattle.reply.specs.declared.Reply.{Reply}
@@ -18,10 +18,10 @@ use Rattle.table.specs.Book.{Reading, whole, rejected, tablesOf, readOf}
 use Rattle.table.specs.Memory.{countsOf, replyOf, asReply, Slices, hasRoom, Holds}
 use Rattle.table_facts.specs.Sound.{Sound}
 use Rattle.table_facts.proofs.Sound.{tables-sound}
-use Rattle.table_views.proofs.Views.{held, sized, given}
-use Rattle.judge.specs.Accepts.{tableVerdict}
-use Rattle.judge.specs.Given.{Sized, Given}
-use Rattle.checker.specs.Checked.{byReply, judged, replyTo, checkedOf}
+use Rattle.check_views.proofs.Views.{held, sized, given}
+use Rattle.check_memory.specs.Accepts.{tableVerdict}
+use Rattle.check_memory.specs.Given.{TableRoom, Given}
+use Rattle.checker.specs.Checked.{byReply, checked, replyTo, checkedOf}
 use Rattle.checker.proofs.Exactly.{accepted, accepted-sound}
 use Rattle.checker.specs.Loaded.{Loaded}
 
@@ -62,7 +62,7 @@ module _ (gs s : List ℕ) {v : Reply} (e : v ≡ replyTo (tablesOf gs s)) where
   unfolding checkedOf
   refused-by {why} q = go (tablesOf gs s) (sym e ∙ q)
     where
-      go : (x : Reading) → replyTo x ≡ Refused why → judged x ≡ rejected why
+      go : (x : Reading) → replyTo x ≡ Refused why → checked x ≡ rejected why
       go (whole g t) k = ap (byReply g t) k
       go (rejected w) k = let z : w ≡ why = cc in ap rejected z
 
@@ -70,7 +70,7 @@ module _ (gs s : List ℕ) {v : Reply} (e : v ≡ replyTo (tablesOf gs s)) where
   unfolding checkedOf
   accepted-by {n} q = go (tablesOf gs s) (sym e ∙ q)
     where
-      go : (x : Reading) → replyTo x ≡ Accepted n → x ≡ judged x
+      go : (x : Reading) → replyTo x ≡ Accepted n → x ≡ checked x
       go (whole g t) k = sym (ap (byReply g t) k)
       go (rejected w) k = clash cc
 
@@ -78,9 +78,9 @@ module _ {gs s : List ℕ} {b a : Slices} {c : Counts} (l : BooksRead gs s b a c
   read-sound : Sound (l .grammar) (l .table)
   read-sound = tables-sound gs s (l .reads)
 
-  -- ---- what the judge asks
+  -- ---- what the check asks
   module _ (room : hasRoom b ≡ true) where
-    pub read-sized : Sized (a .items) (a .states) (a .kernels) (a .lookaheads) (a .kinds) (a .values) (a .gotos) (a .named)
+    pub read-sized : TableRoom (a .items) (a .states) (a .kernels) (a .lookaheads) (a .kinds) (a .values) (a .gotos) (a .named)
         (c .grammar .rules + c .entries) (c .grammar .rules) (c .entries) (c .kernels)
     read-sized = let S = read-sound in rw (l .counts-are) (sized (l .holds) room (S .formed) (S .fits) (S .some-entry))
 
@@ -97,8 +97,8 @@ module _ {gs s : List ℕ} {b a : Slices} {c : Counts} (l : BooksRead gs s b a c
   pub read-goal : l .grammar .goal ≡ c .grammar .goal
   read-goal = rw (l .counts-are) refl
 
-  pub read-judged : {v : Reply} → v ≡ tableVerdict (l .grammar) (l .table) → v ≡ replyTo (tablesOf gs s)
-  read-judged e = e ∙ sym (ap replyTo (l .reads))
+  pub read-checked : {v : Reply} → v ≡ tableVerdict (l .grammar) (l .table) → v ≡ replyTo (tablesOf gs s)
+  read-checked e = e ∙ sym (ap replyTo (l .reads))
 
 -- ---- what a walk is promised, where the answer is that of books that are accepted
 whole-of : (x : Reading) {r : TableReply} {c : Counts} → r ≡ replyOf x → r ≡ reply.Read c → (g : Grammar) × (t : Table) × (x ≡ whole g t) × (c ≡ countsOf g t)

@@ -11,25 +11,25 @@ use Rattle.reply.specs.declared.Reply.{Reply}
 use Rattle.reply.specs.declared.Reply.the-variants.{Accepted, Refused}
 use Rattle.table.specs.Book.{Reading, whole, rejected, tablesOf}
 use Rattle.table.specs.Memory.{replyOf, asReply}
-use Rattle.judge.specs.Accepts.{tableVerdict}
+use Rattle.check_memory.specs.Accepts.{tableVerdict}
 
 -- a table that was read, by the reply to it
 abbrev pub byReply : Grammar → Table → Reply → Reading
 byReply g t (Accepted n) = whole g t
 byReply g t (Refused why) = rejected why
 
-abbrev pub judged : Reading → Reading
-judged (whole g t) = byReply g t (tableVerdict g t)
-judged (rejected why) = rejected why
+abbrev pub checked : Reading → Reading
+checked (whole g t) = byReply g t (tableVerdict g t)
+checked (rejected why) = rejected why
 
 -- the reply to what was read
 abbrev pub replyTo : Reading → Reply
 replyTo (whole g t) = tableVerdict g t
 replyTo (rejected why) = Refused why
 
--- both books, read and judged
+-- both books, read and checked
 unfoldable pub checkedOf : List ℕ → List ℕ → Reading
-checkedOf gs s = judged (tablesOf gs s)
+checkedOf gs s = checked (tablesOf gs s)
 
 -- "0 | whole | accepted"
 unfoldable pub verdictOf : List ℕ → List ℕ → Reply

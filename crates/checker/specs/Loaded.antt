@@ -9,7 +9,7 @@ use Rattle.leftcorner.specs.Table.{Table}
 use Rattle.leftcorner.specs.Construction.{Meets}
 use Rattle.items.specs.Layout.{Shaped}
 use Rattle.memory.specs.Memory.{HoldsEntries, HoldsActions}
-use Rattle.entry_list.specs.Uses.{HoldsStrings}
+use Rattle.check_entries.specs.Uses.{HoldsStrings}
 use Rattle.table.specs.declared.Counts.{Counts}
 use Rattle.table.specs.Book.{whole}
 use Rattle.table.specs.Memory.{Slices}

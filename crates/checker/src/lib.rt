@@ -1,23 +1,23 @@
 // The checker of tables, over both books.
-// The door is `check_tables`; `load_tables` is inner, for `session`, and `judge_books`, for the program that explains.
+// The door is `check_tables`; `load_tables` is inner, for `session`, and `check_books`, for the program that explains.
 use memory::Totals;
 use reply::Reply;
 use table::TableReply;
 ghost use mathlib.Core.Path.{_≡_};
 ghost use Rattle.table.specs.Book.{tablesOf};
-ghost use Rattle.table.specs.Memory.{replyOf, slices, Rooms, Holds};
+ghost use Rattle.table.specs.Memory.{replyOf, slices, SlicesRoom, Holds};
 ghost use Rattle.table.specs.declared.Counts.{Counts};
 ghost use Rattle.checker.specs.Checked.{checkedOf, verdictOf, replyTo};
 ghost use Rattle.checker.specs.Loaded.{Loaded};
 
 // What reading both books comes to, and the reply to what was read.
-pub struct Judged {
+pub struct Checked {
     pub answer: TableReply,
     pub verdict: Reply,
 }
 
-// Reads both books into the slices, and judges the tables. These stay in the slices whatever the reply; a book that is refused leaves zeros.
-pub fn judge_books(
+// Reads both books into the slices, and checks the tables. These stay in the slices whatever the reply; a book that is refused leaves zeros.
+pub fn check_books(
     grammar: &[u8],
     book: &[u8],
     items: &mut [u8],
@@ -28,8 +28,8 @@ pub fn judge_books(
     values: &mut [u8],
     gotos: &mut [u8],
     named: &mut [u8],
-) -> Judged
-    requires { ⌜ Rooms (slices (now items) (now «entry_states») (now kernels) (now lookaheads) (now kinds) (now values) (now gotos) (now named)) ⌝ }
+) -> Checked
+    requires { ⌜ SlicesRoom (slices (now items) (now «entry_states») (now kernels) (now lookaheads) (now kinds) (now values) (now gotos) (now named)) ⌝ }
     ensures { λ r. ⌜ r .answer ≡ replyOf (tablesOf (now (grammar .entry)) (now (book .entry))) ⌝ }
     ensures { λ r. ⌜ Holds (tablesOf (now (grammar .entry)) (now (book .entry))) (slices (now (items .entry)) (now («entry_states» .entry)) (now (kernels .entry)) (now (lookaheads .entry)) (now (kinds .entry)) (now (values .entry)) (now (gotos .entry)) (now (named .entry))) (slices (now (items .exit)) (now («entry_states» .exit)) (now (kernels .exit)) (now (lookaheads .exit)) (now (kinds .exit)) (now (values .exit)) (now (gotos .exit)) (now (named .exit))) ⌝ }
     ensures { λ r. ⌜ r .verdict ≡ replyTo (tablesOf (now (grammar .entry)) (now (book .entry))) ⌝ }
@@ -47,7 +47,7 @@ pub fn judge_books(
         named,
     );
     let TableReply::Read(counts) = answer else {
-        return Judged {
+        return Checked {
             answer,
             verdict: table::as_reply(answer),
         };
@@ -63,7 +63,7 @@ pub fn judge_books(
         codes,
         states: counts.states,
     };
-    let verdict = judge::judge(
+    let verdict = check_memory::check_table(
         items,
         entry_states,
         kernels,
@@ -75,10 +75,10 @@ pub fn judge_books(
         totals,
         heading.goal,
     );
-    Judged { answer, verdict }
+    Checked { answer, verdict }
 }
 
-// Reads and judges both books. Tables that are accepted are then in the slices; a refusal leaves zeros.
+// Reads and checks both books. Tables that are accepted are then in the slices; a refusal leaves zeros.
 pub fn load_tables(
     grammar: &[u8],
     book: &[u8],
@@ -91,12 +91,12 @@ pub fn load_tables(
     gotos: &mut [u8],
     named: &mut [u8],
 ) -> TableReply
-    requires { ⌜ Rooms (slices (now items) (now «entry_states») (now kernels) (now lookaheads) (now kinds) (now values) (now gotos) (now named)) ⌝ }
+    requires { ⌜ SlicesRoom (slices (now items) (now «entry_states») (now kernels) (now lookaheads) (now kinds) (now values) (now gotos) (now named)) ⌝ }
     ensures { λ r. ⌜ r ≡ replyOf (checkedOf (now (grammar .entry)) (now (book .entry))) ⌝ }
     ensures { λ r. ⌜ Holds (checkedOf (now (grammar .entry)) (now (book .entry))) (slices (now (items .entry)) (now («entry_states» .entry)) (now (kernels .entry)) (now (lookaheads .entry)) (now (kinds .entry)) (now (values .entry)) (now (gotos .entry)) (now (named .entry))) (slices (now (items .exit)) (now («entry_states» .exit)) (now (kernels .exit)) (now (lookaheads .exit)) (now (kinds .exit)) (now (values .exit)) (now (gotos .exit)) (now (named .exit))) ⌝ }
     ensures { λ r. ⌜ ((c : Counts) → r ≡ TableReply.Read c → Loaded (now (grammar .entry)) (now (book .entry)) (slices (now (items .exit)) (now («entry_states» .exit)) (now (kernels .exit)) (now (lookaheads .exit)) (now (kinds .exit)) (now (values .exit)) (now (gotos .exit)) (now (named .exit))) c) ⌝ }
 {
-    let judged = judge_books(
+    let checked = check_books(
         grammar,
         book,
         items,
@@ -108,7 +108,7 @@ pub fn load_tables(
         gotos,
         named,
     );
-    let verdict = judged.verdict;
+    let verdict = checked.verdict;
     if let Reply::Refused(why) = verdict {
         table::clear_all(
             items,
@@ -122,7 +122,7 @@ pub fn load_tables(
         );
         return TableReply::Refused(why);
     }
-    judged.answer
+    checked.answer
 }
 
 // The verdict on both books.

@@ -1,6 +1,6 @@
 // explain_grammar GRAMMAR..: builds the tables of each grammar book, prints the reply's number and place, and tells in words why there are none.
 use build_memory::Built;
-use explanation::Question;
+use explain_states::Question;
 use program::OUTPUT;
 use program::print_count;
 use program::print_text;
@@ -13,8 +13,8 @@ ghost use mathlib.Core.Path.{_≡_};
 ghost use Prim.Native.Nat.{_+_, _<_, _≤_};
 ghost use lib.ListN.{length};
 ghost use Rattle.moves.specs.Moves.{Cells};
-ghost use Rattle.judge.specs.Given.{Sized};
-ghost use Rattle.table_writer.specs.MemoryTable as writer;
+ghost use Rattle.check_memory.specs.Given.{TableRoom};
+ghost use Rattle.build_writer.specs.MemoryTable as writer;
 
 // The most conflicts that are told in words.
 const MOST: usize = 20;
@@ -153,7 +153,7 @@ fn explain_conflicts(
     counts: Counts,
     first: usize,
 )
-    requires { ⌜ Sized (now items) (now entries) (now kernels) (now lookaheads) (now kinds) (now values) (now gotos) (now named) (counts .grammar .rules + counts .entries) (counts .grammar .rules) (counts .entries) (counts .kernels) ⌝ }
+    requires { ⌜ TableRoom (now items) (now entries) (now kernels) (now lookaheads) (now kinds) (now values) (now gotos) (now named) (counts .grammar .rules + counts .entries) (counts .grammar .rules) (counts .entries) (counts .kernels) ⌝ }
     requires { ⌜ (counts .grammar .terminals ≤ 63) × (counts .states ≤ 255) × (1 ≤ first) ⌝ }
     requires { ⌜ Cells (now kinds) (now values) (now gotos) ⌝ }
 {
@@ -165,7 +165,7 @@ fn explain_conflicts(
             place: q,
             room: room_after(found),
         };
-        let more = explanation::explain_memory(
+        let more = explain_states::explain_memory(
             out,
             items,
             entries,
@@ -205,7 +205,7 @@ fn print_refusal(out: &mut [u8; OUTPUT], kind: Kind, place: usize) {
 fn explain_book(out: &mut [u8; OUTPUT], grammar: &[u8], why: Refusal) {
     let reply = Reply::Refused(why);
     print_reply(out, reply);
-    line_words::explain_grammar_book(out, grammar, reply::number(reply), reply::place(reply));
+    explain_lines::explain_grammar_book(out, grammar, reply::number(reply), reply::place(reply));
 }
 
 // A table without conflicts: its book may still be too long.
@@ -220,11 +220,11 @@ fn explain_length(
     gotos: &[u8],
     counts: Counts,
 )
-    requires { ⌜ writer.Sized (now items) (now entries) (now kernels) (now lookaheads) (now kinds) (now values) (now gotos) (counts .grammar .rules) (counts .entries) (counts .kernels) (counts .states) (counts .grammar .terminals + 1) ⌝ }
+    requires { ⌜ writer.WriterRoom (now items) (now entries) (now kernels) (now lookaheads) (now kinds) (now values) (now gotos) (counts .grammar .rules) (counts .entries) (counts .kernels) (counts .states) (counts .grammar .terminals + 1) ⌝ }
 {
     // Only the length is asked for.
     let mut book = [0u8; 1];
-    let n = table_writer::write_table(
+    let n = build_writer::write_table(
         items,
         entries,
         kernels,

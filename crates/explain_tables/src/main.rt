@@ -1,6 +1,6 @@
 // explain_tables (GRAMMAR TABLES)..: checks each table book against its grammar book, prints the reply's number and place, and tells in words
 // why the tables are refused.
-use explanation::Question;
+use explain_states::Question;
 use grammar::GrammarReply;
 use program::OUTPUT;
 use program::print_text;
@@ -8,7 +8,7 @@ use symbol::CODES;
 use table::Counts;
 use table::TableReply;
 ghost use Prim.Native.Nat.{_+_, _≤_};
-ghost use Rattle.judge.specs.Given.{Sized};
+ghost use Rattle.check_memory.specs.Given.{TableRoom};
 
 // The tables in memory, by the reply to them: 0, or 7 to 10.
 fn explain_tables(
@@ -25,14 +25,14 @@ fn explain_tables(
     number: u64,
     place: usize,
 )
-    requires { ⌜ Sized (now items) (now entries) (now kernels) (now lookaheads) (now kinds) (now values) (now gotos) (now named) (counts .grammar .rules + counts .entries) (counts .grammar .rules) (counts .entries) (counts .kernels) ⌝ }
+    requires { ⌜ TableRoom (now items) (now entries) (now kernels) (now lookaheads) (now kinds) (now values) (now gotos) (now named) (counts .grammar .rules + counts .entries) (counts .grammar .rules) (counts .entries) (counts .kernels) ⌝ }
     requires { ⌜ (counts .grammar .terminals ≤ 63) × (counts .states ≤ 255) ⌝ }
 {
     if number == 0 {
         print_text(out, b"the tables meet the construction\n");
         return;
     }
-    explanation::explain_memory(
+    explain_states::explain_memory(
         out,
         items,
         entries,
@@ -55,16 +55,16 @@ fn explain_tables(
 fn explain_book(out: &mut [u8; OUTPUT], grammar: &[u8], book: &[u8], number: u64, place: usize) {
     // Both lengths come before all else.
     if book.len() > 65536 {
-        line_words::explain_table_book(out, 0, 0, 0, book, number, place);
+        explain_lines::explain_table_book(out, 0, 0, 0, book, number, place);
         return;
     }
     let mut items = [0u8; grammar::TABLE];
     let answer = grammar::read_grammar(grammar, &mut items);
     let GrammarReply::Read(h) = answer else {
-        line_words::explain_grammar_book(out, grammar, number, place);
+        explain_lines::explain_grammar_book(out, grammar, number, place);
         return;
     };
-    line_words::explain_table_book(
+    explain_lines::explain_table_book(
         out,
         h.terminals,
         h.nonterminals,
@@ -84,7 +84,7 @@ fn show(grammar: &[u8], book: &[u8]) {
     let mut values = [0u8; table::CELLS];
     let mut gotos = [0u8; table::CELLS];
     let mut named = [0u8; table::NAMED];
-    let judged = checker::judge_books(
+    let checked = checker::check_books(
         grammar,
         book,
         &mut items,
@@ -96,12 +96,12 @@ fn show(grammar: &[u8], book: &[u8]) {
         &mut gotos,
         &mut named,
     );
-    let verdict = judged.verdict;
+    let verdict = checked.verdict;
     let number = reply::number(verdict);
     let place = reply::place(verdict);
     let mut out = program::output();
     program::print_pair(&mut out, number, place as u64);
-    let answer = judged.answer;
+    let answer = checked.answer;
     match answer {
         TableReply::Refused(_) => explain_book(&mut out, grammar, book, number, place),
         TableReply::Read(counts) => explain_tables(

@@ -8,9 +8,9 @@ use lib.ListN.{length}
 use Rattle.language.specs.Grammar.{Rule}
 use Rattle.reply.specs.declared.Kind.the-variants as kind
 use Rattle.reply.specs.declared.Refusal.{Refusal}
-use Rattle.header.specs.declared.Heading.{Heading}
-use Rattle.header.specs.declared.HeaderLine.the-variants as header
-use Rattle.header.specs.Header.{headerOf}
+use Rattle.grammar_header.specs.declared.Heading.{Heading}
+use Rattle.grammar_header.specs.declared.HeaderLine.the-variants as header
+use Rattle.grammar_header.specs.Header.{headerOf}
 use Rattle.grammar.specs.declared.RuleLines.{RuleLines}
 use Rattle.grammar.specs.declared.RuleLines.the-variants as lines
 use Rattle.grammar.specs.declared.GrammarReply.{GrammarReply}

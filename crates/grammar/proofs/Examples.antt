@@ -7,9 +7,9 @@ use Rattle.range.specs.Range.{within}
 use Rattle.symbol.specs.Symbol.{isDeclared}
 use Rattle.text.specs.Field.{classOf, addDigit, digitsFrom, fieldAt}
 use Rattle.text.specs.Field as text
-use Rattle.header.specs.Header.{figuresOf, headerOf}
-use Rattle.rule.specs.Parts.{partsFrom}
-use Rattle.rule.specs.RuleLine.{overLimits, someUndeclared, ruleOf, ruleAt}
+use Rattle.grammar_header.specs.Header.{figuresOf, headerOf}
+use Rattle.grammar_rule.specs.Parts.{partsFrom}
+use Rattle.grammar_rule.specs.RuleLine.{overLimits, someUndeclared, ruleOf, ruleAt}
 use Rattle.reply.specs.declared.Kind.the-variants as kind
 use Rattle.grammar.specs.Book.{accepted, rejectedAt, rulesFrom, endOf, linesOf, bookOf}
 

@@ -10,13 +10,13 @@ use Rattle.language.specs.Grammar.{Grammar, Rule, at, ruleAt}
 use Rattle.language.proofs.GrammarLaws.{not-there}
 use Rattle.language.specs.WellFormed.{RuleFormed, WellFormed}
 use Rattle.range.proofs.TestLaws.{all-cond}
-use Rattle.header.specs.declared.Heading.{Heading}
-use Rattle.header.specs.declared.HeaderLine.{HeaderLine}
-use Rattle.header.specs.declared.HeaderLine.the-variants as header
-use Rattle.header.specs.Header.{headerOf}
-use Rattle.header.proofs.HeaderLaws.{Ranged, header-ranged}
-use Rattle.rule.specs.RuleLine as line
-use Rattle.rule.proofs.FormLaws.{rule-formed}
+use Rattle.grammar_header.specs.declared.Heading.{Heading}
+use Rattle.grammar_header.specs.declared.HeaderLine.{HeaderLine}
+use Rattle.grammar_header.specs.declared.HeaderLine.the-variants as header
+use Rattle.grammar_header.specs.Header.{headerOf}
+use Rattle.grammar_header.proofs.HeaderLaws.{Ranged, header-ranged}
+use Rattle.grammar_rule.specs.RuleLine as line
+use Rattle.grammar_rule.proofs.FormLaws.{rule-formed}
 use Rattle.grammar.specs.Book.{Rules, listed, broken-off, after, onLine, rulesFrom, Book, accepted, rejected, grammarWith, endOf, linesOf, bookOf}
 
 -- k rules, each of them formed in g

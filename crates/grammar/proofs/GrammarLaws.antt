@@ -9,7 +9,7 @@ use Rattle.language.specs.Sentence.{Productive, Reachable, AllProductive}
 use Rattle.language.specs.WellFormed.{WellFormed}
 use Rattle.fixpoint.specs.declared.Found.{Found}
 use Rattle.fixpoint.specs.Lowest.{Lowest, lowest-one}
-use Rattle.reduction.specs.Reduced.{AllReachable, lowestUnproductive, lowestUnreachable, lowest-unproductive, lowest-unreachable, none-unproductive, none-unreachable, all-productive, all-reachable}
+use Rattle.grammar_reduction.specs.Reduced.{AllReachable, lowestUnproductive, lowestUnreachable, lowest-unproductive, lowest-unreachable, none-unproductive, none-unreachable, all-productive, all-reachable}
 use Rattle.reply.specs.declared.Kind.the-variants as kind
 use Rattle.grammar.specs.Book.{Book, accepted, rejected, rejectedAt, onFound, onAccepted, bookOf, reducedOf, grammarOf}
 use Rattle.grammar.proofs.FormLaws.{accepted-formed}

@@ -9,14 +9,14 @@ use Rattle.language.specs.Grammar.{Grammar}
 use Rattle.items.specs.Layout.{layout}
 use Rattle.items.proofs.TableLaws.{table-length}
 use Rattle.fixpoint.specs.declared.Found.{Found}
-use Rattle.reduction.specs.Reduced.{lowestUnproductive, lowestUnreachable}
+use Rattle.grammar_reduction.specs.Reduced.{lowestUnproductive, lowestUnreachable}
 use Rattle.reply.specs.declared.Kind.the-variants as kind
 use Rattle.reply.specs.declared.Refusal.{Refusal}
-use Rattle.header.specs.declared.Heading.{Heading}
+use Rattle.grammar_header.specs.declared.Heading.{Heading}
 use Rattle.grammar.specs.declared.GrammarReply.{GrammarReply}
 use Rattle.grammar.specs.declared.GrammarReply.the-variants as reply
 use Rattle.grammar.specs.Book.{Book, accepted, rejected, rejectedAt, onFound, bookOf, reducedOf, grammarOf}
-use Rattle.grammar.specs.Memory.{headingOf, replyOf, within, readOf, memoryOf, LaidBy, Laid, Ready}
+use Rattle.grammar.specs.Memory.{headingOf, replyOf, fitted, readOf, memoryOf, LaidBy, Laid, HoldsGrammar}
 use Rattle.grammar.proofs.FormLaws.{accepted-formed}
 
 pub is-accepted : (b : Book) {h : Heading} → replyOf b ≡ reply.Read h → (g : Grammar) × (b ≡ accepted g) × (h ≡ headingOf g)
@@ -75,7 +75,7 @@ module _ (s : List ℕ) {y : GrammarReply} (a : y ≡ replyOf (bookOf s)) where
     laid : m ≡ layout grammar size
     laid = subst (λ (b : Book). LaidBy b size m) book-is (w .table)
 
-    pub ready : 8192 ≤ size → Ready m h grammar
+    pub ready : 8192 ≤ size → HoldsGrammar m h grammar
     unfolding grammar
     ready room =
         let e : length m ≡ size = ap length laid ∙ table-length (grammar .rules) [] size in
@@ -101,14 +101,14 @@ module _ (s : List ℕ) {y : GrammarReply} (a : y ≡ replyOf (bookOf s)) where
 -- ---- the lent slice
 module _ (s : List ℕ) (size : ℕ) {y : GrammarReply} (a : y ≡ replyOf (grammarOf s)) where
   pub short-rejected : {x : Refusal} → y ≡ reply.Refused x → readOf s size ≡ rejected x
-  short-rejected q = ap (within size) (is-rejected (grammarOf s) (sym a ∙ q))
+  short-rejected q = ap (fitted size) (is-rejected (grammarOf s) (sym a ∙ q))
 
   pub short-accepted : size < 8192 → {h : Heading} → y ≡ reply.Read h → readOf s size ≡ rejectedAt kind.BufferTooSmall 0
-  short-accepted l q = ap (within size) (is-accepted (grammarOf s) (sym a ∙ q) .1) ∙ simp (lt-ltb _ _ l)
+  short-accepted l q = ap (fitted size) (is-accepted (grammarOf s) (sym a ∙ q) .1) ∙ simp (lt-ltb _ _ l)
 
 pub long-enough : (s : List ℕ) (size : ℕ) → 8192 ≤ size → readOf s size ≡ grammarOf s
 long-enough s size l = go (grammarOf s)
   where
-    go : (b : Book) → within size b ≡ b
+    go : (b : Book) → fitted size b ≡ b
     go (accepted g) = simp (le-ltb _ _ l)
     go (rejected x) = refl

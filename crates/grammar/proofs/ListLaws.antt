@@ -9,11 +9,11 @@ use Rattle.language.specs.Grammar.{Rule}
 use Rattle.items.specs.Layout.{itemTable, rowOf}
 use Rattle.items.proofs.TableLaws.{table-none, table-rule, table-length, table-behind}
 use Rattle.reply.specs.declared.Refusal.{Refusal}
-use Rattle.rule.specs.declared.RuleLine.{RuleLine}
-use Rattle.rule.specs.declared.RuleLine.the-variants as line
-use Rattle.rule.specs.RuleLine.{Line, read, refused, ruleAt}
-use Rattle.rule.specs.Progress.{lineOf}
-use Rattle.rule.specs.Memory.{EmptyRow, StoredBy, Stored}
+use Rattle.grammar_rule.specs.declared.RuleLine.{RuleLine}
+use Rattle.grammar_rule.specs.declared.RuleLine.the-variants as line
+use Rattle.grammar_rule.specs.RuleLine.{Line, read, refused, ruleAt}
+use Rattle.grammar_rule.specs.Progress.{lineOf}
+use Rattle.grammar_rule.specs.Memory.{EmptyRow, StoredBy, Stored}
 use Rattle.grammar.specs.declared.RuleLines.the-variants as lines
 use Rattle.grammar.specs.Book.{Rules, listed, broken-off, after, rulesFrom}
 use Rattle.grammar.specs.Memory.{linesReply, Listed}

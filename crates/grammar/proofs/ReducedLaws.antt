@@ -8,11 +8,11 @@ use Rattle.language.specs.Grammar.{Grammar}
 use Rattle.items.specs.Layout.{Holds, Shaped}
 use Rattle.items.proofs.LayoutLaws.{layout-holds, layout-shaped}
 use Rattle.fixpoint.specs.declared.Found.{Found}
-use Rattle.reduction.specs.Reduced.{lowestUnproductive, lowestUnreachable}
+use Rattle.grammar_reduction.specs.Reduced.{lowestUnproductive, lowestUnreachable}
 use Rattle.reply.specs.declared.Kind.the-variants as kind
-use Rattle.header.specs.declared.Heading.{Heading}
+use Rattle.grammar_header.specs.declared.Heading.{Heading}
 use Rattle.grammar.specs.Book.{accepted, rejectedAt, reducedOf}
-use Rattle.grammar.specs.Memory.{Ready}
+use Rattle.grammar.specs.Memory.{HoldsGrammar}
 
 module _ (g : Grammar) where
   pub reduced-unproductive : {X : ℕ} → lowestUnproductive g ≡ Found.At X → reducedOf g ≡ rejectedAt kind.Unproductive X
@@ -29,7 +29,7 @@ module _ (g : Grammar) where
     reduced-accepted f = simp (e, f)
 
 -- ---- what memory that is ready offers
-module _ {m : List ℕ} {h : Heading} {g : Grammar} (r : Ready m h g) where
+module _ {m : List ℕ} {h : Heading} {g : Grammar} (r : HoldsGrammar m h g) where
   fits : suc (length (g .rules)) * 64 ≤ length m
   fits = omega (arith, r .room, r .formed .few-rules)
 

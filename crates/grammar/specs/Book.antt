@@ -7,15 +7,15 @@ use lib.Dec.{ltb, eqb}
 use lib.ListN.{length}
 use Rattle.language.specs.Grammar.{Grammar, Rule}
 use Rattle.fixpoint.specs.declared.Found.{Found}
-use Rattle.reduction.specs.Reduced.{lowestUnproductive, lowestUnreachable}
+use Rattle.grammar_reduction.specs.Reduced.{lowestUnproductive, lowestUnreachable}
 use Rattle.reply.specs.declared.Kind.{Kind}
 use Rattle.reply.specs.declared.Kind.the-variants as kind
 use Rattle.reply.specs.declared.Refusal.{Refusal}
-use Rattle.header.specs.declared.Heading.{Heading}
-use Rattle.header.specs.declared.HeaderLine.{HeaderLine}
-use Rattle.header.specs.declared.HeaderLine.the-variants as header
-use Rattle.header.specs.Header.{headerOf}
-use Rattle.rule.specs.RuleLine.{Line, read, refused, ruleAt}
+use Rattle.grammar_header.specs.declared.Heading.{Heading}
+use Rattle.grammar_header.specs.declared.HeaderLine.{HeaderLine}
+use Rattle.grammar_header.specs.declared.HeaderLine.the-variants as header
+use Rattle.grammar_header.specs.Header.{headerOf}
+use Rattle.grammar_rule.specs.RuleLine.{Line, read, refused, ruleAt}
 
 -- ---- the rule lines
 -- rules in line order with the position past their lines, or the first refusal

@@ -11,7 +11,7 @@ use Rattle.items.specs.Layout.{itemTable, layout}
 use Rattle.reply.specs.declared.Kind.the-variants as kind
 use Rattle.reply.specs.declared.Reply.{Reply}
 use Rattle.reply.specs.declared.Reply.the-variants.{Accepted, Refused}
-use Rattle.header.specs.declared.Heading.{Heading}
+use Rattle.grammar_header.specs.declared.Heading.{Heading}
 use Rattle.grammar.specs.declared.RuleLines.{RuleLines}
 use Rattle.grammar.specs.declared.RuleLines.the-variants as lines
 use Rattle.grammar.specs.declared.GrammarReply.{GrammarReply}
@@ -33,13 +33,13 @@ replyOf (rejected x) = reply.Refused x
 
 -- 11, "a lent slice is shorter than the whole result", after everything else. The table has 128 rows of 64 bytes, whatever the
 -- number of rules.
-abbrev pub within : ℕ → Book → Book
-within size (accepted g) = cond (ltb size 8192) (rejectedAt kind.BufferTooSmall 0) (accepted g)
-within size (rejected x) = rejected x
+abbrev pub fitted : ℕ → Book → Book
+fitted size (accepted g) = cond (ltb size 8192) (rejectedAt kind.BufferTooSmall 0) (accepted g)
+fitted size (rejected x) = rejected x
 
 -- a book read into a slice of `size` bytes
 abbrev pub readOf : List ℕ → ℕ → Book
-readOf s size = within size (grammarOf s)
+readOf s size = fitted size (grammarOf s)
 
 -- "After a refusal every output slice is zeros"; after success the item table is followed by zeros
 abbrev pub memoryOf : Book → ℕ → List ℕ
@@ -67,12 +67,12 @@ pub record Laid (b : Book) (size : ℕ) (m : List ℕ) : Type 0 where
   pub table : LaidBy b size m
 
 -- memory holds a well-formed grammar with this heading
-pub record Ready (m : List ℕ) (h : Heading) (g : Grammar) : Type 0 where
+pub record HoldsGrammar (m : List ℕ) (h : Heading) (g : Grammar) : Type 0 where
   pub formed : WellFormed g
   pub laid : m ≡ layout g (length m)
   pub room : 8192 ≤ length m
   pub heading : h ≡ headingOf g
 
-pub record Held (m : List ℕ) (h : Heading) : Type 0 where
+pub record HoldsSomeGrammar (m : List ℕ) (h : Heading) : Type 0 where
   pub grammar : Grammar
-  pub ready : Ready m h grammar
+  pub ready : HoldsGrammar m h grammar

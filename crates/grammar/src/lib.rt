@@ -1,23 +1,23 @@
 // Reads a grammar book into the item table.
 // The door is `read_grammar`.
 use fixpoint::Found;
-use header::HeaderLine;
-use header::Heading;
-use header::read_header;
-use reduction::lowest_unproductive;
-use reduction::lowest_unreachable;
+use grammar_header::HeaderLine;
+use grammar_header::Heading;
+use grammar_header::read_header;
+use grammar_reduction::lowest_unproductive;
+use grammar_reduction::lowest_unreachable;
+use grammar_rule::RuleLine;
+use grammar_rule::read_rule;
 use reply::Kind;
 use reply::Refusal;
 use reply::Reply;
 use reply::clear;
-use rule::RuleLine;
-use rule::read_rule;
 ghost use mathlib.Core.Path.{_≡_};
 ghost use Prim.Native.Nat.{_+_, _*_, _≤_};
 ghost use lib.ListN.{length, replicate};
 ghost use Rattle.language.specs.Grammar.{Grammar};
 ghost use Rattle.grammar.specs.Book.{rulesFrom, endOf, bookOf, reducedOf, grammarOf};
-ghost use Rattle.grammar.specs.Memory.{asReply, replyOf, readOf, memoryOf, linesReply, Listed, Laid, Ready, Held};
+ghost use Rattle.grammar.specs.Memory.{asReply, replyOf, readOf, memoryOf, linesReply, Listed, Laid, HoldsGrammar, HoldsSomeGrammar};
 
 // The bytes of an item table of 127 rules: a row of 64 for each, after row 0.
 pub const TABLE: usize = 8192;
@@ -93,8 +93,8 @@ fn read_lines(s: &[u8], m: &mut [u8]) -> GrammarReply
 
 // Refuses a grammar in which a nonterminal is unproductive or unreachable.
 fn check_reduced(h: Heading, m: &[u8]) -> GrammarReply
-    requires { ⌜ Held (now m) h ⌝ }
-    ensures { λ r. ⌜ ((g : Grammar) → Ready (now (m .entry)) h g → r ≡ replyOf (reducedOf g)) ⌝ }
+    requires { ⌜ HoldsSomeGrammar (now m) h ⌝ }
+    ensures { λ r. ⌜ ((g : Grammar) → HoldsGrammar (now (m .entry)) h g → r ≡ replyOf (reducedOf g)) ⌝ }
 {
     let unproductive = lowest_unproductive(m, h.terminals, h.nonterminals, h.rules);
     if let Found::At(x) = unproductive {

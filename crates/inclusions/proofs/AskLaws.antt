@@ -15,10 +15,10 @@ use Rattle.analysis.specs.Adds.{Adds, InRow}
 use Rattle.closure.specs.Kernel.{OfLine}
 use Rattle.analysis.proofs.AddLaws.{adds-none, adds-map, adds-then}
 use Rattle.moves.specs.Moves.{symbolAfter, nextAt}
-use Rattle.carried.specs.Rows.{FirstsAt, RowOf}
-use Rattle.carried.specs.Rows as rows
-use Rattle.carried.proofs.FirstLaws.{at-zero}
-use Rattle.entry_list.specs.Parts.{GroupEnd}
+use Rattle.item_first.specs.Rows.{FirstsAt, RowOf}
+use Rattle.item_first.specs.Rows as rows
+use Rattle.item_first.proofs.FirstLaws.{at-zero}
+use Rattle.check_entries.specs.Parts.{GroupEnd}
 use Rattle.inclusions.specs.Groups.{groupEnd, groupFrom, groupBegin}
 use Rattle.inclusions.specs.Asks.{LineAsks, LinesAsk, MoveAsks, GroupAsks, GroupsAsk, ItemAsks, by-move, by-group, KernelAsks, RuleAsks, RulesAsk, StateAsks}
 use Rattle.inclusions.proofs.AddingLaws.{Adding, adding-none, adding-then, adds-all}

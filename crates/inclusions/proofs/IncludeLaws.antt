@@ -14,7 +14,7 @@ use Rattle.leftcorner.specs.Construction.{entryItem}
 use Rattle.leftcorner.proofs.ReadOff.{entry-is}
 use Rattle.leftcorner.proofs.Sources.{entry-high}
 use Rattle.items.specs.Layout.{lengthAt, markAt}
-use Rattle.memory.specs.Held.{Held}
+use Rattle.memory.specs.Held.{HoldsTable}
 use Rattle.analysis.specs.Adds.{Adds}
 use Rattle.analysis.specs.FirstBy.{FirstBy, first-low}
 use Rattle.closure.specs.Expansion.{HoldsClosure}
@@ -23,9 +23,9 @@ use Rattle.analysis.proofs.AddLaws.{adds-map}
 use Rattle.moves.specs.Moves.{nextAt}
 use Rattle.moves.proofs.NextLaws.{next-line, line-next}
 use Rattle.moves.proofs.RowLaws.{row-of, symbol-of-goes, goes-of-symbol}
-use Rattle.carried.specs.Rows.{RowOf}
-use Rattle.carried.proofs.CarryLaws.{Carried, row-declared, row-carries, carries-row}
-use Rattle.entry_list.specs.Uses.{HoldsUses}
+use Rattle.item_first.specs.Rows.{RowOf}
+use Rattle.item_first.proofs.CarryLaws.{Carried, row-declared, row-carries, carries-row}
+use Rattle.check_entries.specs.Uses.{HoldsUses}
 use Rattle.inclusions.specs.Groups.{groupBegin}
 use Rattle.inclusions.specs.Asks.{MoveAsks, GroupAsks, GroupsAsk, ItemAsks, StateAsks}
 use Rattle.inclusions.specs.Asks as asks
@@ -44,7 +44,7 @@ included-map f (by-move nx h go) = by-move nx (f _ _ _ h) go
 included-map f (by-group e δs εs ent er split h x) = by-group e δs εs ent er split (f _ _ _ h) x
 
 -- The table may be any whose items and entries stand in memory, whatever its lines; the kernel lines and next states are read off memory.
-module _ (g : Grammar) (t : Table) {items entries ks ls kd vs gs : List ℕ} {rules strings n : ℕ} (H : Held g t items entries ks ls kd vs gs rules strings n)
+module _ (g : Grammar) (t : Table) {items entries ks ls kd vs gs : List ℕ} {rules strings n : ℕ} (H : HoldsTable g t items entries ks ls kd vs gs rules strings n)
     {uses : List ℕ} (U : HoldsUses uses g t) (nul fst : List ℕ) (codes : ℕ) (kernels lookaheads kinds values gotos present follow : List ℕ) (lines p : ℕ)
     (declared : (i k start : ℕ) (from : List ℕ) → RowOf items kernels lookaheads present follow rules lines p i k from start → DeclaredItem g t i) where
   -- what the state's items ask, as they stand in memory
@@ -155,7 +155,7 @@ module _ (g : Grammar) (t : Table) {items entries ks ls kd vs gs : List ℕ} {ru
 
 -- ---- a table whose kernel lines and next states stand in memory too
 module _ (g : Grammar) (t : Table) {items entries kernels lookaheads kinds values gotos : List ℕ} {rules strings lines : ℕ}
-    (H : Held g t items entries kernels lookaheads kinds values gotos rules strings lines) {codes : ℕ} (nul fst : List ℕ) (count : codes ≡ suc (g .terminals)) {p : ℕ} (lp : p < 256)
+    (H : HoldsTable g t items entries kernels lookaheads kinds values gotos rules strings lines) {codes : ℕ} (nul fst : List ℕ) (count : codes ≡ suc (g .terminals)) {p : ℕ} (lp : p < 256)
     {present follow uses : List ℕ} (C : HoldsClosure g t (FirstBy codes nul fst) p present follow) (U : HoldsUses uses g t) where
   to-table : {q i k c : ℕ} → Included g t (FirstBy codes nul fst) (NextIn kinds values gotos p) (Carried items kernels lookaheads present follow rules lines codes p) q i k c → Includes g t (FirstBy codes nul fst) p q i k c
   to-table {q = q} (by-move {X = X} nx car go) =

@@ -18,12 +18,12 @@ use Rattle.leftcorner.specs.Construction.{EntryAt}
 use Rattle.leftcorner.proofs.ReadOff.{same-string}
 use Rattle.leftcorner.proofs.Sources.{symbols-rule}
 use Rattle.items.specs.Layout.{lengthAt, markAt, RuleIn}
-use Rattle.memory.specs.Held.{Held}
+use Rattle.memory.specs.Held.{HoldsTable}
 use Rattle.analysis.specs.Rests.{restAt}
 use Rattle.closure.proofs.ItemLaws.{item-held}
-use Rattle.entry_list.specs.Uses.{HoldsUses}
-use Rattle.entry_list.proofs.GroupLaws.{baseOf, right-length}
-use Rattle.entry_list.proofs.GroupLaws as groups
+use Rattle.check_entries.specs.Uses.{HoldsUses}
+use Rattle.check_entries.proofs.GroupLaws.{baseOf, right-length}
+use Rattle.check_entries.proofs.GroupLaws as groups
 use Rattle.inclusions.specs.Groups.{groupEnd, groupFrom, groupBegin}
 use Rattle.inclusions.proofs.GroupLaws.{end-is, group-next, group-order}
 
@@ -59,7 +59,7 @@ found-entry g t γ {e} is f =
     (r .1, subst (λ (n : ℕ). entryAt t n ≡ some (E (r .1) γ)) (let z : suc (r .0) ≡ e = omega (arith, r .3, is) in z) (r .2))
 
 module _ (g : Grammar) (t : Table) {items entries kernels lookaheads kinds values gotos : List ℕ} {rules strings lines : ℕ}
-    (H : Held g t items entries kernels lookaheads kinds values gotos rules strings lines) (i : ℕ) {r : Rule} (is-rule : ruleAt g i ≡ some r) where
+    (H : HoldsTable g t items entries kernels lookaheads kinds values gotos rules strings lines) (i : ℕ) {r : Rule} (is-rule : ruleAt g i ≡ some r) where
   row : RuleIn items i r
   row = H .holds-items .rule-row i is-rule
 

@@ -9,7 +9,7 @@ use Rattle.analysis.specs.Adds.{InRow}
 use Rattle.closure.specs.InMemory.{LineIs}
 use Rattle.closure.specs.Kernel.{OfLine}
 use Rattle.moves.specs.Moves.{symbolAfter, nextAt, Present, Lined}
-use Rattle.carried.specs.Rows.{Ready, FirstsAt, RowOf}
+use Rattle.item_first.specs.Rows.{FirstRoom, FirstsAt, RowOf}
 use Rattle.inclusions.specs.Groups.{groupBegin}
 
 -- line l is that of item i, dot k, and y the flag in it of a code that is flagged in a row
@@ -81,7 +81,7 @@ pub record StateAsks (items kernels lookaheads kinds values gotos entries uses n
 -- ---- memory that is safe to read
 pub record Sourced (items kernels links entries uses nul fst : List ℕ) (count rules lines codes : ℕ) : Type 0 where
   pub lined : Lined items kernels links count lines
-  pub ready : Ready items nul fst count codes
+  pub ready : FirstRoom items nul fst count codes
   pub few-rules : rules ≤ 127
   pub rules-within : rules ≤ count
   pub entries-room : 256 ≤ length entries

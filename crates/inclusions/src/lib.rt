@@ -9,14 +9,14 @@ ghost use lib.ListN.{length};
 ghost use Rattle.language.specs.Grammar.{Grammar};
 ghost use Rattle.leftcorner.specs.Table.{Table};
 ghost use Rattle.items.specs.Layout.{leftAt};
-ghost use Rattle.memory.specs.Held.{Held};
+ghost use Rattle.memory.specs.Held.{HoldsTable};
 ghost use Rattle.kernel_lines.specs.Lines.{Lines, Linked};
 ghost use Rattle.analysis.specs.Adds.{Adds};
 ghost use Rattle.closure.specs.Kernel.{OfLine};
 ghost use Rattle.analysis.specs.FirstBy.{FirstBy};
 ghost use Rattle.closure.specs.Expansion.{HoldsClosure};
 ghost use Rattle.moves.specs.Moves.{Lined, Cells};
-ghost use Rattle.entry_list.specs.Uses.{HoldsUses};
+ghost use Rattle.check_entries.specs.Uses.{HoldsUses};
 ghost use Rattle.inclusions.specs.Asks.{LineAsks, LinesAsk, MoveAsks, GroupAsks, GroupsAsk, ItemAsks, KernelAsks, RuleAsks, RulesAsk, StateAsks, Sourced};
 ghost use Rattle.inclusions.specs.Included.{Includes, FlagAsked};
 
@@ -37,16 +37,16 @@ fn add_line(
     i: usize,
     k: usize,
     start: usize,
-    grown: &mut [u8],
+    included: &mut [u8],
 )
     requires { ⌜ Lines (now kernels) lines count ⌝ }
-    requires { ⌜ (l < lines) × (codes ≤ 64) × (start + 64 ≤ length (now from)) × (lines * 64 ≤ length (now grown)) ⌝ }
-    ensures { λ _. ⌜ Adds (LineAsks (now (kernels .entry)) (now (from .entry)) codes i k start l) (now (grown .entry)) (now (grown .exit)) ⌝ }
+    requires { ⌜ (l < lines) × (codes ≤ 64) × (start + 64 ≤ length (now from)) × (lines * 64 ≤ length (now included)) ⌝ }
+    ensures { λ _. ⌜ Adds (LineAsks (now (kernels .entry)) (now (from .entry)) codes i k start l) (now (included .entry)) (now (included .exit)) ⌝ }
 {
     if !kernel_lines::is_of(kernels, lines, count, l, i, k) {
         return;
     }
-    analysis::add_codes(from, start, codes, grown, l * CODES);
+    analysis::add_codes(from, start, codes, included, l * CODES);
 }
 
 // Asks of the line for item i, dot k in state s, if there is one, the codes that are flagged from `start` on.
@@ -61,17 +61,17 @@ pub fn add_lines(
     i: usize,
     k: usize,
     start: usize,
-    grown: &mut [u8],
+    included: &mut [u8],
 )
     requires { ⌜ Lines (now kernels) lines count ⌝ }
     requires { ⌜ Linked (now kernels) (now links) lines ⌝ }
-    requires { ⌜ (s < 256) × (codes ≤ 64) × (start + 64 ≤ length (now from)) × (lines * 64 ≤ length (now grown)) ⌝ }
-    ensures { λ _. ⌜ Adds (LinesAsk (now (kernels .entry)) (now (from .entry)) lines codes s i k start) (now (grown .entry)) (now (grown .exit)) ⌝ }
+    requires { ⌜ (s < 256) × (codes ≤ 64) × (start + 64 ≤ length (now from)) × (lines * 64 ≤ length (now included)) ⌝ }
+    ensures { λ _. ⌜ Adds (LinesAsk (now (kernels .entry)) (now (from .entry)) lines codes s i k start) (now (included .entry)) (now (included .exit)) ⌝ }
 {
     let mut p = kernel_lines::last_line(kernels, links, lines, s);
     while 0 < p {
         let l = p - 1;
-        add_line(kernels, from, lines, count, codes, l, i, k, start, grown);
+        add_line(kernels, from, lines, count, codes, l, i, k, start, included);
         p = kernel_lines::line_before(kernels, links, lines, l);
     }
 }
@@ -148,7 +148,7 @@ fn add_group(
         return;
     }
     let mut row = [0u8; CODES];
-    carried::item_first(
+    item_first::item_first(
         items,
         totals.items,
         at.item,
@@ -199,7 +199,7 @@ fn add_groups(
     let mut a = items::mark_of(items, totals.items, i);
     let mut j: usize = 0;
     while a < n {
-        let b = entry_list::group_end(items, totals.items, i, a, n);
+        let b = check_entries::group_end(items, totals.items, i, a, n);
         let e = wide(uses[i * 16 + j]);
         add_group(
             items,
@@ -456,7 +456,7 @@ pub fn add_inclusions(
     requires { ⌜ Cells (now kinds) (now values) (now gotos) ⌝ }
     requires { ⌜ (p < 256) × (length (now present) ≡ 64) × (length (now follow) ≡ 4096) × (totals .lines * 64 ≤ length (now lookaheads)) × (totals .lines * 64 ≤ length (now asked)) ⌝ }
     ensures { λ _. ⌜ Adds (StateAsks (now (items .entry)) (now (kernels .entry)) (now (lookaheads .entry)) (now (kinds .entry)) (now (values .entry)) (now (gotos .entry)) (now (entries .entry)) (now (uses .entry)) (now (nullable .entry)) (now (first .entry)) (now (present .entry)) (now (follow .entry)) (totals .rules) (totals .lines) (totals .codes) p) (now (asked .entry)) (now (asked .exit)) ⌝ }
-    ensures { λ _. ⌜ ((g : Grammar) (t : Table) (strings : ℕ) → Held g t (now (items .entry)) (now (entries .entry)) (now (kernels .entry)) (now (lookaheads .entry)) (now (kinds .entry)) (now (values .entry)) (now (gotos .entry)) (totals .rules) strings (totals .lines) → totals .codes ≡ suc (g .terminals) → HoldsClosure g t (FirstBy (totals .codes) (now (nullable .entry)) (now (first .entry))) p (now (present .entry)) (now (follow .entry)) → HoldsUses (now (uses .entry)) g t → Adds (FlagAsked (Includes g t (FirstBy (totals .codes) (now (nullable .entry)) (now (first .entry))) p) (now (kernels .entry)) (totals .lines) (totals .codes)) (now (asked .entry)) (now (asked .exit))) ⌝ }
+    ensures { λ _. ⌜ ((g : Grammar) (t : Table) (strings : ℕ) → HoldsTable g t (now (items .entry)) (now (entries .entry)) (now (kernels .entry)) (now (lookaheads .entry)) (now (kinds .entry)) (now (values .entry)) (now (gotos .entry)) (totals .rules) strings (totals .lines) → totals .codes ≡ suc (g .terminals) → HoldsClosure g t (FirstBy (totals .codes) (now (nullable .entry)) (now (first .entry))) p (now (present .entry)) (now (follow .entry)) → HoldsUses (now (uses .entry)) g t → Adds (FlagAsked (Includes g t (FirstBy (totals .codes) (now (nullable .entry)) (now (first .entry))) p) (now (kernels .entry)) (totals .lines) (totals .codes)) (now (asked .entry)) (now (asked .exit))) ⌝ }
 {
     add_kernel(
         items,

@@ -18,7 +18,7 @@ use Rattle.memory.specs.Fits.{Fits}
 use Rattle.walk_tables.specs.Memory.{figureOf, gotoOf, cellAt, memoryRule, memoryGrammar, meaning, memoryAutomaton}
 use Rattle.walk_tables.specs.Memory as memory
 use Rattle.walk_tables.proofs.MemoryLaws.{rule-is}
-use Rattle.linked_rules.specs.Linked.{Linked}
+use Rattle.walk_rules.specs.Linked.{Linked}
 use Rattle.machine.specs.Machine.{AllLow}
 
 low-top : (l : List ℕ) → AllLow l → next l 0 < 256

@@ -24,7 +24,7 @@ use Rattle.checker.specs.Loaded.{InMemory}
 use Rattle.walk_tables.specs.Memory.{memoryGrammar, memoryAutomaton}
 use Rattle.walker.specs.Walked.{memoryWalk}
 use Rattle.walker.proofs.AgreeLaws.{CodeOf, walk-agree, units-agree}
-use Rattle.linked_rules.specs.Linked.{Linked}
+use Rattle.walk_rules.specs.Linked.{Linked}
 use Rattle.machine.specs.declared.Machine.{Machine}
 use Rattle.machine.specs.declared.MachineReply.{MachineReply}
 use Rattle.machine.specs.declared.MachineReply.the-variants.{Ready, Refused}

@@ -58,7 +58,7 @@ pub fn load_machine(
         TableReply::Refused(why) => MachineReply::Refused(why),
         TableReply::Read(counts) => {
             let heading = counts.grammar;
-            linked_rules::link_rules(&items, heading.rules, counts.entries, &entry_states, rows);
+            walk_rules::link_rules(&items, heading.rules, counts.entries, &entry_states, rows);
             MachineReply::Ready(Machine {
                 start: entry_states[1],
                 terminals: heading.terminals,

@@ -9,7 +9,7 @@ use Rattle.leftcorner.specs.Table.{Table}
 use Rattle.memory.specs.Memory.{HoldsItems, HoldsEntries, HoldsKernels, HoldsActions}
 use Rattle.memory.specs.Fits.{Fits}
 
-pub record Held (g : Grammar) (t : Table) (items entries kernels lookaheads kinds values gotos : List ℕ) (rules strings lines : ℕ) : Type 0 where
+pub record HoldsTable (g : Grammar) (t : Table) (items entries kernels lookaheads kinds values gotos : List ℕ) (rules strings lines : ℕ) : Type 0 where
   pub formed : language.WellFormed g
   pub fits : Fits g t
   pub holds-items : HoldsItems items g t

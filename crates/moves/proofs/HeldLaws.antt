@@ -15,7 +15,7 @@ use Rattle.items.specs.Layout.{leftAt}
 use Rattle.fixpoint.proofs.PassLaws.{all-off}
 use Rattle.fixpoint.specs.Flags.{On}
 use Rattle.memory.specs.Memory.{stateAt, itemAt, dotAt}
-use Rattle.memory.specs.Held.{Held}
+use Rattle.memory.specs.Held.{HoldsTable}
 use Rattle.closure.specs.Expansion.{Expanded, HasBy, of-kernel, of-rule, has-by, by-has}
 use Rattle.kernel_lines.specs.Lines.{LineAt}
 use Rattle.kernel_lines.proofs.HeldLaws.{line-of, kernel-of}
@@ -25,7 +25,7 @@ use Rattle.moves.proofs.MoveLaws.{flagged-join}
 use Rattle.moves.proofs.RowLaws.{DeclaredItem, row-of, symbol-of-goes, goes-of-symbol}
 
 module _ (g : Grammar) (t : Table) {items entries kernels lookaheads kinds values gotos : List ℕ} {rules strings lines : ℕ}
-    (H : Held g t items entries kernels lookaheads kinds values gotos rules strings lines) where
+    (H : HoldsTable g t items entries kernels lookaheads kinds values gotos rules strings lines) where
   module _ {q : ℕ} {present : List ℕ} (P : HoldsPresent g t q present) where
     pub item-declared : {i k : ℕ} → Has g t q i k → DeclaredItem g t H i
     item-declared h = go (has-by g t h)

@@ -11,7 +11,7 @@ use Rattle.leftcorner.specs.Table.{Table, Action, S, N, A, P, nextState, action
 use Rattle.leftcorner.specs.Construction.{ActionAt}
 use Rattle.leftcorner.proofs.ReadOff.{clash, action-is, action-back}
 use Rattle.memory.specs.Memory.{kindOf, valueOf}
-use Rattle.memory.specs.Held.{Held}
+use Rattle.memory.specs.Held.{HoldsTable}
 use Rattle.moves.specs.Moves.{nextAt}
 use Rattle.moves.proofs.MoveLaws.{next-goto, next-none, next-shift}
 
@@ -31,7 +31,7 @@ goto-some (some (A i)) f = absurd (f refl)
 goto-some (some (P n)) f = absurd (f refl)
 
 module _ (g : Grammar) (t : Table) {items entries kernels lookaheads kinds values gotos : List ℕ} {rules strings lines : ℕ}
-    (H : Held g t items entries kernels lookaheads kinds values gotos rules strings lines) where
+    (H : HoldsTable g t items entries kernels lookaheads kinds values gotos rules strings lines) where
   pub record Next (q X s : ℕ) : Type 0 where
     pub is-next : nextAt kinds values gotos q X ≡ s
     pub some-state : s ≡ 0 → ⊥

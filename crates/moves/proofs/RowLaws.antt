@@ -16,7 +16,7 @@ use Rattle.leftcorner.specs.Construction.{entryItem, EntryAt}
 use Rattle.leftcorner.proofs.ReadOff.{clash, stringAt}
 use Rattle.leftcorner.proofs.Sources.{symbols-rule, point-rule, symbols-entry, point-entry}
 use Rattle.items.specs.Layout.{lengthAt, markAt, symbolAt, EntryIn}
-use Rattle.memory.specs.Held.{Held}
+use Rattle.memory.specs.Held.{HoldsTable}
 use Rattle.moves.specs.Moves.{symbolAfter}
 use Rattle.moves.proofs.MoveLaws.{after-end, after-mark, after-symbol}
 
@@ -30,7 +30,7 @@ in-string : (k : ℕ) (l : List ℕ) (X : ℕ) (β : List ℕ) → drop k l ≡ 
 in-string k l X β e = in-drop k l (subst (In X) (sym e) here)
 
 module _ (g : Grammar) (t : Table) {items entries kernels lookaheads kinds values gotos : List ℕ} {rules strings lines : ℕ}
-    (H : Held g t items entries kernels lookaheads kinds values gotos rules strings lines) where
+    (H : HoldsTable g t items entries kernels lookaheads kinds values gotos rules strings lines) where
   pub kind-low : {X : ℕ} → IsTerminal g X ⊎ IsNonterminal g X → (1 ≤ X) × (X < 128)
   kind-low (inl k) = (omega (arith, k .0), omega (arith, k .1, H .formed .few-terminals))
   kind-low (inr k) = (omega (arith, k .0), omega (arith, k .1, H .formed .few-nonterminals))

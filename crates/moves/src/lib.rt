@@ -11,7 +11,7 @@ ghost use Rattle.leftcorner.specs.Table.{Table};
 ghost use Rattle.items.specs.Layout.{Shaped, leftAt};
 ghost use Rattle.fixpoint.specs.Flags.{On, Decides};
 ghost use Rattle.memory.specs.Memory.{stateAt, itemAt, dotAt};
-ghost use Rattle.memory.specs.Held.{Held};
+ghost use Rattle.memory.specs.Held.{HoldsTable};
 ghost use Rattle.moves.specs.Moves.{symbolAfter, nextAt, Present, HasAt, MovedAt, Flagged, Readable, Cells};
 ghost use Rattle.moves.specs.Flags.{HoldsPresent, HoldsMoves};
 
@@ -253,7 +253,7 @@ pub fn flag_moves(
     requires { ⌜ Readable (now items) (now kernels) (now links) (now present) count rules lines ⌝ }
     requires { ⌜ (q < 256) × (now moves ≡ replicate 128 0) ⌝ }
     ensures { λ _. ⌜ length (now (moves .exit)) ≡ 128 ⌝ }
-    ensures { λ _. ⌜ ((g : Grammar) (t : Table) (entries lookaheads kinds values gotos : List ℕ) (strings : ℕ) → Held g t (now (items .entry)) entries (now (kernels .entry)) lookaheads kinds values gotos rules strings lines → HoldsPresent g t q (now (present .entry)) → HoldsMoves g t q (now (moves .exit))) ⌝ }
+    ensures { λ _. ⌜ ((g : Grammar) (t : Table) (entries lookaheads kinds values gotos : List ℕ) (strings : ℕ) → HoldsTable g t (now (items .entry)) entries (now (kernels .entry)) lookaheads kinds values gotos rules strings lines → HoldsPresent g t q (now (present .entry)) → HoldsMoves g t q (now (moves .exit))) ⌝ }
 {
     flag_lines(
         items,

@@ -10,7 +10,7 @@ use lib.ListN.{length, replicate}
 use Rattle.language.specs.Grammar.{Grammar}
 use Rattle.reply.specs.declared.Kind.the-variants as kind
 use Rattle.reply.specs.declared.Refusal.{Refusal}
-use Rattle.header.specs.declared.Heading.{Heading}
+use Rattle.grammar_header.specs.declared.Heading.{Heading}
 use Rattle.items.specs.Layout.{layout}
 use Rattle.grammar.specs.declared.GrammarReply.{GrammarReply}
 use Rattle.grammar.specs.declared.GrammarReply.the-variants as grammar-reply
@@ -23,8 +23,8 @@ use Rattle.table.specs.declared.TableReply.{TableReply}
 use Rattle.table.specs.declared.TableReply.the-variants as reply
 use Rattle.table.specs.declared.Counts.{Counts}
 use Rattle.table.specs.Book.{Reading, whole, rejected, rejectedAt, tableOf, tablesOf, readOf}
-use Rattle.table_blocks.specs.Memory.{Roomy, Blank}
-use Rattle.table.specs.Memory.{replyOf, Slices, slices, roomFor, hasRoom, Rooms, Wiped, Holds, Fills, filled-with, denied}
+use Rattle.table_blocks.specs.Memory.{Roomy, GrammarOnly}
+use Rattle.table.specs.Memory.{replyOf, Slices, slices, roomFor, hasRoom, SlicesRoom, ZeroSlices, Holds, Fills, filled-with, denied}
 
 module _ (gs s : List ℕ) where
   pub too-long : 65536 < length s → tablesOf gs s ≡ rejectedAt kind.LimitExceeded 0
@@ -56,8 +56,8 @@ module _ (gs : List ℕ) (size : ℕ) (room : 16640 ≤ size) {r : GrammarReply}
       → m ≡ layout g (length m)
   rules-laid {g} {m} a i l = i ∙ (ap (λ (b : grammar.Book). grammar-memory.memoryOf b size) (enough ∙ a) ∙ ap (layout g) (sym l))
 
-pub blank-now : (gs : List ℕ) {g : Grammar} {i j st ks ls c v o n : List ℕ} → grammar.grammarOf gs ≡ grammar.accepted g → Wiped (slices i st ks ls c v o n)
-    → j ≡ layout g (length j) → length j ≡ length i → Blank g (slices j st ks ls c v o n)
+pub blank-now : (gs : List ℕ) {g : Grammar} {i j st ks ls c v o n : List ℕ} → grammar.grammarOf gs ≡ grammar.accepted g → ZeroSlices (slices i st ks ls c v o n)
+    → j ≡ layout g (length j) → length j ≡ length i → GrammarOnly g (slices j st ks ls c v o n)
 blank-now gs {g} a w e l = record {
   formed = accepted-reduced gs g a .formed;
   items-are = e;
@@ -213,7 +213,7 @@ room-holds x {b} {a} {r} e h = rw (e, same x) h
     same (whole g t) = refl
     same (rejected why) = refl
 
-pub rooms-tell : (b : Slices) → hasRoom b ≡ true → Rooms b
+pub rooms-tell : (b : Slices) → hasRoom b ≡ true → SlicesRoom b
 unfolding roomFor
 rooms-tell b e =
     let a = both-true (leb 16640 (length (b .items))) _ e in
@@ -234,7 +234,7 @@ rooms-tell b e =
       named-room = leb-true 256 (length (b .named)) (g .1);
     }
 
-pub has-room : (b : Slices) → Rooms b → hasRoom b ≡ true
+pub has-room : (b : Slices) → SlicesRoom b → hasRoom b ≡ true
 unfolding roomFor
 has-room b r =
     simp (
@@ -252,7 +252,7 @@ room-tells : (b : Slices) → hasRoom b ≡ true → Roomy b
 room-tells b e = let r = rooms-tell b e in record { items-room = r .items-room; kinds-room = r .kinds-room; gotos-room = r .gotos-room }
 
 -- cleared, they are ready for the books
-pub wiped-now : (b : Slices) {c : Slices} → hasRoom b ≡ true → AllZero b c → Wiped c
+pub wiped-now : (b : Slices) {c : Slices} → hasRoom b ≡ true → AllZero b c → ZeroSlices c
 wiped-now b e z = let r = room-tells b e in
     let s = zero-same z in
     record {

@@ -6,7 +6,7 @@ use native.Mathlib.Omega.{arith}
 use lib.ListN.{length}
 use Rattle.language.specs.Grammar.{Grammar}
 use Rattle.reply.specs.declared.Refusal.{Refusal}
-use Rattle.header.specs.declared.Heading.{Heading}
+use Rattle.grammar_header.specs.declared.Heading.{Heading}
 use Rattle.grammar.specs.Memory.{headingOf}
 use Rattle.table_head.specs.declared.Head.the-variants as head
 use Rattle.table_blocks.specs.declared.Blocks.{Blocks}

@@ -37,7 +37,7 @@ hasRoom b =
     roomFor (length (b .items)) (length (b .states)) (length (b .kernels)) (length (b .lookaheads)) (length (b .kinds)) (length (b .values)) (length (b .gotos))
     (length (b .named))
 
-pub record Rooms (b : Slices) : Type 0 where
+pub record SlicesRoom (b : Slices) : Type 0 where
   pub items-room : 16640 ≤ length (b .items)
   pub states-room : 256 ≤ length (b .states)
   pub kernels-room : 4096 ≤ length (b .kernels)
@@ -48,7 +48,7 @@ pub record Rooms (b : Slices) : Type 0 where
   pub named-room : 256 ≤ length (b .named)
 
 -- all zeros, with room
-pub record Wiped (b : Slices) : Type 0 where
+pub record ZeroSlices (b : Slices) : Type 0 where
   pub items-none : Zero (b .items)
   pub cleared : Cleared b
   pub room : Roomy b

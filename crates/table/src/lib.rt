@@ -1,7 +1,7 @@
 // Reads a table book, with the grammar book it belongs to, into memory.
 // The door is `read_tables`; `clear_all` is inner.
 use grammar::GrammarReply;
-use header::Heading;
+use grammar_header::Heading;
 use reply::Kind;
 use reply::Refusal;
 use reply::Reply;
@@ -14,9 +14,9 @@ ghost use Prim.Native.Nat.{_<_};
 ghost use lib.ListN.{length, replicate};
 ghost use Rattle.language.specs.Grammar.{Grammar};
 ghost use Rattle.grammar.specs.Memory.{headingOf};
-ghost use Rattle.table_blocks.specs.Memory.{Begun, Blank};
+ghost use Rattle.table_blocks.specs.Memory.{HoldsHeading, GrammarOnly};
 ghost use Rattle.table.specs.Book.{tableOf, tablesOf, readOf};
-ghost use Rattle.table.specs.Memory.{asReply, replyOf, slices, roomFor, hasRoom, Wiped, Holds, Fills};
+ghost use Rattle.table.specs.Memory.{asReply, replyOf, slices, roomFor, hasRoom, ZeroSlices, Holds, Fills};
 
 // The bytes that each slice must have at least.
 pub const ITEMS: usize = 16640;
@@ -59,8 +59,8 @@ fn read_book(
     named: &mut [u8],
 ) -> TableReply
     requires { ⌜ length (now s) < 65537 ⌝ }
-    requires { ⌜ Begun h (slices (now items) (now «entry_states») (now kernels) (now lookaheads) (now kinds) (now values) (now gotos) (now named)) ⌝ }
-    ensures { λ r. ⌜ ((g : Grammar) → Blank g (slices (now (items .entry)) (now («entry_states» .entry)) (now (kernels .entry)) (now (lookaheads .entry)) (now (kinds .entry)) (now (values .entry)) (now (gotos .entry)) (now (named .entry))) → h ≡ headingOf g
+    requires { ⌜ HoldsHeading h (slices (now items) (now «entry_states») (now kernels) (now lookaheads) (now kinds) (now values) (now gotos) (now named)) ⌝ }
+    ensures { λ r. ⌜ ((g : Grammar) → GrammarOnly g (slices (now (items .entry)) (now («entry_states» .entry)) (now (kernels .entry)) (now (lookaheads .entry)) (now (kinds .entry)) (now (values .entry)) (now (gotos .entry)) (now (named .entry))) → h ≡ headingOf g
         → Fills (slices (now (items .entry)) (now («entry_states» .entry)) (now (kernels .entry)) (now (lookaheads .entry)) (now (kinds .entry)) (now (values .entry)) (now (gotos .entry)) (now (named .entry))) (slices (now (items .exit)) (now («entry_states» .exit)) (now (kernels .exit)) (now (lookaheads .exit)) (now (kinds .exit)) (now (values .exit)) (now (gotos .exit)) (now (named .exit))) (tableOf g (now (s .entry))) r) ⌝ }
 {
     match table_head::read_head(s) {
@@ -134,7 +134,7 @@ fn read_cleared(
     gotos: &mut [u8],
     named: &mut [u8],
 ) -> TableReply
-    requires { ⌜ Wiped (slices (now items) (now «entry_states») (now kernels) (now lookaheads) (now kinds) (now values) (now gotos) (now named)) ⌝ }
+    requires { ⌜ ZeroSlices (slices (now items) (now «entry_states») (now kernels) (now lookaheads) (now kinds) (now values) (now gotos) (now named)) ⌝ }
     ensures { λ r. ⌜ Fills (slices (now (items .entry)) (now («entry_states» .entry)) (now (kernels .entry)) (now (lookaheads .entry)) (now (kinds .entry)) (now (values .entry)) (now (gotos .entry)) (now (named .entry))) (slices (now (items .exit)) (now («entry_states» .exit)) (now (kernels .exit)) (now (lookaheads .exit)) (now (kinds .exit)) (now (values .exit)) (now (gotos .exit)) (now (named .exit))) (tablesOf (now (grammar .entry)) (now (book .entry))) r ⌝ }
 {
     if 65536 < book.len() {

@@ -19,7 +19,7 @@ ghost use lib.ListN.{length};
 ghost use Rattle.leftcorner.specs.Table.{ActionLine, L, actionFor};
 ghost use Rattle.memory.specs.Memory.{popValue};
 ghost use Rattle.table_lines.specs.Image.{image, flag};
-ghost use Rattle.table_lines.specs.Block.{Held, Comes, Reads};
+ghost use Rattle.table_lines.specs.Block.{Summarizes, Comes, Reads};
 ghost use Rattle.table_actions.specs.Actions.{isAction, actionOf, actionDeclared, isNone, judgeAction, actionNext, actionsFrom};
 ghost use Rattle.table_actions.specs.Memory.{Formed, Cells, HoldsActions, Stored, Flags, ActionMemory};
 
@@ -110,7 +110,7 @@ fn judge_action(
     gotos: &[u8],
 ) -> Judgement
     requires { ⌜ (length (now numbers) ≡ 67) × (16640 ≤ length (now kinds)) × (16640 ≤ length (now gotos)) ⌝ }
-    ensures { λ r. ⌜ ((a b c : ℕ) (values : List ℕ) (l : List ActionLine) (ns : List ℕ) → Cells a b c l (now (kinds .entry)) values (now (gotos .entry)) → Held ns p (now (numbers .entry)) → r ≡ judgeAction t n rules states l letter ns) ⌝ }
+    ensures { λ r. ⌜ ((a b c : ℕ) (values : List ℕ) (l : List ActionLine) (ns : List ℕ) → Cells a b c l (now (kinds .entry)) values (now (gotos .entry)) → Summarizes ns p (now (numbers .entry)) → r ≡ judgeAction t n rules states l letter ns) ⌝ }
 {
     if !is_action(letter) {
         return Judgement::Faulty(Kind::Malformed);

@@ -21,7 +21,7 @@ use Rattle.table_kernels.specs.Memory.{figureAt, lookaheadAt, KernelImage}
 use Rattle.memory.specs.Memory.{kindOf, valueOf}
 use Rattle.table_actions.specs.Memory.{cellAt, gotoAt, Cells, ActionMemory}
 use Rattle.table_blocks.specs.Blocks.{whole, tableWith}
-use Rattle.table_blocks.specs.Memory.{Slices, Zero, Blank, Holds}
+use Rattle.table_blocks.specs.Memory.{Slices, Zero, GrammarOnly, Holds}
 
 -- ---- before
 zeros-are : (l : List ℕ) (f : ℕ → ℕ) → Zero l → ((i : ℕ) → f i ≡ 0) → l ≡ image (length l) f
@@ -34,7 +34,7 @@ no-state (suc k) = refl
 no-line : {A B : Type 0} {x : A} → none ≡ some x → B
 no-line e = let z : _≡_ {A = ℕ} 0 1 = cc in absurd (omega arith)
 
-module _ {g : Grammar} {b : Slices} (k : Blank g b) where
+module _ {g : Grammar} {b : Slices} (k : GrammarOnly g b) where
   room : suc (length (g .rules)) * 64 ≤ length (b .items)
   room = omega (arith, k .formed .few-rules, k .room .items-room)
 
@@ -79,7 +79,7 @@ pub items-whole : (g : Grammar) (size : ℕ) (l : List EntryLine) → withEntrie
 unfolding withEntries
 items-whole g size l = rows-behind (g .rules) [] (stringsOf l) size (suc (length (g .rules)) * 64) (omega arith)
 
-pub blocks-hold : {g : Grammar} {b a : Slices} {states : ℕ} {es : List EntryLine} {ks : List KernelLine} {xs : List ActionLine} {named : List ℕ} → Blank g b
+pub blocks-hold : {g : Grammar} {b a : Slices} {states : ℕ} {es : List EntryLine} {ks : List KernelLine} {xs : List ActionLine} {named : List ℕ} → GrammarOnly g b
     → EntryMemory (b .items) (length (g .rules)) (length (b .states)) (length (b .named)) es (a .items) (a .states) named
     → KernelImage (length (b .kernels)) (length (b .lookaheads)) ks (a .kernels) (a .lookaheads)
     → ActionMemory (isEntryState es) (length (b .kinds)) (length (b .values)) (length (b .gotos)) (length (b .named)) xs (a .kinds) (a .values) (a .gotos) (a .named)

@@ -6,7 +6,7 @@ use mathlib.Core.Bool.{Bool}
 use native.Mathlib.Omega.{arith}
 use lib.ListN.{length}
 use Rattle.language.specs.Grammar.{Grammar}
-use Rattle.header.specs.declared.Heading.{Heading}
+use Rattle.grammar_header.specs.declared.Heading.{Heading}
 use Rattle.grammar.specs.Memory.{headingOf}
 use Rattle.leftcorner.specs.Table.{EntryLine, KernelLine, ActionLine}
 use Rattle.items.specs.Layout.{lengthAt}
@@ -15,7 +15,7 @@ use Rattle.table_kernels.specs.Kernels.{kernelsFrom}
 use Rattle.table_actions.specs.Memory.{ActionMemory}
 use Rattle.table_blocks.specs.declared.Blocks.the-variants as blocks
 use Rattle.table_blocks.specs.Blocks.{whole, lengthsOf, tableWith}
-use Rattle.table_blocks.specs.Memory.{Slices, Begun, Blank, Holds, ReadsBlocks, blocks-read}
+use Rattle.table_blocks.specs.Memory.{Slices, HoldsHeading, GrammarOnly, Holds, ReadsBlocks, blocks-read}
 use Rattle.table_blocks.proofs.LengthLaws.{kernels-same, lengths-agree}
 use Rattle.table_blocks.proofs.BlankLaws.{entry-start}
 
@@ -25,7 +25,7 @@ pub record Low (h : Heading) : Type 0 where
   pub few-nonterminals : h .nonterminals ≤ 64
   pub few-rules : h .rules ≤ 127
 
-module _ {h : Heading} {b : Slices} (k : Begun h b) where
+module _ {h : Heading} {b : Slices} (k : HoldsHeading h b) where
   pub begun-low : Low h
   begun-low = record {
     few-terminals = omega (arith, ap (λ (x : Heading). x .terminals) (k .heading), k .blank .formed .few-terminals);
@@ -37,7 +37,7 @@ module _ {h : Heading} {b : Slices} (k : Begun h b) where
   begun-entries =
       subst (λ (x : Heading). EntryMemory (b .items) (x .rules) (length (b .states)) (length (b .named)) [] (b .items) (b .states) (b .named)) (sym (k .heading)) (entry-start (k .blank))
 
-module _ {g : Grammar} {b : Slices} {h : Heading} (k : Blank g b) (q : h ≡ headingOf g) where
+module _ {g : Grammar} {b : Slices} {h : Heading} (k : GrammarOnly g b) (q : h ≡ headingOf g) where
   pub entries-at : {a c : ℕ} {l : List EntryLine} {i s n : List ℕ} → EntryMemory (b .items) (h .rules) a c l i s n → EntryMemory (b .items) (length (g .rules)) a c l i s n
   entries-at {a} {c} {l} {i} {s} {n} m = subst (λ (x : Heading). EntryMemory (b .items) (x .rules) a c l i s n) q m
 

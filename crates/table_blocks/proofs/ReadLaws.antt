@@ -6,7 +6,7 @@ use native.Mathlib.Omega.{arith}
 use lib.ListN.{length, length-append}
 use Rattle.language.specs.Grammar.{Grammar}
 use Rattle.reply.specs.declared.Refusal.{Refusal}
-use Rattle.header.specs.declared.Heading.{Heading}
+use Rattle.grammar_header.specs.declared.Heading.{Heading}
 use Rattle.grammar.specs.Memory.{headingOf}
 use Rattle.leftcorner.specs.Table.{EntryLine, KernelLine, ActionLine}
 use Rattle.table_lines.specs.Block.{Outcome, takes, stops, refuses, Lines, read, refused, onOutcome, linesFrom}

@@ -6,7 +6,7 @@ use mathlib.Core.Bool.{_||_}
 use lib.ListN.{length, replicate}
 use Rattle.language.specs.Grammar.{Grammar}
 use Rattle.language.specs.WellFormed.{WellFormed}
-use Rattle.header.specs.declared.Heading.{Heading}
+use Rattle.grammar_header.specs.declared.Heading.{Heading}
 use Rattle.reply.specs.declared.Refusal.{Refusal}
 use Rattle.grammar.specs.Memory.{headingOf}
 use Rattle.items.specs.Layout.{itemTable, layout}
@@ -84,15 +84,15 @@ pub record Cleared (b : Slices) : Type 0 where
   pub named-none : Zero (b .named)
 
 -- memory holds the rules of g and nothing else
-pub record Blank (g : Grammar) (b : Slices) : Type 0 where
+pub record GrammarOnly (g : Grammar) (b : Slices) : Type 0 where
   pub formed : WellFormed g
   pub items-are : b .items ≡ layout g (length (b .items))
   pub cleared : Cleared b
   pub room : Roomy b
 
-pub record Begun (h : Heading) (b : Slices) : Type 0 where
+pub record HoldsHeading (h : Heading) (b : Slices) : Type 0 where
   pub grammar : Grammar
-  pub blank : Blank grammar b
+  pub blank : GrammarOnly grammar b
   pub heading : h ≡ headingOf grammar
 
 -- the slices b, with this reading's result, are a

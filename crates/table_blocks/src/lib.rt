@@ -1,6 +1,6 @@
 // The blocks of a table book, entry lines, kernel lines and action lines, read into memory.
 // Inner: for `table`.
-use header::Heading;
+use grammar_header::Heading;
 use reply::Refusal;
 use table_lines::Block;
 ghost use mathlib.Core.Path.{_≡_};
@@ -9,7 +9,7 @@ ghost use lib.ListN.{length};
 ghost use Rattle.language.specs.Grammar.{Grammar};
 ghost use Rattle.grammar.specs.Memory.{headingOf};
 ghost use Rattle.table_blocks.specs.Blocks.{entriesOf};
-ghost use Rattle.table_blocks.specs.Memory.{slices, Begun, Blank, ReadsBlocks};
+ghost use Rattle.table_blocks.specs.Memory.{slices, HoldsHeading, GrammarOnly, ReadsBlocks};
 
 // The blocks that were read: the numbers of entries and of kernel lines.
 pub enum Blocks {
@@ -35,8 +35,8 @@ pub fn read_blocks(
     named: &mut [u8],
 ) -> Blocks
     requires { ⌜ (length (now s) < 65537) × (states ≤ 255) × (entries ≤ 127) ⌝ }
-    requires { ⌜ Begun h (slices (now items) (now «entry_states») (now kernels) (now lookaheads) (now kinds) (now values) (now gotos) (now named)) ⌝ }
-    ensures { λ r. ⌜ ((g : Grammar) → Blank g (slices (now (items .entry)) (now («entry_states» .entry)) (now (kernels .entry)) (now (lookaheads .entry)) (now (kinds .entry)) (now (values .entry)) (now (gotos .entry)) (now (named .entry))) → h ≡ headingOf g
+    requires { ⌜ HoldsHeading h (slices (now items) (now «entry_states») (now kernels) (now lookaheads) (now kinds) (now values) (now gotos) (now named)) ⌝ }
+    ensures { λ r. ⌜ ((g : Grammar) → GrammarOnly g (slices (now (items .entry)) (now («entry_states» .entry)) (now (kernels .entry)) (now (lookaheads .entry)) (now (kinds .entry)) (now (values .entry)) (now (gotos .entry)) (now (named .entry))) → h ≡ headingOf g
         → ReadsBlocks g states (slices (now (items .entry)) (now («entry_states» .entry)) (now (kernels .entry)) (now (lookaheads .entry)) (now (kinds .entry)) (now (values .entry)) (now (gotos .entry)) (now (named .entry))) (slices (now (items .exit)) (now («entry_states» .exit)) (now (kernels .exit)) (now (lookaheads .exit)) (now (kinds .exit)) (now (values .exit)) (now (gotos .exit)) (now (named .exit))) (entriesOf g (now (s .entry)) states entries first) r) ⌝ }
 {
     let t = h.terminals;

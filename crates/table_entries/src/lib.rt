@@ -16,7 +16,7 @@ ghost use lib.ListN.{length, getD, take, drop, set};
 ghost use lib.Seq.{sets};
 ghost use Rattle.items.specs.Layout.{entryRow, EntryIn, Shaped};
 ghost use Rattle.leftcorner.specs.Table.{EntryLine, sameString, entryFrom};
-ghost use Rattle.table_lines.specs.Block.{Numbers, Held, Comes, Reads};
+ghost use Rattle.table_lines.specs.Block.{Numbers, Summarizes, Comes, Reads};
 ghost use Rattle.table_entries.specs.Entries.{allDeclared, judgeEntry, entryNext, entriesFrom};
 ghost use Rattle.table_entries.specs.Memory.{Rows, HoldsEntries, Empty, EntryMemory};
 
@@ -87,7 +87,7 @@ fn judge_entry(
 ) -> Judgement
     requires { ⌜ (rules + entries < 256) × (length (now numbers) ≡ 67) ⌝ }
     requires { ⌜ Shaped (now m) (rules + entries) ⌝ }
-    ensures { λ r. ⌜ ((l : List EntryLine) (ns : List ℕ) → length l ≡ entries → Rows (now (m .entry)) rules l → Held ns p (now (numbers .entry)) → r ≡ judgeEntry t n states l letter ns) ⌝ }
+    ensures { λ r. ⌜ ((l : List EntryLine) (ns : List ℕ) → length l ≡ entries → Rows (now (m .entry)) rules l → Summarizes ns p (now (numbers .entry)) → r ≡ judgeEntry t n states l letter ns) ⌝ }
 {
     if letter != b'E' {
         return Judgement::Faulty(Kind::Malformed);

@@ -16,7 +16,7 @@ ghost use Prim.Native.Nat.{ℕ, _+_, _*_, _≤_, _<_};
 ghost use lib.ListN.{length, getD, take, drop, set};
 ghost use Rattle.items.specs.Layout.{Shaped, lengthAt};
 ghost use Rattle.leftcorner.specs.Table.{KernelLine};
-ghost use Rattle.table_lines.specs.Block.{Held, stepOf, Comes, Reads};
+ghost use Rattle.table_lines.specs.Block.{Summarizes, stepOf, Comes, Reads};
 ghost use Rattle.table_kernels.specs.Kernels.{hasTriple, judgeWith, noKernel, kernelNext, kernelsFrom};
 ghost use Rattle.table_kernels.specs.Memory.{Marked, HoldsKernels, flagged, KernelImage, KernelMemory};
 
@@ -52,7 +52,7 @@ fn judge_kernel(
 ) -> Judgement
     requires { ⌜ (length (now numbers) ≡ 67) × (length (now marks) ≡ 1048576) ⌝ }
     requires { ⌜ Shaped (now m) items ⌝ }
-    ensures { λ r. ⌜ ((l : List KernelLine) (ns : List ℕ) → length l ≡ lines → Marked (now (marks .entry)) l → Held ns p (now (numbers .entry)) → r ≡ judgeWith (p .rising) t states items (lengthAt (now (m .entry))) l ns) ⌝ }
+    ensures { λ r. ⌜ ((l : List KernelLine) (ns : List ℕ) → length l ≡ lines → Marked (now (marks .entry)) l → Summarizes ns p (now (numbers .entry)) → r ≡ judgeWith (p .rising) t states items (lengthAt (now (m .entry))) l ns) ⌝ }
 {
     if p.count < 4 {
         return Judgement::Faulty(Kind::Malformed);

@@ -12,7 +12,7 @@ use Rattle.table_lines.specs.declared.Tally.{Tally}
 use Rattle.table_lines.specs.declared.Line.the-variants as line
 use Rattle.table_lines.specs.Line.{TextLine, whole, broken, allAtMost, rising, caps, capped, Stores}
 use Rattle.table_lines.specs.Tally.{tally, lineOf}
-use Rattle.table_lines.specs.Block.{Numbers, Held}
+use Rattle.table_lines.specs.Block.{Numbers, Summarizes}
 use Rattle.table_lines.proofs.CapLaws.{caps-length, caps-same, caps-most}
 use Rattle.table_lines.proofs.TallyLaws.{count-is, largest-is, last-is}
 
@@ -24,10 +24,10 @@ numbersOf broken = []
 pub record Whole (x : TextLine) (letter : ℕ) (p : Tally) (next : ℕ) (m : List ℕ) : Type 0 where
   pub numbers : List ℕ
   pub line-is : capped x ≡ whole letter numbers next
-  pub held : Held numbers p m
+  pub held : Summarizes numbers p m
   pub rises : p .rising ≡ rising (drop 3 (numbersOf x))
 
-numbers-held : (ns m₀ m : List ℕ) (p : Tally) → m ≡ sets m₀ 0 (caps ns) → p ≡ tally ns → length m ≡ length m₀ → Held (caps ns) p m
+numbers-held : (ns m₀ m : List ℕ) (p : Tally) → m ≡ sets m₀ 0 (caps ns) → p ≡ tally ns → length m ≡ length m₀ → Summarizes (caps ns) p m
 unfolding tally
 numbers-held ns m₀ m p e q l = record {
   largest-is = ap (λ (t : Tally). t .largest) q;
@@ -62,7 +62,7 @@ pub broken-read : (x : TextLine) → line.Broken ≡ lineOf x → x ≡ broken
 broken-read (whole l ns n) e = let z : _≡_ {A = ℕ} 0 1 = cc in absurd (omega arith)
 broken-read broken e = refl
 
-module _ {ns : List ℕ} {p : Tally} {m : List ℕ} (h : Held ns p m) where
+module _ {ns : List ℕ} {p : Tally} {m : List ℕ} (h : Summarizes ns p m) where
   pub held-count : p .count ≡ length ns
   held-count = h .numbers .count-is
 

@@ -60,7 +60,7 @@ pub record Numbers (ns : List ℕ) (count : ℕ) (m : List ℕ) : Type 0 where
   pub count-is : count ≡ length ns
   pub number-is : (k : ℕ) → k < length ns → k < length m → getD m k 0 ≡ getD ns k 0
 
-pub record Held (ns : List ℕ) (p : Tally) (m : List ℕ) : Type 0 where
+pub record Summarizes (ns : List ℕ) (p : Tally) (m : List ℕ) : Type 0 where
   pub largest-is : p .largest ≡ largestOf ns
   pub last-is : p .last ≡ lastFrom 0 ns
   pub rises : allAtMost 65535 ns ≡ true → p .rising ≡ rising (drop 3 ns)

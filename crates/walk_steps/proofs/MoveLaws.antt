@@ -12,8 +12,8 @@ use Rattle.leftcorner.proofs.Bounded.{fits-yes}
 use Rattle.leftcorner.specs.Machine.{Automaton, Event, Outcome, on, rulesOf, toCome, taken, shiftTo, popTo, tell, Verdict}
 use Rattle.walk_tables.specs.Memory.{figureOf, groupEntries, memoryGrammar, memoryAutomaton}
 use Rattle.walk_tables.proofs.MemoryLaws.{unit-is}
-use Rattle.parse_stack.specs.Stack.{tops, ruleOver}
-use Rattle.parse_stack.proofs.StackLaws.{tops-push, tops-length, tops-drop, tops-top}
+use Rattle.walk_stack.specs.Stack.{tops, ruleOver}
+use Rattle.walk_stack.proofs.StackLaws.{tops-push, tops-length, tops-drop, tops-top}
 use Rattle.walk_steps.specs.declared.Position.{Position}
 use Rattle.walk_steps.specs.declared.Turn.{Turn}
 use Rattle.walk_steps.specs.Turn.{loweredTo, stepsLeft, Stands, Moves, Turned, proceeds}

@@ -9,7 +9,7 @@ use Rattle.language.specs.First.{next}
 use Rattle.leftcorner.specs.Machine.{on, wrong, announced, land, tell}
 use Rattle.walk_tables.specs.Memory.{figureOf, gotoOf, memoryRule, memoryGrammar, groupEntries, memoryAutomaton}
 use Rattle.walk_tables.proofs.MemoryLaws.{rule-is}
-use Rattle.parse_stack.specs.Stack.{groupsOver, ruleOver}
+use Rattle.walk_stack.specs.Stack.{groupsOver, ruleOver}
 
 module _ (kinds values gotos rules : List ℕ) (start : ℕ) where
   groups-enter : (r j : ℕ) (S : List ℕ) → map ((memoryAutomaton kinds values gotos rules start) .enter) (groupEntries rules r j) ++ S ≡ groupsOver rules r j S

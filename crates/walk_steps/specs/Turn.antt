@@ -7,7 +7,7 @@ use Rattle.language.specs.Grammar.{Grammar, ruleAt}
 use Rattle.language.specs.Listing.{unitsIn}
 use Rattle.leftcorner.specs.Machine.{Automaton, Outcome, shiftTo, popTo, tell, Verdict, whole-at, wrong-at, short-at, proceed}
 use Rattle.walk_tables.specs.Memory.{figureOf, groupEntries, memoryGrammar, memoryAutomaton}
-use Rattle.parse_stack.specs.Stack.{tops}
+use Rattle.walk_stack.specs.Stack.{tops}
 use Rattle.walk_steps.specs.declared.Position.{Position}
 use Rattle.walk_steps.specs.declared.Turn.{Turn}
 use Rattle.walk_steps.specs.declared.Turn.the-variants.{On, Whole, Wrong, Short}

@@ -4,10 +4,10 @@ ghost use mathlib.Core.Path.{_≡_};
 ghost use Prim.Native.Nat.{_<_, _≤_};
 ghost use lib.ListN.{length, getD};
 ghost use Rattle.language.specs.First.{next};
-ghost use Rattle.parse_stack.specs.Stack.{tops};
+ghost use Rattle.walk_stack.specs.Stack.{tops};
 ghost use Rattle.walk_steps.specs.Turn.{loweredTo, Shifts, Announces, Pops};
-use parse_stack::Top;
 use symbol::Symbol;
+use walk_stack::Top;
 use walk_tables::figure;
 use walk_tables::wide;
 
@@ -91,7 +91,7 @@ pub fn announce(
         return Turn::Short;
     }
     let groups = wide(figure(rules, rule, 3));
-    let base = parse_stack::uncovered(
+    let base = walk_stack::uncovered(
         stack,
         pops,
         Top {
@@ -104,7 +104,7 @@ pub fn announce(
     }
     listing[listed] = rule;
     let unit = wide(figure(rules, rule, 2)) % 2;
-    let top = parse_stack::push_rule(gotos, rules, rule, groups, stack, base);
+    let top = walk_stack::push_rule(gotos, rules, rule, groups, stack, base);
     Turn::On(Position {
         height: top.height,
         taken: p.taken,

@@ -17,7 +17,7 @@ use Rattle.reply.specs.declared.Kind.the-variants.{BufferTooSmall, SyntaxError}
 use Rattle.walk_tables.specs.declared.Cell.{Cell}
 use Rattle.walk_tables.specs.declared.Cell.the-variants.{Shift, Announce, Pop, Empty}
 use Rattle.walk_tables.specs.Memory.{cellAt, meaning, memoryGrammar, memoryAutomaton}
-use Rattle.parse_stack.specs.Stack.{tops}
+use Rattle.walk_stack.specs.Stack.{tops}
 use Rattle.walk_steps.specs.declared.Position.{Position}
 use Rattle.walk_steps.specs.declared.Turn.{Turn}
 use Rattle.walk_steps.specs.declared.Turn.the-variants.{On, Whole, Wrong, Short}

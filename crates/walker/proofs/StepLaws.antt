@@ -8,8 +8,8 @@ use Rattle.leftcorner.specs.Machine.{Outcome, act, step}
 use Rattle.leftcorner.specs.Machine as machine
 use Rattle.walk_tables.specs.declared.Cell.{Cell}
 use Rattle.walk_tables.specs.Memory.{cellAt, meaning, memoryGrammar, memoryAutomaton}
-use Rattle.parse_stack.specs.Stack.{tops}
-use Rattle.parse_stack.proofs.StackLaws.{tops-top}
+use Rattle.walk_stack.specs.Stack.{tops}
+use Rattle.walk_stack.proofs.StackLaws.{tops-top}
 use Rattle.walk_steps.specs.declared.Position.{Position}
 use Rattle.walk_steps.specs.declared.Turn.{Turn}
 use Rattle.walk_steps.specs.Turn.{Stands, Turned}

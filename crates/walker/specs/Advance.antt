@@ -5,7 +5,7 @@ use lib.ListN.{length, drop}
 use Rattle.language.specs.First.{next}
 use Rattle.leftcorner.specs.Machine.{step}
 use Rattle.walk_tables.specs.Memory.{memoryGrammar, memoryAutomaton}
-use Rattle.parse_stack.specs.Stack.{tops}
+use Rattle.walk_stack.specs.Stack.{tops}
 use Rattle.walk_steps.specs.declared.Position.{Position}
 use Rattle.walk_steps.specs.declared.Turn.{Turn}
 use Rattle.walk_steps.specs.Turn.{Turned}

@@ -9,18 +9,18 @@ use Rattle.range.specs.Range.{within}
 use Rattle.symbol.specs.Symbol.{isDeclared}
 use Rattle.text.specs.Field.{classOf, addDigit, digitsFrom, fieldAt}
 use Rattle.text.specs.Field as text
-use Rattle.header.specs.Header.{figuresOf, headerOf}
-use Rattle.rule.specs.Parts.{partsFrom}
-use Rattle.rule.specs.RuleLine.{overLimits, someUndeclared, ruleOf, ruleAt}
+use Rattle.grammar_header.specs.Header.{figuresOf, headerOf}
+use Rattle.grammar_rule.specs.Parts.{partsFrom}
+use Rattle.grammar_rule.specs.RuleLine.{overLimits, someUndeclared, ruleOf, ruleAt}
 use Rattle.fixpoint.proofs.Tests.{map?, both?, either?, not?}
 use Rattle.fixpoint.specs.Lowest.{pick, lowest}
 use Rattle.fixpoint.proofs.Decision.{member?, has?, more, next, done, grow, listed, decide}
-use Rattle.reduction.specs.Strings.{each?, in?, numbers, occurrencesIn, occurrences}
-use Rattle.reduction.specs.Reduced.{whole?, terminal?, derived?, productive?, lowestUnproductive, reaches?, occurs?, reachable?, lowestUnreachable}
+use Rattle.grammar_reduction.specs.Strings.{each?, in?, numbers, occurrencesIn, occurrences}
+use Rattle.grammar_reduction.specs.Reduced.{whole?, terminal?, derived?, productive?, lowestUnproductive, reaches?, occurs?, reachable?, lowestUnreachable}
 use Rattle.grammar.specs.Book.{Book, accepted, rejected, rulesFrom, endOf, linesOf, bookOf, reducedOf, onAccepted, grammarOf}
-use Rattle.lalr_states.specs.Strings.{entryStrings, addString, addGroups, addRules}
-use Rattle.lalr_states.specs.States.{leave, note, noteIf}
-use Rattle.lalr.specs.Text.{tableText, digits, lead}
+use Rattle.build_states.specs.Strings.{entryStrings, addString, addGroups, addRules}
+use Rattle.build_states.specs.States.{leave, note, noteIf}
+use Rattle.build_book.specs.Text.{tableText, digits, lead}
 use Rattle.worked_examples.specs.Books.{book, Books, smallest, g1, g1-cut, d}
 use Rattle.worked_examples.proofs.Laws.{Computes}
 

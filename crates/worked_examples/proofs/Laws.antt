@@ -14,14 +14,14 @@ use Rattle.reply.specs.declared.Reply.{Reply}
 use Rattle.reply.specs.declared.Reply.the-variants.{Accepted}
 use Rattle.grammar.specs.Book.{accepted, grammarOf}
 use Rattle.grammar.proofs.GrammarLaws.{Reduced, accepted-reduced}
-use Rattle.lalr.specs.Text.{tableText}
-use Rattle.lalr.specs.Book.{textSlice}
-use Rattle.lalr.specs.Builder.{builderTable, builderReply}
-use Rattle.lalr.proofs.BuilderLaws.{writes-meets, writes-readable, slice-text, table-text}
-use Rattle.computed.proofs.Computed.{computed, test, is-built, writes}
+use Rattle.build_book.specs.Text.{tableText}
+use Rattle.build_book.specs.Book.{textSlice}
+use Rattle.build_book.specs.Builder.{builderTable, builderReply}
+use Rattle.build_book.proofs.BuilderLaws.{writes-meets, writes-readable, slice-text, table-text}
+use Rattle.build_computed.proofs.Computed.{computed, test, is-built, writes}
 use Rattle.table.specs.Book.{Reading, whole}
 use Rattle.table.specs.Memory.{replyOf, asReply}
-use Rattle.read_back.proofs.Book.{books-read}
+use Rattle.build_read_back.proofs.Book.{books-read}
 use Rattle.checker.specs.Checked.{checkedOf, verdictOf}
 use Rattle.checker.proofs.Exactly.{accepts}
 use Rattle.builder.specs.Build.{textLength, buildFrom, buildOf}

@@ -1,5 +1,5 @@
 use native.Mathlib.Omega.{arith}
-use Rattle.kernel_sets.proofs.CellLaws.{blank-zeros}
+use Rattle.build_kernel_sets.proofs.CellLaws.{blank-zeros}
 use Rattle.build_memory.proofs.StateLaws.{few-rules, few-strings, grammar-of, stated-of}
 use Rattle.build_memory.proofs.ReadLaws.{too-large, too-many-states}
 use Rattle.build_memory.proofs.MemoryLaws.{cells-lent, rooms-kept}

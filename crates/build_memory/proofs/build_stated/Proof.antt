@@ -10,8 +10,8 @@ number-entries-requires c κs =
     let start = c .before .before .before .before .before .before .before .before in
     (few-strings (start .pre .0 .is .entered), start .pre .1 .1 .0)
 
-settle-cells-requires : tie.Need-settle-cells-requires
-settle-cells-requires c κs =
+complete-cells-requires : tie.Need-complete-cells-requires
+complete-cells-requires c κs =
     let at-number-entries = c .before .before .before .before .before .before in
     let start = at-number-entries .before .before .before .before .before .before .before .before .before in
     (start .pre .0, (start .pre .1 .0, (at-number-entries .number-entries .ensures, start .pre .1 .1 .1)))
@@ -30,12 +30,12 @@ same-length-4 c = search needs
 
 returns : tie.Need-returns
 returns c =
-    let at-settle-cells = c .before .before .before .before .before .before .before in
+    let at-complete-cells = c .before .before .before .before .before .before .before in
     λ gs g e T.
-    let w = at-settle-cells .settle-cells .ensures in (
+    let w = at-complete-cells .complete-cells .ensures in (
       c .if1 .taken,
       constructed-of e T
-          (at-settle-cells .before .before .before .before .before .before .before .number-entries .ensures) (w .1 g T)
+          (at-complete-cells .before .before .before .before .before .before .before .number-entries .ensures) (w .1 g T)
           refl (w .0 .1) (w .0 .0),
     )
 
@@ -53,11 +53,11 @@ same-length-8 c = search needs
 
 returns-2 : tie.Need-returns-2
 returns-2 c =
-    let at-settle-cells = c .before .before .before .before .before .before .before in
+    let at-complete-cells = c .before .before .before .before .before .before .before in
     λ gs g e T.
-    let w = at-settle-cells .settle-cells .ensures in
+    let w = at-complete-cells .complete-cells .ensures in
     constructed-of e T
-    (at-settle-cells .before .before .before .before .before .before .before .number-entries .ensures) (w .1 g T)
+    (at-complete-cells .before .before .before .before .before .before .before .number-entries .ensures) (w .1 g T)
     (c .if1 .left) (w .0 .1) (w .0 .0)
 
 pub build-stated-spec : {M : Type 1} → statement M
@@ -65,7 +65,7 @@ build-stated-spec =
     tie.close
     (tie.spec
     number-entries-requires
-    settle-cells-requires
+    complete-cells-requires
     same-length
     same-length-2
     same-length-3

@@ -1,7 +1,7 @@
 use Prim.Native.Nat.{_+_}
 use denote.Ref.{now}
 use lib.ListN.{length}
-use Rattle.table_writer.specs.MemoryTable.{memoryText}
+use Rattle.build_writer.specs.MemoryTable.{memoryText}
 use Rattle.builder.proofs.BookLaws.{text-long, text-short, text-none, text-written}
 use borrow.Author.Needs.{needs}
 use Rattle.builder.proofs.write_book.Statement.{statement}

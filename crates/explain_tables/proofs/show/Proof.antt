@@ -3,7 +3,7 @@ use Prim.Native.Nat.{ℕ, _≤_}
 use native.Mathlib.Omega.{arith}
 use denote.Ref.{now}
 use lib.ListN.{length, replicate, length-replicate}
-use Rattle.table.specs.Memory.{Slices, slices, Rooms}
+use Rattle.table.specs.Memory.{Slices, slices, SlicesRoom}
 use Rattle.table.proofs.IntoLaws.{has-room}
 use Rattle.checker.proofs.LoadLaws.{books-read, read-sized, read-low}
 use borrow.Author.Needs.{needs}
@@ -16,7 +16,7 @@ fresh = slices (replicate 16640 0) (replicate 256 0) (replicate 4096 0) (replica
 enough : (n : ℕ) → n ≤ length (replicate {A = ℕ} n 0)
 enough n = let z = length-replicate {A = ℕ} n 0 in omega (arith, z)
 
-rooms : Rooms fresh
+rooms : SlicesRoom fresh
 rooms = record {
   items-room = enough 16640;
   states-room = enough 256;
@@ -28,32 +28,32 @@ rooms = record {
   named-room = enough 256;
 }
 
-slice-aggregate-judge-books : tie.Need-slice-aggregate-judge-books
-slice-aggregate-judge-books c = search needs
+slice-aggregate-check-books : tie.Need-slice-aggregate-check-books
+slice-aggregate-check-books c = search needs
 
-slice-aggregate-judge-books-2 : tie.Need-slice-aggregate-judge-books-2
-slice-aggregate-judge-books-2 c = search needs
+slice-aggregate-check-books-2 : tie.Need-slice-aggregate-check-books-2
+slice-aggregate-check-books-2 c = search needs
 
-slice-aggregate-judge-books-3 : tie.Need-slice-aggregate-judge-books-3
-slice-aggregate-judge-books-3 c = search needs
+slice-aggregate-check-books-3 : tie.Need-slice-aggregate-check-books-3
+slice-aggregate-check-books-3 c = search needs
 
-slice-aggregate-judge-books-4 : tie.Need-slice-aggregate-judge-books-4
-slice-aggregate-judge-books-4 c = search needs
+slice-aggregate-check-books-4 : tie.Need-slice-aggregate-check-books-4
+slice-aggregate-check-books-4 c = search needs
 
-slice-aggregate-judge-books-5 : tie.Need-slice-aggregate-judge-books-5
-slice-aggregate-judge-books-5 c = search needs
+slice-aggregate-check-books-5 : tie.Need-slice-aggregate-check-books-5
+slice-aggregate-check-books-5 c = search needs
 
-slice-aggregate-judge-books-6 : tie.Need-slice-aggregate-judge-books-6
-slice-aggregate-judge-books-6 c = search needs
+slice-aggregate-check-books-6 : tie.Need-slice-aggregate-check-books-6
+slice-aggregate-check-books-6 c = search needs
 
-slice-aggregate-judge-books-7 : tie.Need-slice-aggregate-judge-books-7
-slice-aggregate-judge-books-7 c = search needs
+slice-aggregate-check-books-7 : tie.Need-slice-aggregate-check-books-7
+slice-aggregate-check-books-7 c = search needs
 
-slice-aggregate-judge-books-8 : tie.Need-slice-aggregate-judge-books-8
-slice-aggregate-judge-books-8 c = search needs
+slice-aggregate-check-books-8 : tie.Need-slice-aggregate-check-books-8
+slice-aggregate-check-books-8 c = search needs
 
-judge-books-requires : tie.Need-judge-books-requires
-judge-books-requires c κs = rooms
+check-books-requires : tie.Need-check-books-requires
+check-books-requires c κs = rooms
 
 number-requires : tie.Need-number-requires
 number-requires c κs = search needs
@@ -103,9 +103,9 @@ slice-aggregate-explain-tables-8 c = search needs
 explain-tables-requires : tie.Need-explain-tables-requires
 explain-tables-requires c κs =
     let told = c .before .before .before .before .before .before .before .before .before .before in
-    let judged = told .before .before .before .before .before .before .before .before .before .before .before .before .before .before .before in
-    let begun = judged .before .before .before .before .before .before .before .before .before .before .before in
-    let e = judged .judge-books .ensures in
+    let checked = told .before .before .before .before .before .before .before .before .before .before .before .before .before .before .before in
+    let begun = checked .before .before .before .before .before .before .before .before .before .before .before in
+    let e = checked .check-books .ensures in
     let l = books-read (now (begun .args .grammar)) (now (begun .args .book)) (e .0) {b = fresh} (e .1 .0) (told .answer .given .1) in
     (read-sized l (has-room fresh rooms), read-low l)
 
@@ -119,15 +119,15 @@ pub show-spec : {M : Type 1} → statement M
 show-spec =
     tie.close
     (tie.spec
-    slice-aggregate-judge-books
-    slice-aggregate-judge-books-2
-    slice-aggregate-judge-books-3
-    slice-aggregate-judge-books-4
-    slice-aggregate-judge-books-5
-    slice-aggregate-judge-books-6
-    slice-aggregate-judge-books-7
-    slice-aggregate-judge-books-8
-    judge-books-requires
+    slice-aggregate-check-books
+    slice-aggregate-check-books-2
+    slice-aggregate-check-books-3
+    slice-aggregate-check-books-4
+    slice-aggregate-check-books-5
+    slice-aggregate-check-books-6
+    slice-aggregate-check-books-7
+    slice-aggregate-check-books-8
+    check-books-requires
     number-requires
     place-requires
     output-requires

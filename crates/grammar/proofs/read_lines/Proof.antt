@@ -1,7 +1,7 @@
 -- `grammar::read_lines` meets its contract. Assumes nothing.
 use mathlib.Core.Path.{refl, sym, _∙_}
 use native.Mathlib.Omega.{arith}
-use Rattle.header.proofs.HeaderLaws.{header-ranged}
+use Rattle.grammar_header.proofs.HeaderLaws.{header-ranged}
 use Rattle.grammar.proofs.BookLaws.{rejected-told, too-long, no-header, no-rules, line-extra, all-lines}
 use borrow.Author.Needs.{needs}
 use Rattle.grammar.proofs.read_lines.Statement.{statement}

@@ -6,10 +6,10 @@ use Rattle.inclusions.proofs.add_lines.Statement.{statement}
 use Rattle.inclusions.proofs.add_lines.Tie as tie
 
 abbrev Inv-loop : tie.InvT-loop
-Inv-loop kernels links from lines count codes s i k start grown₀ p₀ grown p = LinesTo (LineAsks kernels from codes i k start) kernels lines s grown₀ grown p
+Inv-loop kernels links from lines count codes s i k start included₀ p₀ included p = LinesTo (LineAsks kernels from codes i k start) kernels lines s included₀ included p
 
 abbrev μ-loop : tie.MeasureT-loop
-μ-loop kernels links from lines count codes s i k start grown₀ p₀ grown p = p
+μ-loop kernels links from lines count codes s i k start included₀ p₀ included p = p
 
 last-line-requires : tie.Need-last-line-requires Inv-loop μ-loop
 last-line-requires c κs =

@@ -4,7 +4,7 @@ use Rattle.table_actions.specs.Memory.{Cells}
 use Rattle.leftcorner.specs.Table.{ActionLine, actionFor}
 use Rattle.range.specs.Range.{within}
 use Rattle.table_lines.specs.Line.{allAtMost}
-use Rattle.table_lines.specs.Block.{judge, Held}
+use Rattle.table_lines.specs.Block.{judge, Summarizes}
 use Rattle.table_lines.proofs.HeldLaws.{held-count, held-largest, held-at}
 use borrow.Author.Tests.{le-leb, lt-leb, eq-eqb, ne-eqb, not-true, not-false}
 use mathlib.Core.Bool.{true, _&&_}
@@ -20,7 +20,7 @@ use Rattle.table_actions.proofs.judge_action.Tie as tie
 -- the line's form is right: what is left to judge
 formed : (c : tie.Else3) → let a = c .before .before .before .before .before .before .before .before .before .before .before .args in
     let v = a .numbers .now in
-    (x y z : ℕ) (values : List ℕ) (l : List ActionLine) (ns : List ℕ) → Cells x y z l (a .kinds .now) values (a .gotos .now) → Held ns (a .p) v
+    (x y z : ℕ) (values : List ℕ) (l : List ActionLine) (ns : List ℕ) → Cells x y z l (a .kinds .now) values (a .gotos .now) → Summarizes ns (a .p) v
     → judgeAction (a .t) (a .n) (a .rules) (a .states) l (a .letter) ns
     ≡ judge true (allAtMost 65535 ns)
     (within 1 (getD v 0 0) (a .states) && actionDeclared (a .t) (a .n) (a .rules) (a .states) (a .letter) (getD v 1 0) (getD v 2 0))
@@ -40,7 +40,7 @@ formed c = λ x y z values l ns m h.
 -- its figures are within the limits
 limited : (c : tie.Else4) → let a = c .before .before .before .before .before .before .before .before .before .before .before .before .before .args in
     let v = a .numbers .now in
-    (x y z : ℕ) (values : List ℕ) (l : List ActionLine) (ns : List ℕ) → Cells x y z l (a .kinds .now) values (a .gotos .now) → Held ns (a .p) v
+    (x y z : ℕ) (values : List ℕ) (l : List ActionLine) (ns : List ℕ) → Cells x y z l (a .kinds .now) values (a .gotos .now) → Summarizes ns (a .p) v
     → judgeAction (a .t) (a .n) (a .rules) (a .states) l (a .letter) ns
     ≡ judge true true (within 1 (getD v 0 0) (a .states) && actionDeclared (a .t) (a .n) (a .rules) (a .states) (a .letter) (getD v 1 0) (getD v 2 0))
 limited c = λ x y z values l ns m h. formed (c .before .before) x y z values l ns m h ∙ simp (sym (held-largest h 65535) ∙ le-leb _ _ (c .if4 .left))

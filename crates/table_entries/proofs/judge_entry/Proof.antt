@@ -5,7 +5,7 @@ use Rattle.table_entries.specs.Entries.{allDeclared}
 use Rattle.table_entries.specs.Memory.{Rows}
 use Rattle.leftcorner.specs.Table.{EntryLine, entryFrom}
 use Rattle.table_lines.specs.Line.{allAtMost}
-use Rattle.table_lines.specs.Block.{Held}
+use Rattle.table_lines.specs.Block.{Summarizes}
 use Rattle.range.specs.Range.{within}
 use borrow.Author.Tests.{le-leb, lt-leb, not-true, not-false}
 use lib.ListN.{length, getD, drop}
@@ -19,25 +19,25 @@ use Rattle.table_entries.proofs.judge_entry.Statement.{statement}
 use Rattle.table_entries.proofs.judge_entry.Tie as tie
 
 -- the line has two numbers at least
-long : (c : tie.Else2) {ns : List ℕ} → Held ns (c .before .before .before .before .before .args .p) (c .before .before .before .before .before .args .numbers .now) → 2 ≤ length ns
+long : (c : tie.Else2) {ns : List ℕ} → Summarizes ns (c .before .before .before .before .before .args .p) (c .before .before .before .before .before .args .numbers .now) → 2 ≤ length ns
 long c h = omega (arith, held-count h, c .if2 .left)
 
 -- no entry has its string yet
 unseen : (c : tie.Else3) → let a = c .before .before .before .before .before .before .before .args in
-    (l : List EntryLine) (ns : List ℕ) → length l ≡ a .entries → Rows (a .m .now) (a .rules) l → Held ns (a .p) (a .numbers .now) → entryFrom 1 l (drop 1 ns) ≡ 0
+    (l : List EntryLine) (ns : List ℕ) → length l ≡ a .entries → Rows (a .m .now) (a .rules) l → Summarizes ns (a .p) (a .numbers .now) → entryFrom 1 l (drop 1 ns) ≡ 0
 unseen c = λ l ns q rows h. sym (c .before .find-entry .ensures l ns q rows (h .numbers)) ∙ c .if3 .left
 
 -- no number is above 65,535
-small : (c : tie.Else4) {ns : List ℕ} → Held ns (c .before .before .before .before .before .before .before .before .before .args .p) (c .before .before .before .before .before .before .before .before .before .args .numbers .now) → allAtMost 65535 ns ≡ true
+small : (c : tie.Else4) {ns : List ℕ} → Summarizes ns (c .before .before .before .before .before .before .before .before .before .args .p) (c .before .before .before .before .before .before .before .before .before .args .numbers .now) → allAtMost 65535 ns ≡ true
 small c h = sym (held-largest h 65535) ∙ le-leb _ _ (c .if4 .left)
 
 -- and no more than sixteen
-few : (c : tie.Else5) {ns : List ℕ} → Held ns (c .before .before .before .before .before .before .before .before .before .before .before .args .p) (c .before .before .before .before .before .before .before .before .before .before .before .args .numbers .now) → length ns ≤ 16
+few : (c : tie.Else5) {ns : List ℕ} → Summarizes ns (c .before .before .before .before .before .before .before .before .before .before .before .args .p) (c .before .before .before .before .before .before .before .before .before .before .before .args .numbers .now) → length ns ≤ 16
 few c h = omega (arith, held-count h, c .if5 .left)
 
 -- the state that it names is among the states, or not
 state-is : (c : tie.Else5) → let a = c .before .before .before .before .before .before .before .before .before .before .before .args in
-    (ns : List ℕ) → Held ns (a .p) (a .numbers .now) → within 1 (getD ns 0 0) (a .states) ≡ within 1 (getD (a .numbers .now) 0 0) (a .states)
+    (ns : List ℕ) → Summarizes ns (a .p) (a .numbers .now) → within 1 (getD ns 0 0) (a .states) ≡ within 1 (getD (a .numbers .now) 0 0) (a .states)
 state-is c = λ ns h.
     let a = c .before .before .before .before .before .before .before .before .before .before .before .args in
     ap (λ (x : ℕ). within 1 x (a .states)) (held-at h 0 (omega (arith, long (c .before .before .before .before .before .before) h)) (search needs))

@@ -1,7 +1,7 @@
 -- `table_kernels::judge_kernel` meets its contract. Assumes nothing.
 use Rattle.table_lines.proofs.HeldLaws.{held-count, held-largest, held-at, held-last}
 use Rattle.table_lines.specs.Line.{allAtMost}
-use Rattle.table_lines.specs.Block.{judge, Held}
+use Rattle.table_lines.specs.Block.{judge, Summarizes}
 use Rattle.items.specs.Layout.{lengthAt}
 use Rattle.leftcorner.specs.Table.{KernelLine}
 use Rattle.range.specs.Range.{within}
@@ -31,7 +31,7 @@ falls c = not-true _ (c .if2 .taken)
 formed : (c : tie.Else3) → let a = c .before .before .before .before .before .before .before .before .before .before .before .args in
     let v = a .numbers .now in
     let f = lengthAt (a .m .now) in
-    (l : List KernelLine) (ns : List ℕ) → Marked (a .marks .now) l → Held ns (a .p) v
+    (l : List KernelLine) (ns : List ℕ) → Marked (a .marks .now) l → Summarizes ns (a .p) v
     → judgeWith (a .p .rising) (a .t) (a .states) (a .items) f l ns
     ≡ judge true (allAtMost 65535 ns && ltb (length l) 1023)
     (within 1 (getD v 0 0) (a .states) && (within 1 (getD v 1 0) (a .items) && (leb (getD v 2 0) (f (getD v 1 0)) && allAtMost (a .t) (drop 3 ns))))
@@ -50,7 +50,7 @@ formed c = λ l ns m h.
 limited : (c : tie.Else5) → let a = c .before .before .before .before .before .before .before .before .before .before .before .before .before .before .args in
     let v = a .numbers .now in
     let f = lengthAt (a .m .now) in
-    (l : List KernelLine) (ns : List ℕ) → length l ≡ a .lines → Marked (a .marks .now) l → Held ns (a .p) v
+    (l : List KernelLine) (ns : List ℕ) → length l ≡ a .lines → Marked (a .marks .now) l → Summarizes ns (a .p) v
     → judgeWith (a .p .rising) (a .t) (a .states) (a .items) f l ns
     ≡ judge true true
     (within 1 (getD v 0 0) (a .states) && (within 1 (getD v 1 0) (a .items) && (leb (getD v 2 0) (f (getD v 1 0)) && allAtMost (a .t) (drop 3 ns))))

@@ -8,8 +8,8 @@ use mathlib.Core.Path.{ap, _∙_}
 use native.Mathlib.Omega.{arith}
 use borrow.Author.Needs.{needs}
 use Rattle.walk_tables.specs.Memory.{figureOf, memoryGrammar, memoryAutomaton}
-use Rattle.parse_stack.specs.Stack.{tops, ruleOver}
-use Rattle.parse_stack.proofs.StackLaws.{tops-length, rule-length}
+use Rattle.walk_stack.specs.Stack.{tops, ruleOver}
+use Rattle.walk_stack.proofs.StackLaws.{tops-length, rule-length}
 use Rattle.walk_steps.proofs.MoveLaws.{move-announce}
 use Rattle.walk_steps.proofs.TurnLaws.{positive, ends-wrong, ends-short}
 use Rattle.walk_steps.proofs.TellLaws.{told-none, told-wrong, told-on}

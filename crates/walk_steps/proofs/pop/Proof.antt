@@ -4,8 +4,8 @@ use lib.ListN.{drop, length-drop}
 use Prim.Native.Nat.{suc, _+_}
 use native.Mathlib.Omega.{arith}
 use borrow.Author.Needs.{needs}
-use Rattle.parse_stack.proofs.StackLaws.{tops-length}
-use Rattle.parse_stack.specs.Stack.{tops}
+use Rattle.walk_stack.proofs.StackLaws.{tops-length}
+use Rattle.walk_stack.specs.Stack.{tops}
 use Rattle.walk_steps.proofs.MoveLaws.{move-pop}
 use Rattle.walk_steps.proofs.TurnLaws.{pop-whole, pop-wrong, ends-wrong, ends-whole}
 use Rattle.walk_steps.proofs.pop.Statement.{statement}

@@ -3,7 +3,7 @@ use mathlib.Core.Logic.{inl}
 use mathlib.Core.Path.{sym, _∙_}
 use native.Mathlib.Omega.{arith}
 use borrow.Author.Needs.{needs}
-use Rattle.parse_stack.proofs.StackLaws.{tops-length}
+use Rattle.walk_stack.proofs.StackLaws.{tops-length}
 use Rattle.walk_steps.proofs.MoveLaws.{move-shift}
 use Rattle.walk_steps.proofs.TurnLaws.{shift-on, shift-wrong, ends-wrong, ends-short}
 use Rattle.walk_steps.proofs.shift.Statement.{statement}

@@ -6,7 +6,7 @@ use native.Mathlib.Omega.{arith}
 use borrow.Author.Needs.{needs}
 use Rattle.walk_tables.specs.Memory.{memoryGrammar, memoryAutomaton}
 use Rattle.walk_tables.specs.declared.Cell.the-variants.{Shift, Announce, Pop, Empty}
-use Rattle.parse_stack.proofs.StackLaws.{tops-top}
+use Rattle.walk_stack.proofs.StackLaws.{tops-top}
 use Rattle.walk_steps.specs.declared.Turn.the-variants.{Wrong}
 use Rattle.walk_steps.proofs.TurnLaws.{ends-wrong, units-few}
 use Rattle.walker.proofs.StepLaws.{turned-by}
