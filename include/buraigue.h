@@ -72,7 +72,7 @@ uint64_t buraigue_run_scans(const uint8_t *grammar, size_t grammar_length, const
    stand there, in rising order: 0 where the tokens before the place are a sentence already, and each terminal that after them begins one.
    The reply is then 0 at that place, and *count codes stand in codes, of which BURAIGUE_CODES are always enough; 0 is a code and the
    filling too, so look at *count. Where a code's trial outgrows stack or listing, or the list its slice, the reply is
-   BURAIGUE_BUFFER_TOO_SMALL at the place. Every other reply is the session's. stack and listing are zeros after. Machine stack: 1,792 KiB. */
+   BURAIGUE_BUFFER_TOO_SMALL at the place. Every other reply is the session's. stack and listing are zeros after. Machine stack: 1,536 KiB. */
 uint64_t buraigue_list_expected(const uint8_t *grammar, size_t grammar_length, const uint8_t *tables, size_t tables_length,
                                 const uint8_t *tokens, size_t tokens_length, uint8_t *stack, size_t stack_length, uint8_t *listing,
                                 size_t listing_length, uint8_t *codes, size_t codes_length, uint64_t *place, uint64_t *count);
