@@ -15,6 +15,7 @@ use program::argument_number;
 use program::print_text;
 use reply::Reply;
 use session::SessionReply;
+ghost use mathlib.Core.Path.{_≡_};
 ghost use Prim.Native.Nat.{_+_, _<_, _≤_};
 ghost use lib.ListN.{length};
 ghost use Rattle.io.specs.Counts.{Counts};
@@ -274,6 +275,12 @@ fn show_expected_in(
 // The most states, and rules, that are lent for a list.
 const LENT: usize = 1048576;
 
+fn lend() -> [u8; LENT]
+    ensures { λ r. ⌜ 1048576 ≡ length r ⌝ }
+{
+    [7; LENT]
+}
+
 fn lent(n: usize) -> usize
     ensures { λ r. ⌜ r ≤ 1048576 ⌝ }
 {
@@ -295,8 +302,8 @@ fn show_expected_lent(
 )
     requires { ⌜ m ≤ 65536 ⌝ }
 {
-    let mut stack = [7u8; LENT];
-    let mut listing = [7u8; LENT];
+    let mut stack = lend();
+    let mut listing = lend();
     let mut codes = [7u8; 65536];
     let mut out = named(i);
     show_expected_in(
