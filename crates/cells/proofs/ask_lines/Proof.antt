@@ -9,7 +9,9 @@ use Rattle.cells.proofs.ask_lines.Statement.{statement}
 use Rattle.cells.proofs.ask_lines.Tie as tie
 
 abbrev Inv-loop : tie.InvT-loop
-Inv-loop items kernels links lookaheads nullable first totals q asked₀ others₀ p₀ asked others p = Passed (λ l. (c v : ℕ) → LineAsks items nullable first kernels lookaheads (totals .rules) (totals .codes) l c v → Met asked others c v) kernels q (totals .lines) p × Asking (LinesAsk items nullable first kernels lookaheads (totals .rules) (totals .lines) (totals .codes) q) asked₀ others₀ asked others
+Inv-loop items kernels links lookaheads nullable first totals q asked₀ others₀ p₀ asked others p =
+    Passed (λ l. (c v : ℕ) → LineAsks items nullable first kernels lookaheads (totals .rules) (totals .codes) l c v → Met asked others c v) kernels q (totals .lines) p
+    × Asking (LinesAsk items nullable first kernels lookaheads (totals .rules) (totals .lines) (totals .codes) q) asked₀ others₀ asked others
 
 abbrev μ-loop : tie.MeasureT-loop
 μ-loop items kernels links lookaheads nullable first totals q asked₀ others₀ p₀ asked others p = p

@@ -11,7 +11,9 @@ use Rattle.cells.proofs.ask_rules.Statement.{statement}
 use Rattle.cells.proofs.ask_rules.Tie as tie
 
 abbrev Inv-loop : tie.InvT-loop
-Inv-loop items nullable first present follow totals asked₀ others₀ i₀ asked others i = (1 ≤ i) × Asking (RulesAsk items nullable first present follow (totals .rules) (totals .codes)) asked₀ others₀ asked others × ((j : ℕ) → 1 ≤ j → j < i → Present items present j → (c v : ℕ) → RuleAsks items nullable first follow (totals .rules) (totals .codes) j c v → Met asked others c v)
+Inv-loop items nullable first present follow totals asked₀ others₀ i₀ asked others i =
+    (1 ≤ i) × Asking (RulesAsk items nullable first present follow (totals .rules) (totals .codes)) asked₀ others₀ asked others
+    × ((j : ℕ) → 1 ≤ j → j < i → Present items present j → (c v : ℕ) → RuleAsks items nullable first follow (totals .rules) (totals .codes) j c v → Met asked others c v)
 
 abbrev μ-loop : tie.MeasureT-loop
 μ-loop items nullable first present follow totals asked₀ others₀ i₀ asked others i = totals .rules + 1 - i
