@@ -47,6 +47,7 @@ fn ask_state(
     closure::close_state(
         items,
         kernels,
+        links,
         lookaheads,
         nullable,
         first,

@@ -61,6 +61,7 @@ fn check_state(
     closure::close_state(
         items,
         kernels,
+        links,
         lookaheads,
         nullable,
         first,

@@ -107,6 +107,7 @@ fn find_from(
     closure::close_state(
         items,
         kernels,
+        links,
         lookaheads,
         nullable,
         first,

@@ -116,7 +116,7 @@ module _ (m : List ℕ) (i k : ℕ) where
           set-on y p (inr q) =
               w .every ((x - 64) * 64 + p .next) (record { code = p .code; low = p .low; on = p .on; is = ap (λ (n : ℕ). (x - 64) * 64 + n) (q .1) })
 
--- ---- lines of q, one by one
+-- ---- a line of q
 
 module _ (m kernels : List ℕ) (l : ℕ) {fs fs′ : List ℕ} {i k : ℕ} (ei : i ≡ itemAt kernels l) (ek : k ≡ dotAt kernels l) where
   pub line-before : Adds (BeforeNonterminal m i k) fs fs′ → Adds (LineBefore m kernels l) fs fs′
@@ -125,46 +125,3 @@ module _ (m kernels : List ℕ) (l : ℕ) {fs fs′ : List ℕ} {i k : ℕ} (ei 
   pub line-follows : (codes : ℕ) (nul fst lookaheads : List ℕ) → Adds (FollowsNonterminal m codes nul fst lookaheads (l * 64) i k) fs fs′
       → Adds (LineFollows m codes nul fst kernels lookaheads l) fs fs′
   line-follows codes nul fst lookaheads a = subst₂ (λ (j n : ℕ). Adds (FollowsNonterminal m codes nul fst lookaheads (l * 64) j n) fs fs′) ei ek a
-
-module _ (P : ℕ → ℕ → Type 0) (kernels : List ℕ) (q : ℕ) where
-  no-line : (y : ℕ) → OfLine P kernels 0 q y → ⊥
-  no-line y p = omega (arith, p .within)
-
-  pub lines-none : (fs : List ℕ) → Adds (OfLine P kernels 0 q) fs fs
-  lines-none fs = adds-none fs no-line
-
-  line-wider : (l y : ℕ) → OfLine P kernels l q y → OfLine P kernels (l + 1) q y
-  line-wider l y p = record { line = p .line; within = omega (arith, p .within); state = p .state; holds = p .holds }
-
-  line-split : (l y : ℕ) → OfLine P kernels (l + 1) q y → OfLine P kernels l q y ⊎ ((stateAt kernels l ≡ q) × P l y)
-  line-split l y p = go (decLt (p .line) l)
-    where
-      go : Dec (p .line < l) → OfLine P kernels l q y ⊎ ((stateAt kernels l ≡ q) × P l y)
-      go (yes u) = inl (record { line = p .line; within = u; state = p .state; holds = p .holds })
-      go (no n) =
-          let e : p .line ≡ l = omega (arith, p .within) in
-          inr (subst (λ (k : ℕ). stateAt kernels k ≡ q) e (p .state), subst (λ (k : ℕ). P k y) e (p .holds))
-
-  pub lines-skip : (l : ℕ) {fs₀ fs : List ℕ} → (stateAt kernels l ≡ q → ⊥) → Adds (OfLine P kernels l q) fs₀ fs → Adds (OfLine P kernels (l + 1) q) fs₀ fs
-  lines-skip l f a = adds-map (line-wider l) (λ y p. pick y (line-split l y p)) a
-    where
-      pick : (y : ℕ) → OfLine P kernels l q y ⊎ ((stateAt kernels l ≡ q) × P l y) → OfLine P kernels l q y
-      pick y (inl p) = p
-      pick y (inr h) = absurd (f (h .0))
-
-  pub lines-more : (l : ℕ) {fs₀ fs fs′ : List ℕ} → stateAt kernels l ≡ q → Adds (OfLine P kernels l q) fs₀ fs → Adds (P l) fs fs′
-      → Adds (OfLine P kernels (l + 1) q) fs₀ fs′
-  lines-more l s a w = adds-map up (λ y p. down y (line-split l y p)) (adds-then a w)
-    where
-      up : (y : ℕ) → OfLine P kernels l q y ⊎ P l y → OfLine P kernels (l + 1) q y
-      up y (inl p) = line-wider l y p
-      up y (inr h) = record { line = l; within = omega arith; state = s; holds = h }
-
-      down : (y : ℕ) → OfLine P kernels l q y ⊎ ((stateAt kernels l ≡ q) × P l y) → OfLine P kernels l q y ⊎ P l y
-      down y (inl p) = inl p
-      down y (inr h) = inr (h .1)
-
-  pub lines-all : {l lines : ℕ} {fs₀ fs : List ℕ} → l ≤ lines → lines ≤ l → Adds (OfLine P kernels l q) fs₀ fs → Adds (OfLine P kernels lines q) fs₀ fs
-  lines-all {l = l} {lines = lines} {fs₀ = fs₀} {fs = fs} u v a =
-      let e : l ≡ lines = omega arith in
-      subst (λ (n : ℕ). Adds (OfLine P kernels n q) fs₀ fs) e a

@@ -13,7 +13,7 @@ ghost use Rattle.language.specs.Grammar.{Grammar};
 ghost use Rattle.leftcorner.specs.Table.{Table};
 ghost use Rattle.closure.specs.Expansion.{HoldsClosure};
 ghost use Rattle.analysis.specs.FirstBy.{FirstBy};
-ghost use Rattle.kernel_lines.specs.Lines.{Lines};
+ghost use Rattle.kernel_lines.specs.Lines.{Lines, Linked};
 ghost use Rattle.closure.specs.InMemory.{InMemory};
 ghost use Rattle.analysis.specs.Rests.{Before};
 ghost use Rattle.analysis.specs.Adds.{Adds};
@@ -127,6 +127,7 @@ fn add_item(
 fn add_kernel(
     items: &[u8],
     kernels: &[u8],
+    links: &[usize],
     lookaheads: &[u8],
     nullable: &[u8],
     first: &[u8],
@@ -137,18 +138,16 @@ fn add_kernel(
 )
     requires { ⌜ Shaped (now items) (totals .items) ⌝ }
     requires { ⌜ Lines (now kernels) (totals .lines) (totals .items) ⌝ }
-    requires { ⌜ (totals .lines * 64 ≤ length (now lookaheads)) × (totals .codes ≤ 64) ⌝ }
+    requires { ⌜ Linked (now kernels) (now links) (totals .lines) ⌝ }
+    requires { ⌜ (totals .lines * 64 ≤ length (now lookaheads)) × (totals .codes ≤ 64) × (q < 256) ⌝ }
     requires { ⌜ (length (now nullable) ≡ 128) × (length (now first) ≡ 8192) ⌝ }
     requires { ⌜ (length (now present) ≡ 64) × (length (now follow) ≡ 4096) ⌝ }
     ensures { λ _. ⌜ Adds (KernelBefore (now (items .entry)) (now (kernels .entry)) (totals .lines) q) (now (present .entry)) (now (present .exit)) ⌝ }
     ensures { λ _. ⌜ Adds (KernelFollows (now (items .entry)) (totals .codes) (now (nullable .entry)) (now (first .entry)) (now (kernels .entry)) (now (lookaheads .entry)) (totals .lines) q) (now (follow .entry)) (now (follow .exit)) ⌝ }
 {
-    let mut l = 0;
-    while l < totals.lines {
-        if kernel_lines::state_of(kernels, totals.lines, totals.items, l) != q {
-            l += 1;
-            continue;
-        }
+    let mut p = kernel_lines::last_line(kernels, links, totals.lines, q);
+    while 0 < p {
+        let l = p - 1;
         let i = kernel_lines::item_of(kernels, totals.lines, totals.items, l);
         let k = kernel_lines::dot_of(kernels, totals.lines, totals.items, l);
         add_item(
@@ -164,7 +163,7 @@ fn add_kernel(
             present,
             follow,
         );
-        l += 1;
+        p = kernel_lines::line_before(kernels, links, totals.lines, l);
     }
 }
 
@@ -309,6 +308,7 @@ fn close_follow(
 pub fn close_state(
     items: &[u8],
     kernels: &[u8],
+    links: &[usize],
     lookaheads: &[u8],
     nullable: &[u8],
     first: &[u8],
@@ -322,7 +322,8 @@ pub fn close_state(
     requires { ⌜ Shaped (now items) (totals .items) ⌝ }
     requires { ⌜ (totals .rules ≤ totals .items) × (totals .rules ≤ 127) × (totals .codes ≤ 64) ⌝ }
     requires { ⌜ Lines (now kernels) (totals .lines) (totals .items) ⌝ }
-    requires { ⌜ totals .lines * 64 ≤ length (now lookaheads) ⌝ }
+    requires { ⌜ Linked (now kernels) (now links) (totals .lines) ⌝ }
+    requires { ⌜ (totals .lines * 64 ≤ length (now lookaheads)) × (q < 256) ⌝ }
     requires { ⌜ (length (now nullable) ≡ 128) × (length (now first) ≡ 8192) × (length (now starts) ≡ 8192) × (length (now through) ≡ 128) ⌝ }
     requires { ⌜ Prepared (now items) (totals .rules + 1) (totals .codes) (now nullable) (now first) (now starts) (now through) ⌝ }
     requires { ⌜ (length (now present) ≡ 64) × (length (now follow) ≡ 4096) ⌝ }
@@ -333,6 +334,7 @@ pub fn close_state(
     add_kernel(
         items,
         kernels,
+        links,
         lookaheads,
         nullable,
         first,

@@ -819,6 +819,7 @@ fn explain_state(
     closure::close_state(
         items,
         kernels,
+        links,
         lookaheads,
         nullable,
         first,

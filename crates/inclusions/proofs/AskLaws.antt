@@ -21,7 +21,7 @@ use Rattle.item_first.proofs.FirstLaws.{at-zero}
 use Rattle.check_entries.specs.Parts.{GroupEnd}
 use Rattle.inclusions.specs.Groups.{groupEnd, groupFrom, groupBegin}
 use Rattle.inclusions.specs.Asks.{LineAsks, LinesAsk, MoveAsks, GroupAsks, GroupsAsk, ItemAsks, by-move, by-group, KernelAsks, RuleAsks, RulesAsk, StateAsks}
-use Rattle.inclusions.proofs.AddingLaws.{Adding, adding-none, adding-then, adds-all}
+use Rattle.closure.proofs.AddingLaws.{Adding, adding-none, adding-then, adds-all}
 use Rattle.inclusions.proofs.GroupLaws.{end-found, group-next, group-order}
 
 -- ---- a line

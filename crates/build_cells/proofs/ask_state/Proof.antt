@@ -14,15 +14,13 @@ slice-aggregate-close-state-2 c = search needs
 
 close-state-requires : tie.Need-close-state-requires
 close-state-requires c κs =
-    let Z = c .before .before .before .before .before .before .before .before .before .before .before .pre .0 in
+    let p = c .before .before .before .before .before .before .before .before .before .before .before .pre in
+    let Z = p .0 in
     let Y = Z .lined in (
       Y .shaped,
       (
         (omega (arith, Z .all-items), Z .few-rules, Z .few-codes),
-        (
-          Y .some-lines,
-          (Z .codes-room, ((Z .nul-room, Z .fst-room, Z .starts-room, Z .through-room), (Z .prepared, (refl, refl)))),
-        ),
+        (Y .some-lines, (Y .linked, ((Z .codes-room, p .1 .0), ((Z .nul-room, Z .fst-room, Z .starts-room, Z .through-room), (Z .prepared, (refl, refl)))))),
       ),
     )
 
@@ -55,13 +53,13 @@ ask-cells-requires c κs =
     let at-close-state = at-flag-moves .before .before .before .before .before in
     let start = at-close-state .before .before .before .before .before .before .before .before .before .before .before .before in
     let Z = start .pre .0 in (
-      readable-of Z (at-close-state .close-state .kept .1 .1 .1 .1 .1 .1 .1 .1 .1 .0),
+      readable-of Z (at-close-state .close-state .kept .1 .1 .1 .1 .1 .1 .1 .1 .1 .1 .0),
       (
         ready-of Z,
         (
           (omega (arith, Z .all-items, Z .few-rules, Z .few-strings), start .pre .1 .0, Z .codes-room),
           (
-            (at-close-state .close-state .kept .1 .1 .1 .1 .1 .1 .1 .1 .1 .1 .0, at-flag-moves .flag-moves .ensures .0),
+            (at-close-state .close-state .kept .1 .1 .1 .1 .1 .1 .1 .1 .1 .1 .1 .0, at-flag-moves .flag-moves .ensures .0),
             (start .pre .1 .1, refl),
           ),
         ),

@@ -18,10 +18,13 @@ close-state-requires c κs =
         (
           s,
           (
-            p .1 .1 .1 .1 .1,
+            p .0 .lined .linked,
             (
-              (p .0 .ready .nul-room, p .0 .ready .fst-room, p .1 .1 .0 .0, p .1 .1 .0 .1),
-              (p .1 .1 .1 .0, search needs),
+              (p .1 .1 .1 .1 .1, p .1 .1 .1 .1 .0),
+              (
+                (p .0 .ready .nul-room, p .0 .ready .fst-room, p .1 .1 .0 .0, p .1 .1 .0 .1),
+                (p .1 .1 .1 .0, search needs),
+              ),
             ),
           ),
         ),

@@ -22,7 +22,7 @@ close-state-requires c κs =
     let S = s .pre .0 in
     let C = s .pre .1 .0 in
     let low = s .pre .1 .1 .1 in
-    (S .shaped, ((few-of S, S .few-rules, C .few-codes), (S .some-lines, (S .codes-room, ((C .nul-room, C .fst-room, C .starts-room, C .through-room), (C .prepared, (refl, refl)))))))
+    (S .shaped, ((few-of S, S .few-rules, C .few-codes), (S .some-lines, (C .linked, ((S .codes-room, low), ((C .nul-room, C .fst-room, C .starts-room, C .through-room), (C .prepared, (refl, refl))))))))
 
 slice-aggregate-flag-moves : tie.Need-slice-aggregate-flag-moves
 slice-aggregate-flag-moves c = search needs
@@ -68,7 +68,7 @@ add-inclusions-requires c κs =
     let S = s .pre .0 in
     let C = s .pre .1 .0 in
     let low = s .pre .1 .1 .1 in
-    (sourced-of S C, (S .cells-room, (low, at-close-state .close-state .kept .1 .1 .1 .1 .1 .1 .1 .1 .1 .0, at-close-state .close-state .kept .1 .1 .1 .1 .1 .1 .1 .1 .1 .1 .0, S .codes-room, lines-room (S .some-lines .few) (s .pre .1 .1 .2))))
+    (sourced-of S C, (S .cells-room, (low, at-close-state .close-state .kept .1 .1 .1 .1 .1 .1 .1 .1 .1 .1 .0, at-close-state .close-state .kept .1 .1 .1 .1 .1 .1 .1 .1 .1 .1 .1 .0, S .codes-room, lines-room (S .some-lines .few) (s .pre .1 .1 .2))))
 
 slice-aggregate-ask-cells : tie.Need-slice-aggregate-ask-cells
 slice-aggregate-ask-cells c = search needs
@@ -93,7 +93,7 @@ ask-cells-requires c κs =
     let S = s .pre .0 in
     let C = s .pre .1 .0 in
     let low = s .pre .1 .1 .1 in
-    let kept = at-close-state .close-state .kept .1 .1 .1 .1 .1 .1 .1 .1 .1 in
+    let kept = at-close-state .close-state .kept .1 .1 .1 .1 .1 .1 .1 .1 .1 .1 in
     (readable-of S C (kept .0), (ready-of S C, ((few-items S, low, S .codes-room), ((kept .1 .0, at-flag-moves .flag-moves .ensures .0), (refl, refl)))))
 
 slice-aggregate-cells-meet : tie.Need-slice-aggregate-cells-meet

@@ -23,10 +23,7 @@ close-state-requires c κs =
       S .shaped,
       (
         (few-of S, S .few-rules, C .few-codes),
-        (
-          S .some-lines,
-          (S .codes-room, ((C .nul-room, C .fst-room, C .starts-room, C .through-room), (C .prepared, (refl, refl)))),
-        ),
+        (S .some-lines, (C .linked, ((S .codes-room, p .1 .1 .1), ((C .nul-room, C .fst-room, C .starts-room, C .through-room), (C .prepared, (refl, refl)))))),
       ),
     )
 
@@ -45,7 +42,7 @@ add-inclusions-requires c κs =
     let p = at-close-state .before .before .before .before .before .before .before .before .before .before .before .before .before .before .before .before .before .pre in
     let S = p .0 in
     let C = p .1 .0 in
-    let k = at-close-state .close-state .kept .1 .1 .1 .1 .1 .1 .1 .1 .1 in (
+    let k = at-close-state .close-state .kept .1 .1 .1 .1 .1 .1 .1 .1 .1 .1 in (
       sourced-of S C,
       (
         S .cells-room,

@@ -17,20 +17,18 @@ add-kernel-requires : tie.Need-add-kernel-requires
 add-kernel-requires c κs =
     let at-clear2 = c .before .before .before .before in
     let at-clear = at-clear2 .before .before .before .before in
-    let start = at-clear .before .before .before .before .before .before .before .before .before .before .before in
+    let start = at-clear .before .before .before .before .before .before .before .before .before .before .before .before in
     let p = start .pre in
-    let n = p .1 .1 .1 .1 .0 in (
+    let n = p .1 .1 .1 .1 .1 .0 in
+    let room = p .1 .1 .1 .1 .1 .1 .1 in (
       p .0,
       (
         p .1 .1 .0,
         (
-          (p .1 .1 .1 .0, p .1 .0 .2),
+          p .1 .1 .1 .0,
           (
-            (n .0, n .1),
-            (
-              zeroed (at-clear .clear .ensures) (start .pre .1 .1 .1 .1 .1 .1 .0),
-              zeroed (at-clear2 .clear2 .ensures) (start .pre .1 .1 .1 .1 .1 .1 .1),
-            ),
+            (p .1 .1 .1 .1 .0 .0, p .1 .0 .2, p .1 .1 .1 .1 .0 .1),
+            ((n .0, n .1), (zeroed (at-clear .clear .ensures) (room .0), zeroed (at-clear2 .clear2 .ensures) (room .1))),
           ),
         ),
       ),
@@ -40,12 +38,12 @@ close-present-requires : tie.Need-close-present-requires
 close-present-requires c κs =
     let at-add-kernel = c .before .before .before .before .before in
     let at-clear = at-add-kernel .before .before .before .before .before .before .before .before .before in
-    let start = at-clear .before .before .before .before .before .before .before .before .before .before .before in
+    let start = at-clear .before .before .before .before .before .before .before .before .before .before .before .before in
     let p = start .pre in (
       p .0,
       (
         p .1 .0 .0,
-        at-add-kernel .add-kernel .ensures .0 .long ∙ zeroed (at-clear .clear .ensures) (start .pre .1 .1 .1 .1 .1 .1 .0),
+        at-add-kernel .add-kernel .ensures .0 .long ∙ zeroed (at-clear .clear .ensures) (p .1 .1 .1 .1 .1 .1 .1 .0),
       ),
     )
 
@@ -55,9 +53,9 @@ close-follow-requires c κs =
     let at-add-kernel = at-close-present .before .before .before .before .before .before in
     let at-clear2 = at-add-kernel .before .before .before .before .before in
     let at-clear = at-clear2 .before .before .before .before in
-    let start = at-clear .before .before .before .before .before .before .before .before .before .before .before in
+    let start = at-clear .before .before .before .before .before .before .before .before .before .before .before .before in
     let p = start .pre in
-    let n = p .1 .1 .1 .1 .0 in
+    let n = p .1 .1 .1 .1 .1 .0 in
     let a = adds-marks (length (start .args .present .now)) (at-clear .clear .ensures) (at-add-kernel .add-kernel .ensures .0) in
     let w = adds-marks (length (start .args .follow .now)) (at-clear2 .clear2 .ensures) (at-add-kernel .add-kernel .ensures .1) in (
       p .0,
@@ -68,8 +66,8 @@ close-follow-requires c κs =
           (
             (
               at-close-present .close-present .kept .1 .1 .1 .0 ∙ at-add-kernel .add-kernel .ensures .0 .long
-                  ∙ zeroed (at-clear .clear .ensures) (p .1 .1 .1 .1 .1 .1 .0),
-              at-add-kernel .add-kernel .ensures .1 .long ∙ zeroed (at-clear2 .clear2 .ensures) (p .1 .1 .1 .1 .1 .1 .1),
+                  ∙ zeroed (at-clear .clear .ensures) (p .1 .1 .1 .1 .1 .1 .1 .0),
+              at-add-kernel .add-kernel .ensures .1 .long ∙ zeroed (at-clear2 .clear2 .ensures) (p .1 .1 .1 .1 .1 .1 .1 .1),
             ),
             covered _ _ _ _ _ _ _ _ _ (p .1 .0 .2) a (at-close-present .close-present .ensures) w,
           ),
@@ -89,11 +87,11 @@ returns c =
     let at-add-kernel = at-close-present .before .before .before .before .before .before in
     let at-clear2 = at-add-kernel .before .before .before .before .before in
     let at-clear = at-clear2 .before .before .before .before in
-    let start = at-clear .before .before .before .before .before .before .before .before .before .before .before in
+    let start = at-clear .before .before .before .before .before .before .before .before .before .before .before .before in
     λ g t H.
     let p = start .pre in
     holds-closure _ _ _ _ _ _ _ _ _ _ _ _ (p .0) (p .1 .1 .0 .item-low) (p .1 .0 .0) (p .1 .0 .2) g t H
-    (p .1 .1 .1 .1 .1 .0) (marks-least
+    (p .1 .1 .1 .1 .1 .1 .0) (marks-least
     (adds-marks (length (start .args .present .now)) (at-clear .clear .ensures) (at-add-kernel .add-kernel .ensures .0))
     (at-close-present .close-present .ensures))
     (marks-least

@@ -27,10 +27,7 @@ close-state-requires c κs =
       S .shaped,
       (
         (few-of S, S .few-rules, C .few-codes),
-        (
-          S .some-lines,
-          (S .codes-room, ((C .nul-room, C .fst-room, C .starts-room, C .through-room), (C .prepared, (refl, refl)))),
-        ),
+        (S .some-lines, (C .linked, ((S .codes-room, start .pre .1 .1 .2), ((C .nul-room, C .fst-room, C .starts-room, C .through-room), (C .prepared, (refl, refl)))))),
       ),
     )
 
@@ -47,7 +44,7 @@ flag-moves-requires c κs =
     let S = start .pre .0 in
     let C = start .pre .1 .0 in
     let low = start .pre .1 .1 .2 in
-    (readable-of S C (at-close-state .close-state .kept .1 .1 .1 .1 .1 .1 .1 .1 .1 .0), (low, refl))
+    (readable-of S C (at-close-state .close-state .kept .1 .1 .1 .1 .1 .1 .1 .1 .1 .1 .0), (low, refl))
 
 slice-aggregate-explain-items : tie.Need-slice-aggregate-explain-items
 slice-aggregate-explain-items c = search needs
@@ -63,7 +60,7 @@ explain-items-requires c κs =
     let S = start .pre .0 in
     let C = start .pre .1 .0 in
     let low = start .pre .1 .1 .2 in (
-      readable-of S C (at-close-state .close-state .kept .1 .1 .1 .1 .1 .1 .1 .1 .1 .0),
+      readable-of S C (at-close-state .close-state .kept .1 .1 .1 .1 .1 .1 .1 .1 .1 .1 .0),
       (
         S .cells-room,
         (
@@ -93,7 +90,7 @@ explain-asked-requires c κs =
     let S = start .pre .0 in
     let C = start .pre .1 .0 in
     let low = start .pre .1 .1 .2 in (
-      readable-of S C (at-close-state .close-state .kept .1 .1 .1 .1 .1 .1 .1 .1 .1 .0),
+      readable-of S C (at-close-state .close-state .kept .1 .1 .1 .1 .1 .1 .1 .1 .1 .1 .0),
       (
         ready-of S C,
         (
@@ -101,7 +98,7 @@ explain-asked-requires c κs =
           (
             (few-items S, low, S .codes-room),
             (
-              at-close-state .close-state .kept .1 .1 .1 .1 .1 .1 .1 .1 .1 .1 .0,
+              at-close-state .close-state .kept .1 .1 .1 .1 .1 .1 .1 .1 .1 .1 .1 .0,
               at-flag-moves .flag-moves .ensures .0,
             ),
           ),

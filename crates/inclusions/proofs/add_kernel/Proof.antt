@@ -1,5 +1,5 @@
 use Rattle.inclusions.specs.Asks.{KernelAsks}
-use Rattle.inclusions.proofs.AddingLaws.{LinesTo, lines-start, lines-more, lines-all}
+use Rattle.closure.proofs.AddingLaws.{LinesTo, lines-start, lines-more, lines-all}
 use Rattle.inclusions.proofs.AskLaws.{line-item}
 use Prim.Native.Nat.{_-_}
 use native.Mathlib.Omega.{arith}

@@ -1,5 +1,5 @@
 use Rattle.inclusions.specs.Asks.{LineAsks}
-use Rattle.inclusions.proofs.AddingLaws.{LinesTo, lines-start, lines-more, lines-all}
+use Rattle.closure.proofs.AddingLaws.{LinesTo, lines-start, lines-more, lines-all}
 use native.Mathlib.Omega.{arith}
 use borrow.Author.Needs.{needs}
 use Rattle.inclusions.proofs.add_lines.Statement.{statement}

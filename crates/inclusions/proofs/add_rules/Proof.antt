@@ -1,5 +1,5 @@
 use Rattle.inclusions.specs.Asks.{RuleAsks, RulesAsk}
-use Rattle.inclusions.proofs.AddingLaws.{Adding, adding-none, adding-then, adds-all}
+use Rattle.closure.proofs.AddingLaws.{Adding, adding-none, adding-then, adds-all}
 use Prim.Native.Nat.{ℕ, _+_, _≤_, _<_, _-_}
 use native.Mathlib.Omega.{arith}
 use borrow.Author.Tests.{not-true, not-false}
