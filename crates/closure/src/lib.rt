@@ -5,7 +5,7 @@ use symbol::CODES;
 use symbol::Symbol;
 ghost use mathlib.Core.Path.{_≡_};
 ghost use Prim.Native.Nat.{ℕ, _+_, _*_, _<_, _≤_};
-ghost use lib.ListN.{length};
+ghost use lib.ListN.{length, replicate};
 ghost use Rattle.items.specs.Layout.{Shaped};
 ghost use Rattle.fixpoint.specs.Flags.{On, Marks, Decides};
 ghost use Rattle.fixpoint.specs.Least.{Least};
@@ -304,7 +304,7 @@ fn close_follow(
     }
 }
 
-// The closure of state q: which nonterminals are expanded in it, and which codes can follow each.
+// The closure of state q: which nonterminals are expanded in it, and which codes can follow each. Both slices come as zeros.
 pub fn close_state(
     items: &[u8],
     kernels: &[u8],
@@ -326,11 +326,9 @@ pub fn close_state(
     requires { ⌜ (totals .lines * 64 ≤ length (now lookaheads)) × (q < 256) ⌝ }
     requires { ⌜ (length (now nullable) ≡ 128) × (length (now first) ≡ 8192) × (length (now starts) ≡ 8192) × (length (now through) ≡ 128) ⌝ }
     requires { ⌜ Prepared (now items) (totals .rules + 1) (totals .codes) (now nullable) (now first) (now starts) (now through) ⌝ }
-    requires { ⌜ (length (now present) ≡ 64) × (length (now follow) ≡ 4096) ⌝ }
+    requires { ⌜ (now present ≡ replicate 64 0) × (now follow ≡ replicate 4096 0) ⌝ }
     ensures { λ _. ⌜ ((g : Grammar) (t : Table) → InMemory (now (items .entry)) (now (kernels .entry)) (now (lookaheads .entry)) (totals .rules) (totals .lines) (totals .codes) g t → HoldsClosure g t (FirstBy (totals .codes) (now (nullable .entry)) (now (first .entry))) q (now (present .exit)) (now (follow .exit))) ⌝ }
 {
-    reply::clear(present);
-    reply::clear(follow);
     add_kernel(
         items,
         kernels,
