@@ -28,14 +28,17 @@ pub fn wide(x: u8) -> usize
     x as usize
 }
 
-// The step of a state on a code.
+// The step of a state on a code. The code's part of the index is taken first: it is known before the state is.
 pub fn step_at(kinds: &[u8], values: &[u8], state: u8, code: u8) -> Step
     requires { ⌜ (length (now kinds) ≡ 16640) × (length (now values) ≡ 16640) ⌝ }
     ensures { λ r. ⌜ (r .cell ≡ cellAt (now (kinds .entry)) (now (values .entry)) state code) × (r .code ≡ code) ⌝ }
 {
-    let i = wide(state) * CODES + wide(code);
-    let kind = kinds[i];
-    let value = values[i];
+    let from = wide(code);
+    let kinds_on = &kinds[from..];
+    let values_on = &values[from..];
+    let row = wide(state) * CODES;
+    let kind = kinds_on[row];
+    let value = values_on[row];
     if kind == 1 {
         return Step {
             cell: Cell::Shift(value),

@@ -1,22 +1,36 @@
 -- `walk_tables::step_at` meets its contract. Assumes nothing.
-use borrow.Author.Tests.{eq-eqb, ne-eqb}
-use mathlib.Core.Path.{refl, sym}
+use mathlib.Core.Path.{refl}
 use borrow.Author.Needs.{needs}
-use Rattle.walk_tables.specs.Memory.{cellAt}
+use Rattle.walk_tables.proofs.CellLaws.{shift-read, announce-read, pop-read, empty-read}
 use Rattle.walk_tables.proofs.step_at.Statement.{statement}
 use Rattle.walk_tables.proofs.step_at.Tie as tie
 
 wide-requires : tie.Need-wide-requires
 wide-requires c κs = search needs
 
-mul-i : tie.Need-mul-i
-mul-i c = search needs
+sub-kinds-on : tie.Need-sub-kinds-on
+sub-kinds-on c = search needs
+
+part-kinds-on-start : tie.Need-part-kinds-on-start
+part-kinds-on-start c = search needs
+
+part-kinds-on-end : tie.Need-part-kinds-on-end
+part-kinds-on-end c = search needs
+
+sub-values-on : tie.Need-sub-values-on
+sub-values-on c = search needs
+
+part-values-on-start : tie.Need-part-values-on-start
+part-values-on-start c = search needs
+
+part-values-on-end : tie.Need-part-values-on-end
+part-values-on-end c = search needs
 
 wide-requires-2 : tie.Need-wide-requires-2
 wide-requires-2 c κs = search needs
 
-add-i : tie.Need-add-i
-add-i c = search needs
+mul-row : tie.Need-mul-row
+mul-row c = search needs
 
 shared-slice-read-kind : tie.Need-shared-slice-read-kind
 shared-slice-read-kind c = search needs
@@ -25,33 +39,46 @@ shared-slice-read-value : tie.Need-shared-slice-read-value
 shared-slice-read-value c = search needs
 
 returns : tie.Need-returns
-unfolding cellAt
-returns c = let w = c .before .before .before in
-    (simp (sym (w .wide2 .ensures .0), sym (w .before .wide .ensures .0), eq-eqb _ _ (c .if1 .taken)), refl)
+returns c =
+    let at-wide2 = c .before .before .before in
+    let at-wide = at-wide2 .before .before .before in
+    let start = at-wide .before .before .before in
+    (shift-read _ _ (start .pre .0) (start .pre .1) (at-wide .wide .ensures .0) (at-wide2 .wide2 .ensures .0) (search needs) (search needs) (c .if1 .taken), refl)
 
 returns-2 : tie.Need-returns-2
-unfolding cellAt
-returns-2 c = let w = c .before .before .before .before in
-    (simp (sym (w .wide2 .ensures .0), sym (w .before .wide .ensures .0), ne-eqb _ _ (c .before .if1 .left), eq-eqb _ _ (c .if2 .taken)), refl)
+returns-2 c =
+    let at-wide2 = c .before .before .before .before in
+    let at-wide = at-wide2 .before .before .before in
+    let start = at-wide .before .before .before in
+    (announce-read _ _ (start .pre .0) (start .pre .1) (at-wide .wide .ensures .0) (at-wide2 .wide2 .ensures .0) (search needs) (search needs) (c .before .if1 .left) (c .if2 .taken), refl)
 
 returns-3 : tie.Need-returns-3
-unfolding cellAt
-returns-3 c = let w = c .before .before .before .before .before in
-    (simp (sym (w .wide2 .ensures .0), sym (w .before .wide .ensures .0), ne-eqb _ _ (c .before .before .if1 .left), ne-eqb _ _ (c .before .if2 .left), eq-eqb _ _ (c .if3 .taken)), refl)
+returns-3 c =
+    let at-wide2 = c .before .before .before .before .before in
+    let at-wide = at-wide2 .before .before .before in
+    let start = at-wide .before .before .before in
+    (pop-read _ _ (start .pre .0) (start .pre .1) (at-wide .wide .ensures .0) (at-wide2 .wide2 .ensures .0) (search needs) (search needs) (c .before .before .if1 .left) (c .before .if2 .left) (c .if3 .taken), refl)
 
 returns-4 : tie.Need-returns-4
-unfolding cellAt
-returns-4 c = let w = c .before .before .before .before .before in
-    (simp (sym (w .wide2 .ensures .0), sym (w .before .wide .ensures .0), ne-eqb _ _ (c .before .before .if1 .left), ne-eqb _ _ (c .before .if2 .left), ne-eqb _ _ (c .if3 .left)), refl)
+returns-4 c =
+    let at-wide2 = c .before .before .before .before .before in
+    let at-wide = at-wide2 .before .before .before in
+    let start = at-wide .before .before .before in
+    (empty-read _ _ (start .pre .0) (start .pre .1) (at-wide .wide .ensures .0) (at-wide2 .wide2 .ensures .0) (search needs) (search needs) (c .before .before .if1 .left) (c .before .if2 .left) (c .if3 .left), refl)
 
 pub step-at-spec : {M : Type 1} → statement M
 step-at-spec =
     tie.close
     (tie.spec
     wide-requires
-    mul-i
+    sub-kinds-on
+    part-kinds-on-start
+    part-kinds-on-end
+    sub-values-on
+    part-values-on-start
+    part-values-on-end
     wide-requires-2
-    add-i
+    mul-row
     shared-slice-read-kind
     shared-slice-read-value
     returns
