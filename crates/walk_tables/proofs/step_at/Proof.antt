@@ -1,7 +1,7 @@
 -- `walk_tables::step_at` meets its contract. Assumes nothing.
-use mathlib.Core.Path.{refl}
+use mathlib.Core.Path.{refl, _∙_}
 use borrow.Author.Needs.{needs}
-use Rattle.walk_tables.proofs.CellLaws.{shift-read, announce-read, pop-read, empty-read}
+use Rattle.walk_tables.proofs.CellLaws.{cell-read, is-shift, is-announce, is-pop, is-empty}
 use Rattle.walk_tables.proofs.step_at.Statement.{statement}
 use Rattle.walk_tables.proofs.step_at.Tie as tie
 
@@ -43,28 +43,28 @@ returns c =
     let at-wide2 = c .before .before .before in
     let at-wide = at-wide2 .before .before .before in
     let start = at-wide .before .before .before in
-    (shift-read _ _ (start .pre .0) (start .pre .1) (at-wide .wide .ensures .0) (at-wide2 .wide2 .ensures .0) (search needs) (search needs) (c .if1 .taken), refl)
+    (is-shift _ _ (c .if1 .taken) ∙ cell-read _ _ (start .pre .0) (start .pre .1) (at-wide .wide .ensures .0) (at-wide2 .wide2 .ensures .0) (search needs) (search needs), refl)
 
 returns-2 : tie.Need-returns-2
 returns-2 c =
     let at-wide2 = c .before .before .before .before in
     let at-wide = at-wide2 .before .before .before in
     let start = at-wide .before .before .before in
-    (announce-read _ _ (start .pre .0) (start .pre .1) (at-wide .wide .ensures .0) (at-wide2 .wide2 .ensures .0) (search needs) (search needs) (c .before .if1 .left) (c .if2 .taken), refl)
+    (is-announce _ _ (c .before .if1 .left) (c .if2 .taken) ∙ cell-read _ _ (start .pre .0) (start .pre .1) (at-wide .wide .ensures .0) (at-wide2 .wide2 .ensures .0) (search needs) (search needs), refl)
 
 returns-3 : tie.Need-returns-3
 returns-3 c =
     let at-wide2 = c .before .before .before .before .before in
     let at-wide = at-wide2 .before .before .before in
     let start = at-wide .before .before .before in
-    (pop-read _ _ (start .pre .0) (start .pre .1) (at-wide .wide .ensures .0) (at-wide2 .wide2 .ensures .0) (search needs) (search needs) (c .before .before .if1 .left) (c .before .if2 .left) (c .if3 .taken), refl)
+    (is-pop _ _ (c .before .before .if1 .left) (c .before .if2 .left) (c .if3 .taken) ∙ cell-read _ _ (start .pre .0) (start .pre .1) (at-wide .wide .ensures .0) (at-wide2 .wide2 .ensures .0) (search needs) (search needs), refl)
 
 returns-4 : tie.Need-returns-4
 returns-4 c =
     let at-wide2 = c .before .before .before .before .before in
     let at-wide = at-wide2 .before .before .before in
     let start = at-wide .before .before .before in
-    (empty-read _ _ (start .pre .0) (start .pre .1) (at-wide .wide .ensures .0) (at-wide2 .wide2 .ensures .0) (search needs) (search needs) (c .before .before .if1 .left) (c .before .if2 .left) (c .if3 .left), refl)
+    (is-empty _ _ (c .before .before .if1 .left) (c .before .if2 .left) (c .if3 .left) ∙ cell-read _ _ (start .pre .0) (start .pre .1) (at-wide .wide .ensures .0) (at-wide2 .wide2 .ensures .0) (search needs) (search needs), refl)
 
 pub step-at-spec : {M : Type 1} → statement M
 step-at-spec =
