@@ -4,3 +4,5 @@ pub mod NumberLaws
 pub mod FieldLaws
 pub mod ElseLaws
 pub mod OnwardLaws
+pub mod DigitsLaws
+pub mod Promise
