@@ -6,3 +6,4 @@ pub mod ElseLaws
 pub mod OnwardLaws
 pub mod DigitsLaws
 pub mod Promise
+pub mod Examples

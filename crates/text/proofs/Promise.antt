@@ -15,7 +15,6 @@ use Rattle.text.specs.declared.Class.{Class}
 use Rattle.text.specs.declared.Class.the-variants as class
 use Rattle.text.specs.declared.End.{End}
 use Rattle.text.specs.declared.End.the-variants.{Past, Missing}
-use Rattle.text.specs.declared.Field.{Field}
 use Rattle.text.specs.declared.Field.the-variants as field
 use Rattle.text.specs.Digits.{digits}
 use Rattle.text.specs.Field.{classOf, endOf, addDigit, closed, onDigit, digitsFrom, byClass, fieldOf, fieldAt}

@@ -1,7 +1,6 @@
 -- `table_lines::keeps_rising` meets its contract. Assumes nothing.
 use mathlib.Core.Path.{sym, _∙_}
 use native.Mathlib.Omega.{arith}
-use borrow.Author.Needs.{needs}
 use borrow.Author.Tests.{le-ltb, lt-ltb, not-true, not-false}
 use denote.Ref.{now}
 use Rattle.digits.specs.Exact.{exactAt}
