@@ -1,23 +1,15 @@
-/* How long reading takes: grammar books, table books and scan files of 4, 16 and 64 KiB, best of many runs.
+/* How long reading takes: grammar books of 32, 64 and 127 rules, table books and scan files of 4, 16 and 64 KiB, best of many runs.
    sh bench/run.sh read */
 #include "bench.h"
-#include <string.h>
 
 static uint8_t book[65537], items[BURAIGUE_ITEMS], tokens[BURAIGUE_TOKENS];
 
-/* rules of 15 symbols, with leading zeros up to the length asked for */
-static size_t grammar_book(size_t size) {
-    int rules = size < 8192 ? 60 : 127;
+/* rules of 15 symbols with a cut between any two */
+static size_t grammar_book(int rules) {
     size_t at = sprintf((char *)book, "G,63,1,%d,64\n", rules);
-    size_t plain = at + rules * (6 + 15 * 3 + 1), pad = (size - plain) / (rules * 15);
     for (int i = 0; i < rules; i++) {
         at += sprintf((char *)book + at, "R,64,^");
-        for (int k = 0; k < 15; k++) {
-            book[at++] = ',';
-            memset(book + at, '0', pad);
-            at += pad;
-            at += sprintf((char *)book + at, "%d", 10 + (i + k) % 50);
-        }
+        for (int k = 0; k < 15; k++) at += sprintf((char *)book + at, "%s,%d", k ? ",/" : "", 10 + (i + k) % 50);
         book[at++] = '\n';
     }
     return at;
@@ -65,8 +57,9 @@ static void measure(enum what what, size_t n) {
 }
 
 int main(void) {
+    int rules[] = {32, 64, 127};
     size_t sizes[] = {4096, 16384, 65536};
-    for (int i = 0; i < 3; i++) measure(GRAMMAR, grammar_book(sizes[i]));
+    for (int i = 0; i < 3; i++) measure(GRAMMAR, grammar_book(rules[i]));
     for (int i = 0; i < 3; i++) measure(TABLE, table_book(sizes[i]));
     for (int i = 0; i < 3; i++) measure(SCANS, scan_file(sizes[i]));
     return 0;

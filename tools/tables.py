@@ -1,4 +1,4 @@
-"""Grammar books and table books by document 01's text, apart from the proved code: readers, the construction, a checker, a builder.
+"""Grammar books and table books by the documents' text, apart from the proved code: readers, the construction, a checker, a builder.
 
 For the scripts that make cases and books to measure; slow and plain on purpose.
 """
@@ -39,6 +39,8 @@ def fields_of(line):
     out = []
     for f in line.split(b','):
         if f.isdigit():
+            if len(f) > 1 and f.startswith(b'0'):
+                return None
             out.append(int(f))
         elif len(f) == 1 and (f in b'^/' or b'A' <= f <= b'Z'):
             out.append(f.decode())

@@ -6,9 +6,9 @@
                                      build, scan, session or expected
 
 FOLDER has a folder for each case: `grammar`, `table`, `tokens` (one a line), `scans`, as its kind asks; `out_len` (the length of the slice
-lent) or `lens` (`STACK,LISTING`) where they are not 65,536 and 65,535 each; and `expected`. A session with `scans` is run both ways. A case of list_expected
-has `arg1`, `arg2` and `arg3`, the program's arguments.
-What a case must write is worked out by tables.py and sessions.py, from document 01's text and not from the proved code; where a case comes
+lent) or `lens` (`STACK,LISTING`) where they are not 65,536 and 65,535 each; and `expected`. A session with `scans` is run both ways. Or a
+case has `arg1`, `arg2` and so on, the arguments of a program, and `program`, its name, where it is another than KIND's.
+What a case must write is worked out by tables.py and sessions.py, from the documents' text and not from the proved code; where a case comes
 with `expected`, the two must agree.
 """
 import os, sys
@@ -16,6 +16,12 @@ import sessions, tables
 
 CRATE = os.path.join(os.path.dirname(os.path.abspath(__file__)), '..', 'crates', 'vectors')
 WORDS = {'1,': 1, '2,': 2, '3,': 2, '4,': 2, '5,': 5, '6,': 5, '7,': 6, '8,': 6}
+# the kind that a program's cases are of, and what its arguments are
+PROGRAMS = {
+    'read_grammar': ('grammar', ['grammar']), 'check_tables': ('check', ['grammar', 'table']), 'build_tables': ('build', ['grammar']),
+    'read_scans': ('scan', ['scans']), 'run_session': ('session', ['grammar', 'table', 'scans']),
+    'list_expected': ('expected', ['grammar', 'table', 'scans']),
+}
 # what the program lends of stack and listing for a list, where a case says 65,536
 LENT = 1048576
 
@@ -108,36 +114,40 @@ def given(kind, root):
     """The cases of a folder, their files stored: the call, its words, and what is expected."""
     for name in sorted(os.listdir(root)):
         at = os.path.join(root, name)
-        if not os.path.isdir(at):
-            continue
+        if os.path.isdir(at):
+            program = option(os.path.join(at, 'program'), '')
+            for call, words in of_kind(PROGRAMS[program][0] if program else kind, at, name):
+                yield call, words, load(at, 'expected').decode() if 'expected' in os.listdir(at) else None
 
-        def put(file, ending=''):
-            content = load(at, file)
-            if file == 'tokens':
-                content = bytes(map(int, content.split()))
-            save(content, 'data', kind, name + ending)
-            return f'{kind}/{name}{ending}'
 
-        room = option(os.path.join(at, 'out_len'), '65536') + ','
-        if kind == 'grammar':
-            cases = [('1,', [put('grammar')])]
-        elif kind == 'check':
-            cases = [('2,', [put('grammar', '.grammar'), put('table')])]
-        elif kind == 'build':
-            cases = [('3,', [put('grammar'), room])]
-        elif kind == 'scan':
-            cases = [('4,', [put('scans'), room])]
-        elif kind == 'expected':
-            files = put('arg1', '.grammar'), put('arg2', '.tables'), put('arg3', '.scans')
-            cases = [('8,', [*files, '65536,', '65536,', '64,'])]
-        else:
-            books = [put('grammar', '.grammar'), put('table', '.tables')]
-            lent = [n + ',' for n in option(os.path.join(at, 'lens'), '65535,65535').split(',')]
-            cases = [('5,', [*books, put('tokens', '.tokens'), *lent])]
-            if os.path.exists(os.path.join(at, 'scans')):
-                cases.append(('6,', [*books, put('scans', '.scans'), *lent]))
-        for call, words in cases:
-            yield call, words, load(at, 'expected').decode()
+def of_kind(kind, at, name):
+    """The calls of one case."""
+    args = next(args for k, args in PROGRAMS.values() if k == kind)
+    files = {f: f for f in os.listdir(at)}
+    if 'arg1' in files:
+        files = {file: f'arg{i + 1}' for i, file in enumerate(args)}
+
+    def put(file, ending=''):
+        content = load(at, files[file])
+        if file == 'tokens':
+            content = bytes(map(int, content.split()))
+        save(content, 'data', kind, name + ending)
+        return f'{kind}/{name}{ending}'
+
+    room = option(os.path.join(at, 'out_len'), '65536') + ','
+    if kind == 'grammar':
+        return [('1,', [put('grammar')])]
+    if kind == 'check':
+        return [('2,', [put('grammar', '.grammar'), put('table')])]
+    if kind == 'build':
+        return [('3,', [put('grammar'), room])]
+    if kind == 'scan':
+        return [('4,', [put('scans'), room])]
+    books = [put('grammar', '.grammar'), put('table', '.tables')]
+    if kind == 'expected':
+        return [('8,', [*books, put('scans', '.scans'), '65536,', '65536,', '64,'])]
+    lent = [n + ',' for n in option(os.path.join(at, 'lens'), '65535,65535').split(',')]
+    return [(call, [*books, put(file, '.' + file), *lent]) for call, file in (('5,', 'tokens'), ('6,', 'scans')) if file in files]
 
 
 def agrees(call, answer, expected):
@@ -151,7 +161,7 @@ def main():
     cases = {(call, named(words), *words): (call, words) for call, words in standing()}
     if len(sys.argv) > 1:
         for call, words, expected in given(*sys.argv[1:]):
-            if not agrees(call, written(call, words), expected):
+            if expected is not None and not agrees(call, written(call, words), expected):
                 sys.exit(f'{named(words)}: another output is expected')
             cases[(call, named(words), *words)] = call, words
     ordered = sorted(cases.values(), key=lambda case: case[0])

@@ -1,18 +1,9 @@
 -- The bytes of a table book.
-use Prim.Native.Nat.{ℕ, _+_, _/_, _%_}
+use Prim.Native.Nat.{ℕ}
 use mathlib.Core.List.{List, [], _∷_, _++_}
-use mathlib.Core.Bool.{cond}
-use lib.Dec.{ltb}
 use lib.ListN.{length}
+use Rattle.text.specs.Digits.{digits}
 use Rattle.leftcorner.specs.Table.{EntryLine, E, KernelLine, K, Action, S, N, A, P, ActionLine, L, Table}
-
--- the digit of v that p stands for, where v has it
-unfoldable pub lead : ℕ → ℕ → List ℕ
-lead p v = cond (ltb v p) [] ((48 + v / p % 10) ∷ [])
-
--- the decimal digits of a number up to 65,535
-unfoldable pub digits : ℕ → List ℕ
-digits v = lead 10000 v ++ (lead 1000 v ++ (lead 100 v ++ (lead 10 v ++ ((48 + v % 10) ∷ []))))
 
 -- fields, each after a comma, 44
 abbrev pub fields : List ℕ → List ℕ

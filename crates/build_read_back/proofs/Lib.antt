@@ -1,5 +1,4 @@
 pub mod Actions
-pub mod Digits
 pub mod Book
 pub mod Line
 pub mod Kernels

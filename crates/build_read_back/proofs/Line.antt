@@ -8,17 +8,18 @@ use borrow.Author.Tests.{leb-true}
 use lib.Dec.{leb}
 use lib.ListN.{length, drop, length-append}
 use lib.Seq.{drop-length, append-snoc, drop-drop, drop-append-seam}
-use Rattle.range.specs.Range.{within}
 use Rattle.text.specs.declared.End.the-variants.{Past}
 use Rattle.text.specs.declared.Field.the-variants as field
-use Rattle.text.specs.Field.{classOf, endOf, digitsFrom, fieldOf, fieldAt}
+use Rattle.text.specs.Digits.{digits}
+use Rattle.text.specs.Field.{endOf, fieldAt}
+use Rattle.text.specs.Promise.{ending}
 use Rattle.text.proofs.ClassLaws.{class-letter}
+use Rattle.text.proofs.Promise.{written-number}
 use Rattle.digits.specs.Exact.{exactAt}
 use Rattle.digits.proofs.CapLaws.{field-exact}
 use Rattle.table_lines.specs.Line.{whole, broken, numbersFrom, lineAt, allAtMost}
 use Rattle.table_lines.proofs.ListLaws.{both-true}
-use Rattle.build_book.specs.Text.{digits, fields, line}
-use Rattle.build_read_back.proofs.Digits.{digits-read}
+use Rattle.build_book.specs.Text.{fields, line}
 
 -- w is what s has from `at` on; so w and s give the place
 pub record Rest (s : List ℕ) (at : ℕ) (w : List ℕ) : Type 0 where
@@ -53,37 +54,30 @@ abbrev behind : List ℕ → List ℕ → List ℕ
 behind [] l = l
 behind (v ∷ vs) l = digits v ++ (fields vs ++ 10 ∷ l)
 
-abbrev separator : List ℕ → ℕ
-separator [] = 10
-separator (v ∷ vs) = 44
-
-parted : (vs l : List ℕ) → fields vs ++ 10 ∷ l ≡ separator vs ∷ behind vs l
+parted : (vs l : List ℕ) → fields vs ++ 10 ∷ l ≡ ending (over vs) ∷ behind vs l
 parted [] l = refl
 parted (v ∷ vs) l = ap (λ (z : List ℕ). 44 ∷ z) (append-assoc (digits v) (fields vs) (10 ∷ l))
 
-ends : (vs l : List ℕ) (at : ℕ) → endOf (separator vs ∷ behind vs l) at ≡ Past (record { at = at + 1; ended = over vs })
+ends : (vs l : List ℕ) (at : ℕ) → endOf (ending (over vs) ∷ behind vs l) at ≡ Past (record { at = at + 1; ended = over vs })
 unfolding endOf
 ends [] l at = refl
 ends (v ∷ vs) l at = refl
 
-number-ends : (vs l : List ℕ) (at v : ℕ) → digitsFrom (separator vs ∷ behind vs l) at v ≡ field.Number v (record { at = at + 1; ended = over vs })
-unfolding digitsFrom endOf classOf within
-number-ends [] l at v = refl
-number-ends (w ∷ vs) l at v = refl
-
 -- ---- the fields
 module _ (s : List ℕ) where
+  number-past : (v : ℕ) (vs l : List ℕ) {at : ℕ} → Rest s at (behind (v ∷ vs) l) → Rest s (at + length (digits v) + 1) (behind vs l)
+  number-past v vs l r = rest-past s (ending (over vs) ∷ []) (rest-as (parted vs l) (rest-past s (digits v) r))
+
   number-read : (v : ℕ) (vs l : List ℕ) (at : ℕ) → v ≤ 65535 → Rest s at (behind (v ∷ vs) l)
       → fieldAt s (record { at = at; ended = false }) ≡ field.Number v (record { at = at + length (digits v) + 1; ended = over vs })
-  unfolding fieldAt
   number-read v vs l at h r =
-      ap (λ (w : List ℕ). fieldOf w at) (r .bytes ∙ ap (λ (w : List ℕ). digits v ++ w) (parted vs l))
-      ∙ (digits-read v h (separator vs ∷ behind vs l) at (at + length (digits v)) refl ∙ number-ends vs l (at + length (digits v)) v)
+      written-number s _ v _ h (record {
+        going = refl;
+        bytes = r .bytes ∙ ap (λ (w : List ℕ). digits v ++ w) (parted vs l ∙ ap (λ (w : List ℕ). ending (over vs) ∷ w) (sym (number-past v vs l r .bytes)));
+        place = refl;
+      })
 
-  number-past : (v : ℕ) (vs l : List ℕ) {at : ℕ} → Rest s at (behind (v ∷ vs) l) → Rest s (at + length (digits v) + 1) (behind vs l)
-  number-past v vs l r = rest-past s (separator vs ∷ []) (rest-as (parted vs l) (rest-past s (digits v) r))
-
-  letter-read : (letter : ℕ) (vs l : List ℕ) (at : ℕ) → 65 ≤ letter → letter ≤ 90 → Rest s at (letter ∷ separator vs ∷ behind vs l)
+  letter-read : (letter : ℕ) (vs l : List ℕ) (at : ℕ) → 65 ≤ letter → letter ≤ 90 → Rest s at (letter ∷ ending (over vs) ∷ behind vs l)
       → fieldAt s (record { at = at; ended = false }) ≡ field.Letter letter (record { at = at + 1 + 1; ended = over vs })
   unfolding fieldAt
   letter-read letter vs l at a b r = simp (r .bytes, class-letter letter a b, ends vs l (at + 1))
@@ -108,7 +102,7 @@ module _ (s : List ℕ) where
   unfolding lineAt
   line-read letter vs l {at} a b h r q =
       let w = rest-as (ap (λ (z : List ℕ). letter ∷ z) (append-snoc (fields vs) 10 l ∙ parted vs l)) r in
-      let p = rest-past s (separator vs ∷ []) (rest-past s (letter ∷ []) w) in
+      let p = rest-past s (ending (over vs) ∷ []) (rest-past s (letter ∷ []) w) in
       simp (letter-read letter vs l at a b w) (numbers-read letter (length s) vs l [] (at + 1 + 1) (omega (arith, p .place)) h p q)
 
   -- there is no line at the book's end

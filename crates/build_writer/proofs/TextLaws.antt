@@ -1,5 +1,5 @@
 -- The texts of numbers and lines, and of lists of them as one text after another.
-use Prim.Native.Nat.{ℕ, _+_, _-_, _*_, _/_, _%_, _<_, _≤_}
+use Prim.Native.Nat.{ℕ, _+_, _-_, _*_, _%_, _<_, _≤_}
 use mathlib.Core.Path.{_≡_, refl, sym, ap, ap₂, _∙_}
 use mathlib.Core.List.{List, [], _∷_, _++_, map, append-assoc, append-nil}
 use mathlib.Core.Option.{Option, some, none}
@@ -11,24 +11,18 @@ use Rattle.items.specs.Layout.{lengthAt, symbolAt}
 use Rattle.fixpoint.specs.Flags.{On}
 use Rattle.build_states.specs.States.{range, keepIf, keep}
 use Rattle.build_book.specs.Built.{lineIf, actionsOn, actionsOf}
-use Rattle.build_book.specs.Text.{lead, digits, fields, line, entryText, kernelText, actionBytes, actionText}
+use Rattle.text.specs.Digits.{lead, digits}
+use Rattle.text.proofs.DigitsLaws.{lead-none}
+use Rattle.build_book.specs.Text.{fields, line, entryText, kernelText, actionBytes, actionText}
 use Rattle.build_writer.specs.MemoryTable.{symbolsIn, on?, setIn, cellIn, gotoIn, actionIn, linesIn}
 use Rattle.build_writer.proofs.SinkLaws.{texts}
 
 -- ---- numbers
 
-pub lead-none : (p v : ℕ) → v < p → [] ≡ lead p v
-unfolding lead
-lead-none p v h = simp (lt-ltb v p h)
-
-pub lead-some : (p v : ℕ) → p ≤ v → (48 + v / p % 10) ∷ [] ≡ lead p v
-unfolding lead
-lead-some p v h = simp (le-ltb v p h)
-
 -- a number of at most three digits, after a comma
 pub field-digits : (v : ℕ) → v < 1000 → 44 ∷ (lead 100 v ++ (lead 10 v ++ (48 + v % 10) ∷ [])) ≡ fields (v ∷ [])
 unfolding digits
-field-digits v h = simp (sym (lead-none 10000 v (omega arith)), sym (lead-none 1000 v (omega arith)), append-nil)
+field-digits v h = simp (lead-none 10000 v (omega arith), lead-none 1000 v (omega arith), append-nil)
 
 -- ---- fields
 

@@ -11,7 +11,8 @@ ghost use Rattle.items.specs.Layout.{Shaped};
 ghost use Rattle.memory.specs.Memory.{stateAt, itemAt, dotAt};
 ghost use Rattle.build_states.specs.States.{range};
 ghost use Rattle.build_book.specs.Built.{lineIf, actionsOf};
-ghost use Rattle.build_book.specs.Text.{lead, fields, line, entryText, kernelText, actionText};
+ghost use Rattle.text.specs.Digits.{lead};
+ghost use Rattle.build_book.specs.Text.{fields, line, entryText, kernelText, actionText};
 ghost use Rattle.build_writer.specs.MemoryTable.{symbolsIn, entryIn, setIn, codesIn, kernelIn, cellIn, gotoIn, actionIn, linesIn, memoryText, WriterRoom};
 ghost use Rattle.build_writer.specs.Sink.{Wrote, inRoom};
 

@@ -1,40 +1,28 @@
--- The number that the field reader hands over is the exact one, with 65536 for every number above 65535.
-use Prim.Native.Nat.{ℕ, _+_, _-_, _*_, min}
+-- The number that the field reader hands over is the exact one, with 65536 for every number above 65535, and has no leading zero.
+use Prim.Native.Nat.{ℕ, _+_, _-_, _*_, _≤_, min}
 use mathlib.Core.Path.{_≡_, refl, subst}
 use mathlib.Core.List.{List, [], _∷_}
 use mathlib.Core.Bool.{Bool, true, false, cond}
 use native.Mathlib.Omega.{arith}
+use borrow.Author.Tests.{eqb-false}
+use lib.Dec.{eqb}
 use lib.ListN.{drop}
 use Rattle.text.specs.declared.Cursor.{Cursor}
 use Rattle.text.specs.declared.Class.{Class}
 use Rattle.text.specs.declared.Class.the-variants as class
-use Rattle.text.specs.declared.End.{End}
-use Rattle.text.specs.declared.End.the-variants.{Past, Missing}
 use Rattle.text.specs.declared.Field.{Field}
 use Rattle.text.specs.declared.Field.the-variants as field
 use Rattle.text.specs.Field.{classOf, endOf, addDigit, closed, onDigit, digitsFrom, byClass, fieldOf, fieldAt}
+use Rattle.text.proofs.ClassLaws.{digit-range}
+use Rattle.text.proofs.NumberLaws.{OfNumber, of-any, of-closed, as-digits}
 use Rattle.digits.specs.Exact.{exactFrom, exactAt}
+use Rattle.digits.specs.Compare.{digitOf, digitAt, Leads}
 
--- what a number among fields is
-abbrev Is : ℕ → Field → Type 0
-Is n (field.Number v d) = v ≡ min n 65536
-Is n (field.Mark b d) = Unit {0}
-Is n (field.Letter b d) = Unit {0}
-Is n field.Broken = Unit {0}
+-- ---- the number
+abbrev Is : ℕ → ℕ → Cursor → Type 0
+Is n v d = v ≡ min n 65536
 
-closed-is : (n v : ℕ) → v ≡ min n 65536 → (e : End) → Is n (closed (field.Number v) e)
-closed-is n v q (Past c) = q
-closed-is n v q Missing = tt
-
-letter-is : (n b : ℕ) (e : End) → Is n (closed (field.Letter b) e)
-letter-is n b (Past c) = tt
-letter-is n b Missing = tt
-
-mark-is : (n b : ℕ) (e : End) → Is n (closed (field.Mark b) e)
-mark-is n b (Past c) = tt
-mark-is n b Missing = tt
-
-digits-are : (l : List ℕ) (at v w : ℕ) → w ≡ min v 65536 → Is (exactFrom v l) (digitsFrom l at w)
+digits-are : (l : List ℕ) (at v w : ℕ) → w ≡ min v 65536 → OfNumber (Is (exactFrom v l)) (digitsFrom l at w)
 unfolding exactFrom digitsFrom addDigit
 digits-are [] at v w q = tt
 digits-are (b ∷ l) at v w q = go (classOf b) (digits-are l (at + 1) (v * 10 + (b - 48)) (addDigit w b) (omega arith))
@@ -42,27 +30,63 @@ digits-are (b ∷ l) at v w q = go (classOf b) (digits-are l (at + 1) (v * 10 + 
     more : ℕ
     more = exactFrom (v * 10 + (b - 48)) l
 
-    go : (k : Class) → Is more (digitsFrom l (at + 1) (addDigit w b))
-        → Is (onDigit k more v) (onDigit k (digitsFrom l (at + 1) (addDigit w b)) (closed (field.Number w) (endOf (b ∷ l) at)))
-    go class.Digit h = h
-    go class.Letter h = closed-is v w q (endOf (b ∷ l) at)
-    go class.Mark h = closed-is v w q (endOf (b ∷ l) at)
-    go class.Other h = closed-is v w q (endOf (b ∷ l) at)
+    over : OfNumber (Is v) (closed (field.Number w) (endOf (b ∷ l) at))
+    over = of-closed (Is v) (field.Number w) (endOf (b ∷ l) at) (λ d e. q)
 
-field-is : (l : List ℕ) (at : ℕ) → Is (exactFrom 0 l) (fieldOf l at)
+    go : (k : Class) → OfNumber (Is more) (digitsFrom l (at + 1) (addDigit w b))
+        → OfNumber (Is (onDigit k more v)) (onDigit k (digitsFrom l (at + 1) (addDigit w b)) (closed (field.Number w) (endOf (b ∷ l) at)))
+    go class.Digit h = h
+    go class.Letter h = over
+    go class.Mark h = over
+    go class.Other h = over
+
+field-is : (l : List ℕ) (at : ℕ) → OfNumber (Is (exactFrom 0 l)) (fieldOf l at)
 field-is [] at = tt
 field-is (b ∷ l) at = go (classOf b)
   where
-    go : (k : Class) → Is (exactFrom 0 (b ∷ l)) (byClass k b l at)
-    go class.Digit = digits-are (b ∷ l) at 0 0 refl
-    go class.Letter = letter-is (exactFrom 0 (b ∷ l)) b (endOf l (at + 1))
-    go class.Mark = mark-is (exactFrom 0 (b ∷ l)) b (endOf l (at + 1))
+    go : (k : Class) → OfNumber (Is (exactFrom 0 (b ∷ l))) (byClass k b l at)
+    go class.Digit = as-digits (OfNumber (Is (exactFrom 0 (b ∷ l)))) tt at b l (digits-are (b ∷ l) at 0 0 refl)
+    go class.Letter = of-closed (Is (exactFrom 0 (b ∷ l))) (field.Letter b) (endOf l (at + 1)) (λ d e. tt)
+    go class.Mark = of-closed (Is (exactFrom 0 (b ∷ l))) (field.Mark b) (endOf l (at + 1)) (λ d e. tt)
     go class.Other = tt
 
-pub field-exact : (s : List ℕ) (c : Cursor) {v : ℕ} {d : Cursor} → fieldAt s c ≡ field.Number v d → v ≡ min (exactAt s (c .at)) 65536
-unfolding fieldAt exactAt
-field-exact s c {v} {d} e = subst (Is (exactFrom 0 (drop (c .at) s))) e (go (c .ended))
+-- ---- its first digit
+abbrev First : List ℕ → ℕ → Cursor → Type 0
+First l v d = 1 ≤ v → 1 ≤ digitOf l
+
+field-first : (l : List ℕ) (at : ℕ) → OfNumber (First l) (fieldOf l at)
+field-first [] at = tt
+field-first (b ∷ l) at = go (classOf b) refl
   where
-    go : (b : Bool) → Is (exactFrom 0 (drop (c .at) s)) (cond b field.Broken (fieldOf (drop (c .at) s) (c .at)))
-    go true = tt
-    go false = field-is (drop (c .at) s) (c .at)
+    go : (k : Class) → classOf b ≡ k → OfNumber (First (b ∷ l)) (byClass k b l at)
+    go class.Digit e = by (eqb b 48) refl
+      where
+        by : (t : Bool) → eqb b 48 ≡ t → OfNumber (First (b ∷ l)) (cond t (closed (field.Number 0) (endOf l (at + 1))) (digitsFrom (b ∷ l) at 0))
+        by true z = of-closed (First (b ∷ l)) (field.Number 0) (endOf l (at + 1)) (λ d q h. absurd (omega arith))
+        by false z =
+            let r = digit-range b e in
+            let n = eqb-false b 48 z in
+            of-any (First (b ∷ l)) (λ v d h. simp e (omega (arith, r .0, n))) (digitsFrom (b ∷ l) at 0)
+    go class.Letter e = of-closed (First (b ∷ l)) (field.Letter b) (endOf l (at + 1)) (λ d q. tt)
+    go class.Mark e = of-closed (First (b ∷ l)) (field.Mark b) (endOf l (at + 1)) (λ d q. tt)
+    go class.Other e = tt
+
+-- ---- the field at a cursor
+at-cursor : (P : Field → Type 0) → P field.Broken → (s : List ℕ) (c : Cursor) → P (fieldOf (drop (c .at) s) (c .at)) → P (fieldAt s c)
+unfolding fieldAt
+at-cursor P torn s c h = go (c .ended)
+  where
+    go : (b : Bool) → P (cond b field.Broken (fieldOf (drop (c .at) s) (c .at)))
+    go true = torn
+    go false = h
+
+module _ (s : List ℕ) (c : Cursor) {v : ℕ} {d : Cursor} (e : fieldAt s c ≡ field.Number v d) where
+  pub field-exact : v ≡ min (exactAt s (c .at)) 65536
+  unfolding exactAt
+  field-exact = subst (OfNumber (Is (exactFrom 0 (drop (c .at) s)))) e (at-cursor (OfNumber (Is (exactFrom 0 (drop (c .at) s)))) tt s c (field-is (drop (c .at) s) (c .at)))
+
+  pub field-leads : Leads s (c .at)
+  unfolding digitAt
+  field-leads h =
+      subst (OfNumber (First (drop (c .at) s))) e (at-cursor (OfNumber (First (drop (c .at) s))) tt s c (field-first (drop (c .at) s) (c .at)))
+      (omega (arith, field-exact, h))

@@ -1,6 +1,6 @@
 -- How a number goes on at the next byte.
 use Prim.Native.Nat.{ℕ, _+_, _-_, _*_, _≤_, _<_}
-use mathlib.Core.Path.{_≡_, refl, sym, ap, _∙_}
+use mathlib.Core.Path.{_≡_, refl}
 use mathlib.Core.List.{List, [], _∷_}
 use mathlib.Core.Bool.{Bool, true, false, cond, _||_}
 use native.Mathlib.Decide.{decLt}
@@ -13,9 +13,9 @@ use Rattle.text.specs.declared.Class.{Class}
 use Rattle.text.specs.declared.Class.the-variants as class
 use Rattle.text.specs.Field.{classOf, onDigit}
 use Rattle.text.proofs.Bytes.{here, past}
-use Rattle.text.proofs.ClassLaws.{class-digit}
-use Rattle.digits.specs.Exact.{exactFrom, exactAt}
-use Rattle.digits.specs.Compare.{digitOf, digitAt, Leads}
+use Rattle.text.proofs.ClassLaws.{class-digit, digit-range}
+use Rattle.digits.specs.Exact.{exactFrom}
+use Rattle.digits.specs.Compare.{digitOf, digitAt}
 
 no-digit : (b : ℕ) → (48 ≤ b → b ≤ 57 → ⊥) → {A : Type 0} (x y : A) → onDigit (classOf b) x y ≡ y
 unfolding classOf
@@ -25,13 +25,6 @@ no-digit b f x y = rw (false-within 48 b 57 f) (go (within 65 b 90) (eqb b 47 ||
     go true u = refl
     go false true = refl
     go false false = refl
-
-digit-high : (b : ℕ) → classOf b ≡ class.Digit → b ≤ 57
-digit-high b e = go (decLt 57 b)
-  where
-    go : Dec (57 < b) → b ≤ 57
-    go (yes h) = absurd (omega (arith, sym (ap (λ (k : Class). onDigit {A = ℕ} k 0 1) e) ∙ no-digit b (λ p q. omega arith) {A = ℕ} 0 1))
-    go (no f) = omega arith
 
 -- a number only grows
 pub exact-grows : (l : List ℕ) (v : ℕ) → v ≤ exactFrom v l
@@ -90,18 +83,7 @@ module _ (s : List ℕ) (i : ℕ) where
       go (b ∷ l) d = by (classOf b) refl d
         where
           by : (k : Class) → classOf b ≡ k → 10 ≤ onDigit k (b - 48) 10 → onDigit k (exactFrom (v * 10 + (b - 48)) l) v ≡ v
-          by class.Digit e d = absurd (omega (arith, d, digit-high b e))
+          by class.Digit e d = absurd (omega (arith, d, digit-range b e .1))
           by class.Letter e d = refl
           by class.Mark e d = refl
           by class.Other e d = refl
-
--- ---- leading zeros
-pub leads-on : (s : List ℕ) (i : ℕ) → digitAt s i ≡ 0 → exactAt s i ≡ exactAt s (i + 1)
-unfolding exactAt
-leads-on s i e = let z : 0 * 10 + digitAt s i ≡ 0 = omega (arith, e) in exact-more s i 0 (omega (arith, e)) ∙ ap (λ (d : ℕ). exactFrom d (drop (i + 1) s)) z
-
-pub leads-here : {s : List ℕ} {at i d : ℕ} → exactAt s at ≡ exactAt s i → d ≡ digitAt s i → (d ≡ 0 → ⊥) → Leads s at i
-leads-here {s} {at} {i} e q f = record { same = e; first = omega (arith, q, f) }
-
-pub leads-past : {s : List ℕ} {at i : ℕ} → exactAt s at ≡ exactAt s i → length s ≤ i → Leads s at i
-leads-past {s} {at} {i} e h = record { same = e; first = omega (arith, digit-past s i h) }

@@ -13,7 +13,7 @@ use lib.ListN.{drop}
 use Rattle.digits.specs.declared.Order.{Order}
 use Rattle.digits.specs.declared.Order.the-variants as order
 use Rattle.digits.specs.Exact.{exactFrom, exactAt}
-use Rattle.digits.specs.Compare.{digitAt, Leads, orderWith, isLess, endsBelow}
+use Rattle.digits.specs.Compare.{digitAt, orderWith, isLess, endsBelow}
 use Rattle.digits.proofs.Order.{the-type}
 use Rattle.digits.proofs.ExactLaws.{exact-grows, exact-more, exact-ended}
 
@@ -63,19 +63,19 @@ pub record Met (s : List ℕ) (a b i j : ℕ) (o : Order) : Type 0 where
   pub u-more : top ≤ u * 10 + digitAt s i
   pub w-more : top ≤ w * 10 + digitAt s j
 
-pub met-start : {s : List ℕ} {a b i j : ℕ} → Leads s a i → Leads s b j → Met s a b i j order.Equal
+pub met-start : {s : List ℕ} {a b : ℕ} → 1 ≤ digitAt s a → 1 ≤ digitAt s b → Met s a b a b order.Equal
 unfolding exactAt
 met-start l r = record {
   u = 0;
   w = 0;
   top = 1;
-  left-is = l .same;
-  right-is = r .same;
+  left-is = refl;
+  right-is = refl;
   compares = refl;
   u-low = omega arith;
   w-low = omega arith;
-  u-more = omega (arith, l .first);
-  w-more = omega (arith, r .first);
+  u-more = omega (arith, l);
+  w-more = omega (arith, r);
 }
 
 module _ {s : List ℕ} {a b i j : ℕ} {o : Order} (m : Met s a b i j o) {x y : ℕ} (p : x ≡ digitAt s i) (q : y ≡ digitAt s j) where

@@ -1,6 +1,5 @@
 -- Numbers compared digit by digit: what the code goes by.
 use Prim.Native.Nat.{ℕ, _-_, _≤_}
-use mathlib.Core.Path.{_≡_}
 use mathlib.Core.List.{List, [], _∷_}
 use mathlib.Core.Bool.{Bool, true, false, cond, _||_}
 use lib.Dec.{ltb}
@@ -18,10 +17,9 @@ digitOf (b ∷ l) = onDigit (classOf b) (b - 48) 10
 unfoldable pub digitAt : List ℕ → ℕ → ℕ
 digitAt s i = digitOf (drop i s)
 
--- past the leading zeros of the number at `at`
-pub record Leads (s : List ℕ) (at i : ℕ) : Type 0 where
-  pub same : exactAt s at ≡ exactAt s i
-  pub first : 1 ≤ digitAt s i
+-- the number at `at` has no leading zero
+abbrev pub Leads : List ℕ → ℕ → Type 0
+Leads s at = 1 ≤ exactAt s at → 1 ≤ digitAt s at
 
 -- with one digit more of each number
 abbrev pub orderWith : Order → ℕ → ℕ → Order

@@ -1,4 +1,4 @@
--- The whole number that digits write, however many they are. Document 01, 'Books': "A number is digits, leading zeros allowed."
+-- The whole number that digits write, however many they are. Document 01, 'Books': "A number is digits".
 use Prim.Native.Nat.{ℕ, _+_, _-_, _*_}
 use mathlib.Core.List.{List, [], _∷_}
 use lib.ListN.{drop}

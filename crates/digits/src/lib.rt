@@ -1,10 +1,10 @@
 // Numbers that stand in a book as digits, compared as the whole numbers they are, however long.
 // Inner: for the readers of table lines.
 ghost use mathlib.Core.Path.{_≡_};
-ghost use Prim.Native.Nat.{_<_};
+ghost use Prim.Native.Nat.{_≤_, _<_};
 ghost use lib.Dec.{ltb};
 ghost use Rattle.digits.specs.Exact.{exactAt};
-ghost use Rattle.digits.specs.Compare.{digitAt, Leads, orderWith, endsBelow};
+ghost use Rattle.digits.specs.Compare.{digitAt, orderWith, endsBelow};
 
 // How one number stands to another, by the digits that were read of both.
 pub enum Order {
@@ -36,20 +36,6 @@ fn digit_at(s: &[u8], i: usize) -> usize
     b - 48
 }
 
-// Past the leading zeros of the number at `at`.
-fn skip_zeros(s: &[u8], at: usize) -> usize
-    ensures { λ r. ⌜ Leads (now (s .entry)) at r ⌝ }
-{
-    let mut i = at;
-    while i < s.len() {
-        if digit_at(s, i) != 0 {
-            return i;
-        }
-        i += 1;
-    }
-    i
-}
-
 // With one digit more of each number: the first that differs decides.
 fn order_with(o: Order, x: usize, y: usize) -> Order
     ensures { λ r. ⌜ r ≡ orderWith o x y ⌝ }
@@ -79,13 +65,14 @@ fn ends_below(o: Order, y: usize) -> bool
     true
 }
 
-// Whether the number at a is below the number at b: the one with more digits after its leading zeros is larger, else
-// the first digit that differs decides.
+// Whether the number at a is below the number at b, where neither begins with 0: the one with more digits is larger,
+// else the first digit that differs decides.
 pub fn is_below(s: &[u8], a: usize, b: usize) -> bool
+    requires { ⌜ (1 ≤ digitAt (now s) a) × (1 ≤ digitAt (now s) b) ⌝ }
     ensures { λ r. ⌜ r ≡ ltb (exactAt (now (s .entry)) a) (exactAt (now (s .entry)) b) ⌝ }
 {
-    let mut i = skip_zeros(s, a);
-    let mut j = skip_zeros(s, b);
+    let mut i = a;
+    let mut j = b;
     let mut o = Order::Equal;
     loop {
         let x = digit_at(s, i);

@@ -260,6 +260,31 @@ fn is_end(b: u8) -> bool {
     b == b','
 }
 
+// Whether all from `at` up to `end` are digits.
+fn is_digits(book: &[u8], at: usize, end: usize) -> bool
+    requires { ⌜ end ≤ length (now book) ⌝ }
+{
+    let mut i = at;
+    while i < end {
+        if !in_range(48, wide(book[i]), 57) {
+            return false;
+        }
+        i += 1;
+    }
+    true
+}
+
+// The fault of a field, up to `end`, none of whose bytes is odd.
+fn print_fault(out: &mut [u8; OUTPUT], book: &[u8], at: usize, end: usize)
+    requires { ⌜ end ≤ length (now book) ⌝ }
+{
+    if is_digits(book, at, end) {
+        print_text(out, b", is a number with a leading zero\n");
+        return;
+    }
+    print_text(out, b", is no number, mark or letter\n");
+}
+
 // A field, number k, at `at`, that is no number, mark or letter with its end.
 fn explain_broken(out: &mut [u8; OUTPUT], book: &[u8], at: usize, k: usize)
     requires { ⌜ length (now book) ≤ 65536 ⌝ }
@@ -279,7 +304,7 @@ fn explain_broken(out: &mut [u8; OUTPUT], book: &[u8], at: usize, k: usize)
     }
     print_words(out, b"field #, ", k, 0, 0);
     print_part(out, book, at);
-    print_text(out, b", is no number, mark or letter\n");
+    print_fault(out, book, at, i);
 }
 
 // Lines are known by a letter: G, R for R and U, T, E, K, S for S, N, A and P, and k where K or S may stand.

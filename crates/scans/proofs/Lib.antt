@@ -1,6 +1,5 @@
 pub mod TextLaws
 pub mod RepeatLaws
-pub mod LetterLaws
 pub mod LineLaws
 pub mod ReadLaws
 pub mod OutcomeLaws

@@ -10,6 +10,7 @@ use Rattle.text.specs.declared.Cursor.{Cursor}
 use Rattle.text.specs.declared.Field.{Field}
 use Rattle.text.specs.declared.Field.the-variants as field
 use Rattle.text.specs.Field.{fieldAt, onLetter}
+use Rattle.text.proofs.OnwardLaws.{onward}
 use Rattle.scans.specs.declared.Line.{Line}
 use Rattle.scans.specs.declared.Text.{Text}
 use Rattle.scans.specs.declared.Text.the-variants as text
@@ -17,7 +18,6 @@ use Rattle.scans.specs.declared.Parsed.{Parsed}
 use Rattle.scans.specs.declared.Parsed.the-variants as parsed
 use Rattle.scans.specs.Line.{textByte, textEnd, textFrom, onText, lineAfter, lineAt}
 use Rattle.scans.specs.Token.{Within}
-use Rattle.scans.proofs.LetterLaws.{letter-further}
 
 -- of a text that was read, that its end is past `low` and not past `high`
 abbrev TextIn : ℕ → ℕ → Text → Type 0
@@ -68,7 +68,7 @@ module _ (s : List ℕ) (at : ℕ) where
   line-in e = subst (LineIn s at) e (go (fieldAt s (record { at = at; ended = false })) refl)
     where
       go : (f : Field) → fieldAt s (record { at = at; ended = false }) ≡ f → LineIn s at (onLetter f (lineAfter s at) parsed.Broken)
-      go (field.Letter b c) q = after-in b c (letter-further s _ q)
+      go (field.Letter b c) q = after-in b c (onward s _ (field.Letter b c) q .0)
       go (field.Number v c) q = tt
       go (field.Mark b c) q = tt
       go field.Broken q = tt

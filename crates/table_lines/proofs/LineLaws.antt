@@ -10,7 +10,8 @@ use Rattle.text.specs.declared.Cursor.{Cursor}
 use Rattle.text.specs.declared.Field.the-variants as field
 use Rattle.text.specs.Field.{fieldAt, onNumber, onLetter}
 use Rattle.digits.specs.Exact.{exactAt}
-use Rattle.digits.proofs.CapLaws.{field-exact}
+use Rattle.digits.specs.Compare.{Leads}
+use Rattle.digits.proofs.CapLaws.{field-exact, field-leads}
 use Rattle.items.proofs.StoreLaws.{sets-snoc}
 use Rattle.table_lines.specs.declared.Tally.{Tally}
 use Rattle.table_lines.specs.declared.Line.{Line}
@@ -27,10 +28,11 @@ pub record Going (all : TextLine) (s : List ℕ) (letter : ℕ) (m₀ : List ℕ
   pub same : all ≡ numbersFrom k s letter c numbers
   pub tally-is : p ≡ tally numbers
   pub last-is : 0 < length numbers → exactAt s prior ≡ lastFrom 0 numbers
+  pub leads : 0 < length numbers → Leads s prior
   pub stored : m ≡ sets m₀ 0 (caps numbers)
 
 pub going-start : (s : List ℕ) (letter : ℕ) (m : List ℕ) (k : ℕ) (c : Cursor) (prior : ℕ) (p : Tally) → p ≡ tally [] → Going (numbersFrom k s letter c []) s letter m k c prior p m
-going-start s letter m k c prior p e = record { numbers = []; same = refl; tally-is = e; last-is = λ h. absurd (omega arith); stored = refl }
+going-start s letter m k c prior p e = record { numbers = []; same = refl; tally-is = e; last-is = λ h. absurd (omega arith); leads = λ h. absurd (omega arith); stored = refl }
 
 abbrev pub Answers : TextLine → Line → List ℕ → List ℕ → Type 0
 Answers all r m₀ m = (r ≡ lineOf all) × Stores all m₀ m
@@ -39,12 +41,16 @@ answers : {all : TextLine} (x : TextLine) (r : Line) (m₀ m : List ℕ) → all
 answers x r m₀ m e a = subst (λ (y : TextLine). Answers y r m₀ m) (sym e) a
 
 module _ {all : TextLine} {s : List ℕ} {letter : ℕ} {m₀ : List ℕ} {k : ℕ} {c : Cursor} {prior : ℕ} {p : Tally} {m : List ℕ} (g : Going all s letter m₀ k c prior p m) where
-  -- the last number, as it is kept
+  some-number : 4 ≤ p .count → 0 < length (g .numbers)
+  some-number h = omega (arith, h, ap (λ (t : Tally). t .count) (g .tally-is) ∙ count-is (g .numbers))
+
+  -- the last number, as it is kept, and as it is written
   pub going-last : 4 ≤ p .count → p .last ≡ cap (exactAt s prior)
   unfolding tally
-  going-last h =
-      ap (λ (t : Tally). t .last) (g .tally-is)
-      ∙ (caps-last 0 (g .numbers) ∙ ap cap (sym (g .last-is (omega (arith, h, ap (λ (t : Tally). t .count) (g .tally-is) ∙ count-is (g .numbers))))))
+  going-last h = ap (λ (t : Tally). t .last) (g .tally-is) ∙ (caps-last 0 (g .numbers) ∙ ap cap (sym (g .last-is (some-number h))))
+
+  pub going-leads : 4 ≤ p .count → Leads s prior
+  going-leads h = g .leads (some-number h)
 
   pub going-none : k ≤ 0 → Answers all line.Broken m₀ m
   unfolding numbersFrom
@@ -81,6 +87,7 @@ module _ {all : TextLine} {s : List ℕ} {letter : ℕ} {m₀ : List ℕ} {k : �
           tally-is = e ∙ (ap (addNumber p v) rises ∙ (ap (λ (t : Tally). addNumber t v rise′) (g .tally-is)
               ∙ (ap (λ (x : ℕ). addNumber (tally (g .numbers)) x rise′) (field-exact s c f) ∙ tally-snoc (g .numbers) n)));
           last-is = λ l. sym (last-snoc 0 (g .numbers) n);
+          leads = λ l. field-leads s c f;
           stored = i ∙ (ap (λ (x : ℕ). set m x v) count ∙ (ap (set m (0 + length (caps (g .numbers)))) (field-exact s c f)
               ∙ (ap (λ (l : List ℕ). set l (0 + length (caps (g .numbers))) (cap n)) (g .stored)
               ∙ (sets-snoc m₀ (caps (g .numbers)) 0 (cap n) ∙ ap (sets m₀ 0) (sym (caps-snoc (g .numbers) n))))));

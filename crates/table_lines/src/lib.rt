@@ -8,6 +8,7 @@ ghost use mathlib.Core.Path.{_≡_};
 ghost use Prim.Native.Nat.{_≤_, _<_, max};
 ghost use lib.ListN.{length, set};
 ghost use Rattle.digits.specs.Exact.{exactAt};
+ghost use Rattle.digits.specs.Compare.{Leads};
 ghost use Rattle.table_lines.specs.Line.{lineAt, numbersFrom, cap, Stores};
 ghost use Rattle.table_lines.specs.Tally.{lineOf, addNumber, keepsRising, noNumber};
 
@@ -59,6 +60,7 @@ fn larger(a: usize, b: usize) -> usize
 // `prior`. Digits are compared only where both are above 65,535.
 fn keeps_rising(s: &[u8], p: Tally, prior: usize, at: usize, v: usize) -> bool
     requires { ⌜ (4 ≤ p .count → p .last ≡ cap (exactAt (now s) prior)) × (v ≡ cap (exactAt (now s) at)) ⌝ }
+    requires { ⌜ (4 ≤ p .count → Leads (now s) prior) × Leads (now s) at ⌝ }
     ensures { λ r. ⌜ r ≡ keepsRising (now (s .entry)) p prior at ⌝ }
 {
     if p.count < 4 {

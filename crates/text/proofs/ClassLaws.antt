@@ -42,12 +42,12 @@ module _ (b : ℕ) where
   unfolding classOf
   class-other f g m = simp (false-within 48 b 57 f, false-within 65 b 90 g, ne-eqb b 47 (λ e. m (inl e)), ne-eqb b 94 (λ e. m (inr e)))
 
-  pub digit-low : classOf b ≡ class.Digit → 48 ≤ b
+  pub digit-range : classOf b ≡ class.Digit → (48 ≤ b) × (b ≤ 57)
   unfolding classOf
-  digit-low e = go (within 48 b 57) (within 65 b 90) (eqb b 47 || eqb b 94) refl e
+  digit-range e = go (within 48 b 57) (within 65 b 90) (eqb b 47 || eqb b 94) refl e
     where
-      go : (t u v : Bool) → within 48 b 57 ≡ t → cond t class.Digit (cond u class.Letter (cond v class.Mark class.Other)) ≡ class.Digit → 48 ≤ b
-      go true u v p e = within-true 48 b 57 p .0
+      go : (t u v : Bool) → within 48 b 57 ≡ t → cond t class.Digit (cond u class.Letter (cond v class.Mark class.Other)) ≡ class.Digit → (48 ≤ b) × (b ≤ 57)
+      go true u v p e = within-true 48 b 57 p
       go false true v p e = let z : _≡_ {A = ℕ} 0 1 = cc in absurd (omega arith)
       go false false true p e = let z : _≡_ {A = ℕ} 0 1 = cc in absurd (omega arith)
       go false false false p e = let z : _≡_ {A = ℕ} 0 1 = cc in absurd (omega arith)

@@ -4,3 +4,6 @@ pub mod NumberLaws
 pub mod FieldLaws
 pub mod ElseLaws
 pub mod OnwardLaws
+pub mod DigitsLaws
+pub mod Promise
+pub mod Examples

@@ -15,6 +15,7 @@ use Rattle.text.specs.declared.Field.{Field}
 use Rattle.text.specs.declared.Field.the-variants as field
 use Rattle.text.specs.Field.{classOf, endOf, addDigit, closed, onDigit, digitsFrom, byClass, fieldOf, fieldAt}
 use Rattle.text.proofs.Bytes.{past}
+use Rattle.text.proofs.NumberLaws.{as-digits}
 
 -- past a, and at most z
 abbrev pub Between : ℕ → ℕ → Cursor → Type 0
@@ -53,7 +54,7 @@ module _ (a z : ℕ) where
       (closed-onward (field.Number v) (λ d h. h) (b ∷ l) at p q)
 
   class-onward : (k : Class) (b : ℕ) (l : List ℕ) (at : ℕ) → a ≤ at → at + length (b ∷ l) ≤ z → Onward a z (byClass k b l at)
-  class-onward class.Digit b l at p q = digits-onward (b ∷ l) at 0 p q
+  class-onward class.Digit b l at p q = as-digits (Onward a z) tt at b l (digits-onward (b ∷ l) at 0 p q)
   class-onward class.Letter b l at p q = closed-onward (field.Letter b) (λ d h. h) l (at + 1) (omega arith) (omega arith)
   class-onward class.Mark b l at p q = closed-onward (field.Mark b) (λ d h. h) l (at + 1) (omega arith) (omega arith)
   class-onward class.Other b l at p q = tt

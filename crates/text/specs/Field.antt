@@ -1,5 +1,6 @@
 -- What a field of a book is. Document 01, 'Books': "A book is ASCII lines, each ended by LF, its fields in fixed order parted
--- by commas, no quoting. A field is a number, a mark or a letter, never empty. A number is digits, leading zeros allowed."
+-- by commas, no quoting. A field is a number, a mark or a letter, never empty." Document 02, S-2: "A number with a leading zero is
+-- now torn; 0 alone remains good."
 use Prim.Native.Nat.{ℕ, _+_, _-_, _*_, min}
 use mathlib.Core.List.{List, [], _∷_}
 use mathlib.Core.Bool.{true, false, cond, _||_}
@@ -49,9 +50,9 @@ digitsFrom [] at v = field.Broken
 digitsFrom (b ∷ l) at v =
     onDigit (classOf b) (digitsFrom l (at + 1) (addDigit v b)) (closed (field.Number v) (endOf (b ∷ l) at))
 
--- a field that begins with b and goes on with l, by the class of b
+-- a field that begins with b and goes on with l, by the class of b; a first `0`, 48, is the whole number
 abbrev pub byClass : Class → ℕ → List ℕ → ℕ → Field
-byClass class.Digit b l at = digitsFrom (b ∷ l) at 0
+byClass class.Digit b l at = cond (eqb b 48) (closed (field.Number 0) (endOf l (at + 1))) (digitsFrom (b ∷ l) at 0)
 byClass class.Letter b l at = closed (field.Letter b) (endOf l (at + 1))
 byClass class.Mark b l at = closed (field.Mark b) (endOf l (at + 1))
 byClass class.Other b l at = field.Broken

@@ -130,7 +130,7 @@ fn digits(s: &[u8], at: usize, first: usize) -> Field
     Field::Broken
 }
 
-// The field at a cursor. Past the line's LF there is none.
+// The field at a cursor. Past the line's LF there is none. A first 0 is the whole number: a digit after it is no end.
 pub fn read_field(s: &[u8], c: Cursor) -> Field
     ensures { λ r. ⌜ r ≡ fieldAt (now (s .entry)) c ⌝ }
 {
@@ -144,7 +144,12 @@ pub fn read_field(s: &[u8], c: Cursor) -> Field
     }
     let b = s[at];
     match classify(b) {
-        Class::Digit => digits(s, at, 0),
+        Class::Digit => {
+            if b == b'0' {
+                return number(0, end_at(s, at + 1));
+            }
+            digits(s, at, 0)
+        }
         Class::Letter => letter(b, end_at(s, at + 1)),
         Class::Mark => mark(b, end_at(s, at + 1)),
         Class::Other => Field::Broken,

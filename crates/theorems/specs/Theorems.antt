@@ -11,6 +11,8 @@ use Rattle.leftcorner.specs.Table.{Table}
 use Rattle.leftcorner.specs.Claim.{_↔_}
 use Rattle.reply.specs.declared.Reply.the-variants.{Accepted}
 use Rattle.fixpoint.specs.Each.{Each}
+use Rattle.text.specs.Promise.{NumberPromise}
+use Rattle.text.proofs.Promise as text
 use Rattle.grammar.specs.Book.{accepted, grammarOf}
 use Rattle.checker.specs.Checked.{verdictOf, Accepts}
 use Rattle.checker.proofs.Exactly as checker
@@ -43,6 +45,10 @@ demand3 = session.demand3
 -- Document 02, S-1, of the call that lists what could have come: `Promise` has its sentences, one by one
 pub expected-promise : expected.Promise
 expected-promise = listed.promise
+
+-- Document 02, S-2, of every field of every book: `Promise` has its sentences, one by one
+pub number-promise : NumberPromise
+number-promise = text.number-promise
 
 -- None of them speaks of nothing: the books of document 01 are built and accepted, and its starred sessions answer what is told
 pub built : Each Built (smallest ∷ g1 ∷ g1-cut ∷ d ∷ [])

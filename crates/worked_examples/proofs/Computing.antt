@@ -20,7 +20,8 @@ use Rattle.grammar_reduction.specs.Reduced.{whole?, terminal?, derived?, produc
 use Rattle.grammar.specs.Book.{Book, accepted, rejected, rulesFrom, endOf, linesOf, bookOf, reducedOf, onAccepted, grammarOf}
 use Rattle.build_states.specs.Strings.{entryStrings, addString, addGroups, addRules}
 use Rattle.build_states.specs.States.{leave, note, noteIf}
-use Rattle.build_book.specs.Text.{tableText, digits, lead}
+use Rattle.text.specs.Digits.{digits, lead}
+use Rattle.build_book.specs.Text.{tableText}
 use Rattle.worked_examples.specs.Books.{book, Books, smallest, g1, g1-cut, d}
 use Rattle.worked_examples.proofs.Laws.{Computes}
 

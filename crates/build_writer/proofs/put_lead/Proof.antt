@@ -1,13 +1,14 @@
 -- A leading digit, where the number has it.
+use mathlib.Core.Path.{sym}
 use native.Mathlib.Omega.{arith}
 use borrow.Author.Needs.{needs}
+use Rattle.text.proofs.DigitsLaws.{lead-none, lead-some}
 use Rattle.build_writer.proofs.SinkLaws.{in-words, wrote-none}
-use Rattle.build_writer.proofs.TextLaws.{lead-none, lead-some}
 use Rattle.build_writer.proofs.put_lead.Statement.{statement}
 use Rattle.build_writer.proofs.put_lead.Tie as tie
 
 returns : tie.Need-returns
-returns c = in-words (lead-none _ _ (c .if1 .taken)) (wrote-none _ _ (omega arith))
+returns c = in-words (sym (lead-none _ _ (c .if1 .taken))) (wrote-none _ _ (omega arith))
 
 div-put : tie.Need-div-put
 div-put c = search needs
@@ -25,7 +26,7 @@ same-length : tie.Need-same-length
 same-length c = search needs
 
 returns-2 : tie.Need-returns-2
-returns-2 c = in-words (lead-some _ _ (omega arith)) (c .before .before .put .ensures)
+returns-2 c = in-words (sym (lead-some _ _ (omega arith))) (c .before .before .put .ensures)
 
 pub put-lead-spec : {M : Type 1} → statement M
 put-lead-spec =

@@ -19,7 +19,7 @@ abbrev μ-loop : tie.MeasureT-loop
 -- both digits stand in the book
 inside :
     (c : tie.After-order-with Inv-loop μ-loop)
-    → let n = length (now (c .before .before .before .before .before .before .before .before .before .args .s)) in
+    → let n = length (now (c .before .before .before .before .before .before .before .args .s)) in
     (c .before .before .before .before .before .loop .i < n) × (c .before .before .before .before .before .loop .j < n)
 inside c =
     let at-if1 = c .before .before in (
@@ -27,14 +27,8 @@ inside c =
       digit-in _ _ (at-if1 .before .digit-at2 .ensures) (c .before .if2 .left),
     )
 
-skip-zeros-requires : tie.Need-skip-zeros-requires Inv-loop μ-loop
-skip-zeros-requires c κs = search needs
-
-skip-zeros-requires-2 : tie.Need-skip-zeros-requires-2 Inv-loop μ-loop
-skip-zeros-requires-2 c κs = search needs
-
 loop-holds : tie.Need-loop-holds Inv-loop μ-loop
-loop-holds c = met-start (c .before .skip-zeros .ensures) (c .skip-zeros2 .ensures)
+loop-holds c = met-start (c .before .pre .0) (c .before .pre .1)
 
 digit-at-requires : tie.Need-digit-at-requires Inv-loop μ-loop
 digit-at-requires c κs = search needs
@@ -83,8 +77,6 @@ is-below-spec =
     (tie.spec
     Inv-loop
     μ-loop
-    skip-zeros-requires
-    skip-zeros-requires-2
     loop-holds
     digit-at-requires
     digit-at-requires-2

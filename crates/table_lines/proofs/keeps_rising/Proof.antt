@@ -1,7 +1,6 @@
 -- `table_lines::keeps_rising` meets its contract. Assumes nothing.
 use mathlib.Core.Path.{sym, _∙_}
 use native.Mathlib.Omega.{arith}
-use borrow.Author.Needs.{needs}
 use borrow.Author.Tests.{le-ltb, lt-ltb, not-true, not-false}
 use denote.Ref.{now}
 use Rattle.digits.specs.Exact.{exactAt}
@@ -17,7 +16,7 @@ returns-2 : tie.Need-returns-2
 unfolding keepsRising
 returns-2 c =
     let a = c .before .before .before .before .before .args in
-    let p = c .before .before .before .before .before .pre in
+    let p = c .before .before .before .before .before .pre .0 in
     simp (
       le-ltb _ _ (c .before .before .if1 .left),
       lt-ltb (exactAt (now (a .s)) (a .prior)) (exactAt (now (a .s)) (a .at)) (omega (arith, p .0 (c .before .before .if1 .left), p .1, c .if2 .taken)),
@@ -27,14 +26,17 @@ returns-3 : tie.Need-returns-3
 unfolding keepsRising
 returns-3 c =
     let a = c .before .before .before .before .before .before .args in
-    let p = c .before .before .before .before .before .before .pre in
+    let p = c .before .before .before .before .before .before .pre .0 in
     simp (
       le-ltb _ _ (c .before .before .before .if1 .left),
       le-ltb (exactAt (now (a .s)) (a .prior)) (exactAt (now (a .s)) (a .at)) (omega (arith, p .0 (c .before .before .before .if1 .left), p .1, c .before .if2 .left, c .if3 .taken)),
     )
 
 is-below-requires : tie.Need-is-below-requires
-is-below-requires c κs = search needs
+is-below-requires c κs =
+    let at-if1 = c .before .before .before in
+    let p = at-if1 .before .before .before .pre in
+    (p .1 .0 (at-if1 .if1 .left) (omega (arith, p .0 .0 (at-if1 .if1 .left), p .0 .1)), p .1 .1 (omega (arith, p .0 .1)))
 
 returns-4 : tie.Need-returns-4
 unfolding keepsRising

@@ -1,9 +1,9 @@
 -- `table_lines::read_numbers` meets its contract. Assumes nothing.
 use mathlib.Core.List.{[]}
 use Rattle.text.proofs.ElseLaws.{else-number}
-use Rattle.digits.proofs.CapLaws.{field-exact}
+use Rattle.digits.proofs.CapLaws.{field-exact, field-leads}
 use Rattle.table_lines.proofs.TallyLaws.{tally-none, count-add}
-use Rattle.table_lines.proofs.LineLaws.{Going, going-start, going-last, going-none, going-over, going-broken, going-on}
+use Rattle.table_lines.proofs.LineLaws.{Going, going-start, going-last, going-leads, going-none, going-over, going-broken, going-on}
 use Rattle.table_lines.specs.declared.Tally.{Tally}
 use Rattle.table_lines.specs.Line.{TextLine, numbersFrom}
 use mathlib.Core.Path.{_≡_, sym, ap, _∙_}
@@ -50,7 +50,9 @@ store-number-requires c κs = search needs
 
 keeps-rising-requires : tie.Need-keeps-rising-requires Inv-loop μ-loop
 keeps-rising-requires c κs = let r = c .before .before .before .before .before .before .before in
-    (going-last (r .before .before .before .loop .inv .2), field-exact _ _ (sym (r .read-field .ensures) ∙ c .before .before .before .before .before .v .given .1))
+    let g = r .before .before .before .loop .inv .2 in
+    let f = sym (r .read-field .ensures) ∙ c .before .before .before .before .before .v .given .1 in
+    ((going-last g, field-exact _ _ f), (going-leads g, field-leads _ _ f))
 
 add-number-requires : tie.Need-add-number-requires Inv-loop μ-loop
 add-number-requires c κs = search needs

@@ -12,7 +12,7 @@ use Rattle.text.specs.declared.Class.{Class}
 use Rattle.text.specs.declared.Field.the-variants as field
 use Rattle.text.specs.Field.{digitsFrom, closed}
 use Rattle.text.proofs.Class.{the-type}
-use Rattle.text.proofs.ClassLaws.{digit-low}
+use Rattle.text.proofs.ClassLaws.{digit-range}
 use Rattle.text.proofs.NumberLaws.{capped, one-more, no-more, none-left}
 use Rattle.text.proofs.digits.Statement.{statement}
 use Rattle.text.proofs.digits.Tie as tie
@@ -54,7 +54,7 @@ returns c =
     ∙ sym (l .inv .1)
 
 add-digit-requires : tie.Need-add-digit-requires Inv-loop μ-loop
-add-digit-requires c κs = (search needs, digit-low _ (sym (c .before .before .classify .ensures) ∙ c .enum-told .given .1))
+add-digit-requires c κs = (search needs, digit-range _ (sym (c .before .before .classify .ensures) ∙ c .enum-told .given .1) .0)
 
 add-i : tie.Need-add-i Inv-loop μ-loop
 add-i c = search needs

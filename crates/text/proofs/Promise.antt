@@ -1,0 +1,210 @@
+-- A number that is read is spelled by its digits, its digits are read as that number, and a leading zero is torn.
+use Prim.Native.Nat.{ℕ, zero, suc, _+_, _-_, _*_, _/_, _%_, _≤_}
+use mathlib.Core.Path.{_≡_, refl, sym, ap, subst, _∙_}
+use mathlib.Core.List.{List, [], _∷_, _++_}
+use mathlib.Core.Bool.{Bool, true, false, cond}
+use native.Mathlib.Decide.{decLe}
+use native.Mathlib.Omega.{arith}
+use borrow.Author.Tests.{eqb-true, eqb-false, ne-eqb}
+use lib.Dec.{eqb}
+use lib.ListN.{length, drop, length-append}
+use lib.Seq.{append-snoc, drop-drop, drop-append-seam}
+use Rattle.range.specs.Range.{within}
+use Rattle.text.specs.declared.Cursor.{Cursor}
+use Rattle.text.specs.declared.Class.{Class}
+use Rattle.text.specs.declared.Class.the-variants as class
+use Rattle.text.specs.declared.End.{End}
+use Rattle.text.specs.declared.End.the-variants.{Past, Missing}
+use Rattle.text.specs.declared.Field.the-variants as field
+use Rattle.text.specs.Digits.{digits}
+use Rattle.text.specs.Field.{classOf, endOf, addDigit, closed, onDigit, digitsFrom, byClass, fieldOf, fieldAt}
+use Rattle.text.specs.Promise.{ending, Spelled, NumberPromise}
+use Rattle.text.proofs.ClassLaws.{class-digit, digit-range}
+use Rattle.text.proofs.DigitsLaws.{digits-one, digits-more}
+use Rattle.text.proofs.NumberLaws.{OfNumber, of-number, of-closed}
+
+-- ---- bytes l at `at` that begin with w and the byte that ends a field; d is the cursor past it
+record Spells (l : List ℕ) (at : ℕ) (w : List ℕ) (d : Cursor) : Type 0 where
+  rest : List ℕ
+  bytes : l ≡ w ++ ending (d .ended) ∷ rest
+  place : d .at ≡ at + length w + 1
+
+-- after bytes w there is only the end
+spells-behind : (w : List ℕ) {l : List ℕ} {from at : ℕ} {d : Cursor} → at ≡ from + length w → Spells l at [] d → Spells (w ++ l) from w d
+spells-behind w e h = record { rest = h .rest; bytes = ap (λ (l : List ℕ). w ++ l) (h .bytes); place = omega (arith, e, h .place) }
+
+spells-as : {l m w x : List ℕ} {at : ℕ} {d : Cursor} → l ≡ m → w ≡ x → Spells l at w d → Spells m at x d
+spells-as {l} {x = x} {at} {d} e f h = subst (λ (m : List ℕ). Spells m at x d) e (subst (λ (x : List ℕ). Spells l at x d) f h)
+
+abbrev EndSpells : List ℕ → ℕ → End → Type 0
+EndSpells l at (Past d) = Spells l at [] d
+EndSpells l at Missing = Unit {0}
+
+end-spells : (l : List ℕ) (at : ℕ) {d : Cursor} → endOf l at ≡ Past d → Spells l at [] d
+unfolding endOf
+end-spells l at e = subst (EndSpells l at) e (go l)
+  where
+    go : (l : List ℕ) → EndSpells l at (endOf l at)
+    go [] = tt
+    go (b ∷ l) = by (eqb b 44) refl (eqb b 10) refl
+      where
+        by : (t : Bool) → eqb b 44 ≡ t → (u : Bool) → eqb b 10 ≡ u
+            → EndSpells (b ∷ l) at (cond t (Past (record { at = at + 1; ended = false })) (cond u (Past (record { at = at + 1; ended = true })) Missing))
+        by true p u q = record { rest = l; bytes = ap (λ (x : ℕ). x ∷ l) (eqb-true b 44 p); place = omega arith }
+        by false p true q = record { rest = l; bytes = ap (λ (x : ℕ). x ∷ l) (eqb-true b 10 q); place = omega arith }
+        by false p false q = tt
+
+-- ---- the digits of a number, of which u was read before `at`
+abbrev Grows : List ℕ → ℕ → ℕ → ℕ → Cursor → Type 0
+Grows l at u v d = (u ≤ v) × (v ≤ 65535 → (from : ℕ) → at ≡ from + length (digits u) → Spells (digits u ++ l) from (digits v) d)
+
+grown : (u b : ℕ) → 1 ≤ u * 10 + (b - 48) → (1 ≤ addDigit u b) × (addDigit u b ≤ 65536)
+unfolding addDigit
+grown u b h = (omega arith, omega arith)
+
+-- by one digit
+grows-on : (b : ℕ) (l : List ℕ) (at u : ℕ) → 1 ≤ u → u ≤ 65536 → 48 ≤ b → b ≤ 57 → (v : ℕ) (d : Cursor)
+    → Grows l (at + 1) (addDigit u b) v d → Grows (b ∷ l) at u v d
+unfolding addDigit
+grows-on b l at u some most low high v d h = (
+  omega (arith, h .0),
+  λ m from e.
+      let g : digits (addDigit u b) ≡ digits u ++ b ∷ [] = digits-more u b (addDigit u b) some (omega (arith, h .0)) low high (omega (arith, h .0)) in
+      spells-as (ap (λ (w : List ℕ). w ++ l) g ∙ append-snoc (digits u) b l) refl
+      (h .1 m from (omega (arith, e, ap length g, length-append (digits u) (b ∷ [])))),
+)
+
+digits-grow : (l : List ℕ) (at u : ℕ) → 1 ≤ u → u ≤ 65536 → OfNumber (Grows l at u) (digitsFrom l at u)
+unfolding digitsFrom
+digits-grow [] at u some most = tt
+digits-grow (b ∷ l) at u some most = go (classOf b) refl (λ p q. digits-grow l (at + 1) (addDigit u b) p q)
+  where
+    over : OfNumber (Grows (b ∷ l) at u) (closed (field.Number u) (endOf (b ∷ l) at))
+    over = of-closed (Grows (b ∷ l) at u) (field.Number u) (endOf (b ∷ l) at) (λ d h. (omega arith, λ m from e. spells-behind (digits u) e (end-spells (b ∷ l) at h)))
+
+    go : (k : Class) → classOf b ≡ k
+        → (1 ≤ addDigit u b → addDigit u b ≤ 65536 → OfNumber (Grows l (at + 1) (addDigit u b)) (digitsFrom l (at + 1) (addDigit u b)))
+        → OfNumber (Grows (b ∷ l) at u) (onDigit k (digitsFrom l (at + 1) (addDigit u b)) (closed (field.Number u) (endOf (b ∷ l) at)))
+    go class.Digit e h =
+        let r = digit-range b e in
+        let g = grown u b (omega arith) in
+        of-number (grows-on b l at u some most (r .0) (r .1)) (digitsFrom l (at + 1) (addDigit u b)) (h (g .0) (g .1))
+    go class.Letter e h = over
+    go class.Mark e h = over
+    go class.Other e h = over
+
+-- ---- a field
+abbrev Written : List ℕ → ℕ → ℕ → Cursor → Type 0
+Written l at v d = v ≤ 65535 → Spells l at (digits v) d
+
+-- a first digit that is not 0
+first-digit : (b : ℕ) (l : List ℕ) (at : ℕ) → 48 ≤ b → b ≤ 57 → (v : ℕ) (d : Cursor) → Grows l (at + 1) (addDigit 0 b) v d → Written (b ∷ l) at v d
+unfolding addDigit
+first-digit b l at low high v d h m =
+    let g : digits (addDigit 0 b) ≡ b ∷ [] = digits-one (addDigit 0 b) (omega arith) ∙ ap (λ (x : ℕ). x ∷ []) (omega arith) in
+    spells-as (ap (λ (w : List ℕ). w ++ l) g) refl (h .1 m at (omega (arith, ap length g)))
+
+class-written : (k : Class) (b : ℕ) (l : List ℕ) (at : ℕ) → classOf b ≡ k → OfNumber (Written (b ∷ l) at) (byClass k b l at)
+unfolding digitsFrom
+class-written class.Digit b l at k = go (eqb b 48) refl
+  where
+    go : (t : Bool) → eqb b 48 ≡ t → OfNumber (Written (b ∷ l) at) (cond t (closed (field.Number 0) (endOf l (at + 1))) (digitsFrom (b ∷ l) at 0))
+    go true e =
+        of-closed (Written (b ∷ l) at) (field.Number 0) (endOf l (at + 1))
+        (λ d h m. spells-as refl (ap (λ (x : ℕ). x ∷ []) (eqb-true b 48 e) ∙ sym (digits-one 0 (omega arith))) (spells-behind (b ∷ []) (omega arith) (end-spells l (at + 1) h)))
+    go false e =
+        let r = digit-range b k in
+        let z = eqb-false b 48 e in
+        let g = grown 0 b (omega (arith, r .0, z)) in
+        simp k (of-number (first-digit b l at (r .0) (r .1)) (digitsFrom l (at + 1) (addDigit 0 b)) (digits-grow l (at + 1) (addDigit 0 b) (g .0) (g .1)))
+class-written class.Letter b l at k = of-closed (Written (b ∷ l) at) (field.Letter b) (endOf l (at + 1)) (λ d h. tt)
+class-written class.Mark b l at k = of-closed (Written (b ∷ l) at) (field.Mark b) (endOf l (at + 1)) (λ d h. tt)
+class-written class.Other b l at k = tt
+
+field-written : (l : List ℕ) (at : ℕ) → OfNumber (Written l at) (fieldOf l at)
+field-written [] at = tt
+field-written (b ∷ l) at = class-written (classOf b) b l at refl
+
+-- ---- digits are read as their number
+module _ (l : List ℕ) where
+  digit-on : (b n v w : ℕ) → 48 ≤ b → b ≤ 57 → w ≤ 65535 → w ≡ v * 10 + (b - 48) → digitsFrom (b ∷ l) n v ≡ digitsFrom l (n + 1) w
+  unfolding digitsFrom addDigit
+  digit-on b n v w low high m e = simp (class-digit b low high) (ap (digitsFrom l (n + 1)) (omega arith))
+
+  one-digit : (at v : ℕ) → 1 ≤ v → v ≤ 9 → fieldOf ((48 + v) ∷ l) at ≡ digitsFrom l (at + 1) v
+  one-digit at v some few = simp (class-digit (48 + v) (omega arith) (omega arith), ne-eqb (48 + v) 48 (λ e. omega arith)) (digit-on (48 + v) at 0 v (omega arith) (omega arith) (omega arith) (omega arith))
+
+-- by induction over v / 10; k bounds it
+digits-read : (k v : ℕ) → v ≤ k → 1 ≤ v → v ≤ 65535 → (l : List ℕ) (at : ℕ) → fieldOf (digits v ++ l) at ≡ digitsFrom l (at + length (digits v)) v
+digits-read zero v h some m l at = absurd (omega arith)
+digits-read (suc k) v h some m l at = go (decLe v 9) (λ n. digits-read k (v / 10) (omega arith) (omega arith) (omega arith) ((48 + v % 10) ∷ l) at)
+  where
+    go : Dec (v ≤ 9) → (10 ≤ v → fieldOf (digits (v / 10) ++ (48 + v % 10) ∷ l) at ≡ digitsFrom ((48 + v % 10) ∷ l) (at + length (digits (v / 10))) (v / 10))
+        → fieldOf (digits v ++ l) at ≡ digitsFrom l (at + length (digits v)) v
+    go (yes n) r = rw (digits-one v n) (one-digit l at v some n)
+    go (no n) r =
+        let e = digits-more (v / 10) (48 + v % 10) v (omega arith) (omega arith) (omega arith) (omega arith) (omega arith) in
+        ap (λ (w : List ℕ). fieldOf w at) (ap (λ (w : List ℕ). w ++ l) e ∙ append-snoc (digits (v / 10)) (48 + v % 10) l)
+        ∙ (r (omega arith)
+        ∙ (digit-on l (48 + v % 10) (at + length (digits (v / 10))) (v / 10) v (omega arith) (omega arith) m (omega arith)
+        ∙ ap (λ (n : ℕ). digitsFrom l n v) (omega (arith, ap length e, length-append (digits (v / 10)) ((48 + v % 10) ∷ [])))))
+
+-- and the byte that ends the field
+number-ends : (t : Bool) (l : List ℕ) (at v : ℕ) → digitsFrom (ending t ∷ l) at v ≡ field.Number v (record { at = at + 1; ended = t })
+unfolding digitsFrom endOf classOf within
+number-ends true l at v = refl
+number-ends false l at v = refl
+
+zero-ends : (t : Bool) (l : List ℕ) (at : ℕ) → fieldOf (digits 0 ++ ending t ∷ l) at ≡ field.Number 0 (record { at = at + length (digits 0) + 1; ended = t })
+unfolding endOf classOf within
+zero-ends true l at = rw (digits-one 0 (omega arith)) refl
+zero-ends false l at = rw (digits-one 0 (omega arith)) refl
+
+number-at : (v : ℕ) → v ≤ 65535 → (t : Bool) (l : List ℕ) (at : ℕ) → fieldOf (digits v ++ ending t ∷ l) at ≡ field.Number v (record { at = at + length (digits v) + 1; ended = t })
+number-at zero m t l at = zero-ends t l at
+number-at (suc v) m t l at = digits-read (suc v) (suc v) (omega arith) (omega arith) m (ending t ∷ l) at ∙ number-ends t l (at + length (digits (suc v))) (suc v)
+
+-- ---- a digit after a first 0
+zero-torn : (b : ℕ) (l : List ℕ) (at : ℕ) → classOf b ≡ class.Digit → fieldOf (48 ∷ b ∷ l) at ≡ field.Broken
+unfolding classOf within endOf
+zero-torn b l at e = let r = digit-range b e in simp (ne-eqb b 44 (λ q. omega (arith, r .0)), ne-eqb b 10 (λ q. omega (arith, r .0)))
+
+-- ---- the field at a cursor
+module _ (s : List ℕ) (c : Cursor) where
+  spelled : {w : List ℕ} {d : Cursor} → c .ended ≡ false → Spells (drop (c .at) s) (c .at) w d → Spelled s c w d
+  spelled {w} {d} e h = record { going = e; bytes = h .bytes ∙ ap (λ (l : List ℕ). w ++ ending (d .ended) ∷ l) (sym past); place = h .place }
+    where
+      past : drop (d .at) s ≡ h .rest
+      past =
+          ap (λ (n : ℕ). drop n s) (h .place)
+          ∙ (sym (drop-drop 1 (c .at + length w) s) ∙ (ap (drop 1) (sym (drop-drop (length w) (c .at) s) ∙ (ap (drop (length w)) (h .bytes) ∙ drop-append-seam w _))))
+
+  pub number-written : (v : ℕ) (d : Cursor) → v ≤ 65535 → fieldAt s c ≡ field.Number v d → Spelled s c (digits v) d
+  unfolding fieldAt
+  number-written v d m e = subst (OfNumber (λ v d. v ≤ 65535 → Spelled s c (digits v) d)) e (go (c .ended) refl) m
+    where
+      go : (t : Bool) → c .ended ≡ t → OfNumber (λ v d. v ≤ 65535 → Spelled s c (digits v) d) (cond t field.Broken (fieldOf (drop (c .at) s) (c .at)))
+      go true e = tt
+      go false e = of-number (λ v d h m. spelled e (h m)) (fieldOf (drop (c .at) s) (c .at)) (field-written (drop (c .at) s) (c .at))
+
+  pub written-number : (v : ℕ) (d : Cursor) → v ≤ 65535 → Spelled s c (digits v) d → fieldAt s c ≡ field.Number v d
+  unfolding fieldAt
+  written-number v d m h =
+      simp (h .going)
+      (ap (λ (l : List ℕ). fieldOf l (c .at)) (h .bytes)
+      ∙ (number-at v m (d .ended) (drop (d .at) s) (c .at) ∙ ap (λ (n : ℕ). field.Number v (record { at = n; ended = d .ended })) (sym (h .place))))
+
+  leading-zero : (b : ℕ) (l : List ℕ) → drop (c .at) s ≡ 48 ∷ b ∷ l → classOf b ≡ class.Digit → fieldAt s c ≡ field.Broken
+  unfolding fieldAt
+  leading-zero b l e k = go (c .ended)
+    where
+      go : (t : Bool) → cond t field.Broken (fieldOf (drop (c .at) s) (c .at)) ≡ field.Broken
+      go true = refl
+      go false = ap (λ (w : List ℕ). fieldOf w (c .at)) e ∙ zero-torn b l (c .at) k
+
+pub number-promise : NumberPromise
+number-promise s c = record {
+  number-written = number-written s c;
+  written-number = written-number s c;
+  leading-zero = leading-zero s c;
+}
