@@ -6,9 +6,9 @@ use Rattle.fixpoint.proofs.PassLaws.{no-gap, from-more}
 use Rattle.fixpoint.proofs.MissLaws.{misses-at, misses-none}
 use mathlib.Core.Path.{_≡_, sym, _∙_}
 use lib.ListN.{getD}
-use Rattle.cells.specs.Contents.{demandAt}
-use Rattle.cells.proofs.find_cell.Statement.{statement}
-use Rattle.cells.proofs.find_cell.Tie as tie
+use Rattle.check_cells.specs.Contents.{demandAt}
+use Rattle.check_cells.proofs.find_cell.Statement.{statement}
+use Rattle.check_cells.proofs.find_cell.Tie as tie
 
 abbrev Inv-loop : tie.InvT-loop
 Inv-loop asked kinds values codes q c₀ c = (0 ≤ c) × (c ≤ codes) × ((j : ℕ) → 0 ≤ j → j < c → getD asked j 0 ≡ demandAt kinds values q j)

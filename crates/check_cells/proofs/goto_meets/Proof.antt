@@ -1,7 +1,7 @@
 use borrow.Author.Needs.{needs}
 use Rattle.fixpoint.proofs.PassLaws.{is-yes, is-no, set-on}
-use Rattle.cells.proofs.goto_meets.Statement.{statement}
-use Rattle.cells.proofs.goto_meets.Tie as tie
+use Rattle.check_cells.proofs.goto_meets.Statement.{statement}
+use Rattle.check_cells.proofs.goto_meets.Tie as tie
 
 add-if1 : tie.Need-add-if1
 add-if1 c = search needs

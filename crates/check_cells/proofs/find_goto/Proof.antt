@@ -5,9 +5,9 @@ use borrow.Author.Tests.{not-true, not-false}
 use borrow.Author.Needs.{needs}
 use Rattle.fixpoint.proofs.PassLaws.{no-gap, from-more}
 use Rattle.fixpoint.proofs.MissLaws.{misses-at, misses-none}
-use Rattle.cells.specs.Contents.{GotoMeets}
-use Rattle.cells.proofs.find_goto.Statement.{statement}
-use Rattle.cells.proofs.find_goto.Tie as tie
+use Rattle.check_cells.specs.Contents.{GotoMeets}
+use Rattle.check_cells.proofs.find_goto.Statement.{statement}
+use Rattle.check_cells.proofs.find_goto.Tie as tie
 
 abbrev Inv-loop : tie.InvT-loop
 Inv-loop moves gotos q b₀ b = (0 ≤ b) × (b ≤ 64) × ((j : ℕ) → 0 ≤ j → j < b → GotoMeets moves gotos q j)

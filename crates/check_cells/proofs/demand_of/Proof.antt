@@ -1,8 +1,8 @@
-use Rattle.cells.proofs.ContentLaws.{demand-none, demand-shift, demand-other}
+use Rattle.check_cells.proofs.ContentLaws.{demand-none, demand-shift, demand-other}
 use mathlib.Core.Path.{sym, _∙_}
 use borrow.Author.Needs.{needs}
-use Rattle.cells.proofs.demand_of.Statement.{statement}
-use Rattle.cells.proofs.demand_of.Tie as tie
+use Rattle.check_cells.proofs.demand_of.Statement.{statement}
+use Rattle.check_cells.proofs.demand_of.Tie as tie
 
 mul-wide : tie.Need-mul-wide
 mul-wide c = search needs

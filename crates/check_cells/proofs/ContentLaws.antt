@@ -26,9 +26,9 @@ use Rattle.moves.specs.Moves.{nextAt}
 use Rattle.moves.specs.Flags.{HoldsMoves}
 use Rattle.moves.proofs.MoveLaws.{next-goto}
 use Rattle.moves.proofs.NextLaws.{next-line, line-next}
 use Rattle.cells.specs.Demands.{demandOf, HoldsAsked}
-use Rattle.cells.specs.Contents.{demandAt, GotoMeets}
 use Rattle.cells.proofs.AskedLaws.{Askable, a-shift, an-announce, a-pop, pop-value, same-action, some-demand, askable, asked-low}
+use Rattle.check_cells.specs.Contents.{demandAt, GotoMeets}
 
 -- ---- one cell
 

@@ -1,9 +1,9 @@
 use native.Mathlib.Omega.{arith}
 use borrow.Author.Needs.{needs}
 use Rattle.fixpoint.proofs.PassLaws.{is-yes, is-no}
-use Rattle.cells.proofs.ContentLaws.{refutes-cell, refutes-goto, cells-meets}
-use Rattle.cells.proofs.cells_meet.Statement.{statement}
-use Rattle.cells.proofs.cells_meet.Tie as tie
+use Rattle.check_cells.proofs.ContentLaws.{refutes-cell, refutes-goto, cells-meets}
+use Rattle.check_cells.proofs.cells_meet.Statement.{statement}
+use Rattle.check_cells.proofs.cells_meet.Tie as tie
 
 find-cell-requires : tie.Need-find-cell-requires
 find-cell-requires c κs = search needs
