@@ -30,13 +30,15 @@ use Rattle.checker.proofs.Exactly.{accepts, accepted-sound, exactly}
 use Rattle.walker.specs.Walked.{answer}
 use Rattle.session.specs.Session.{Session, session, endedBy}
 use Rattle.session.proofs.SessionLaws.{session-walks}
-use Rattle.expected.specs.declared.Trial.{Trial}
-use Rattle.expected.specs.declared.Trial.the-variants.{Fits, Misfit, Outgrown}
-use Rattle.expected.specs.Expected.{Expected, asTokens, trialOf, Tried, lacking, fitting, tried, shortAt, listedAt, answeredAt, onReply, listFor, expected}
-use Rattle.expected.specs.Promise.{CouldCome, ListOf, EndsAt, Lists, TrialOutgrows, ListOutgrows, Promised, HandsOn, Promise}
-use Rattle.expected.proofs.TrialLaws.{Says, says-fits, says-misfit, says-outgrown, trial-says, never-outgrown}
-use Rattle.expected.proofs.TriedLaws.{Fitting, Sorted, sorted}
-use Rattle.expected.proofs.PlaceLaws.{on-ends, on-others, begun, endOf, enough-ends}
+use Rattle.expected_trials.specs.declared.Trial.{Trial}
+use Rattle.expected_trials.specs.declared.Trial.the-variants.{Fits, Misfit, Outgrown}
+use Rattle.expected_trials.specs.Trials.{Expected, asTokens, trialOf, Tried, lacking, fitting, tried, shortAt, listedAt, answeredAt}
+use Rattle.expected.specs.Expected.{EndsAt, onReply, listFor, expected}
+use Rattle.expected.proofs.PlaceLaws.{on-ends, on-others}
+use Rattle.expected_promise.specs.Promise.{CouldCome, ListOf, Lists, TrialOutgrows, ListOutgrows, Promised, HandsOn, Promise}
+use Rattle.expected_promise.proofs.TrialLaws.{Says, says-fits, says-misfit, says-outgrown, trial-says, never-outgrown}
+use Rattle.expected_promise.proofs.TriedLaws.{Fitting, Sorted, sorted}
+use Rattle.expected_promise.proofs.EndLaws.{begun, endOf, enough-ends}
 
 hands-on : HandsOn
 unfolding expected

@@ -1,5 +1,5 @@
--- S-1 of document 02, "What could have come", for the call `list_expected`, which answers what `expected` says (Expected.antt), for
--- all bytes and lengths: for any two books to which the checker replies 0, any list of 0 to 65,535 tokens, each 1 to t, and any slices.
+-- S-1 of document 02, "What could have come", for the call `list_expected`, which answers what `expected` says (expected/specs/Expected.antt),
+-- for all bytes and lengths: for any two books to which the checker replies 0, any list of 0 to 65,535 tokens, each 1 to t, and any slices.
 use Prim.Native.Nat.{ℕ, zero, suc, _≤_, _<_}
 use mathlib.Core.Path.{_≡_}
 use mathlib.Core.Logic.{_⊎_}
@@ -10,15 +10,14 @@ use Rattle.language.specs.Rising.{RisingFrom}
 use Rattle.language.specs.Sentence.{In, Sentence, BeginsSentence}
 use Rattle.leftcorner.specs.Table.{Table, automaton}
 use Rattle.leftcorner.specs.Claim.{_↔_, Outgrows}
-use Rattle.reply.specs.Reply.{kindNumber, numberOf, placeOf}
+use Rattle.reply.specs.Reply.{kindNumber}
 use Rattle.reply.specs.declared.Refusal.{Refusal}
 use Rattle.reply.specs.declared.Reply.the-variants as reply
 use Rattle.checker.specs.Checked.{verdictOf, Accepts}
-use Rattle.walker.specs.declared.Walked.{Walked}
 use Rattle.walker.specs.declared.Walked.the-variants.{Refused}
-use Rattle.walker.specs.Walked.{asReply}
 use Rattle.session.specs.Session.{session}
-use Rattle.expected.specs.Expected.{Expected, asTokens, refusedBy, shortAt, listedAt, expected}
+use Rattle.expected_trials.specs.Trials.{Expected, asTokens, refusedBy, shortAt, listedAt}
+use Rattle.expected.specs.Expected.{EndsAt, expected}
 
 module _ (g : Grammar) where
   -- "every terminal which, put after the first p tokens, begins a sentence, and 0 [..] if those tokens are a sentence already"
@@ -31,10 +30,6 @@ module _ (g : Grammar) where
     pub exact : (c : ℕ) → In c l ↔ CouldCome u c
     pub rising : RisingFrom 0 l
     pub some : 1 ≤ length l
-
--- "tokens whose reply is 0 or 12 at place p"
-abbrev pub EndsAt : Walked → ℕ → Type 0
-EndsAt r p = ((numberOf (asReply r) ≡ 0) ⊎ (numberOf (asReply r) ≡ 12)) × (placeOf (asReply r) ≡ p)
 
 -- what is promised of one list of tokens, over books of g and t
 module _ (gs s : List ℕ) (g : Grammar) (t : Table) (w : List ℕ) where

@@ -19,10 +19,10 @@ use Rattle.leftcorner.proofs.Place.{begins-take, not-sentence}
 use Rattle.leftcorner.proofs.Progress.{PopsSome}
 use Rattle.leftcorner.proofs.ReadOff.{clash}
 use Rattle.leftcorner.proofs.Resume.{outgrows-within}
-use Rattle.expected.specs.declared.Trial.{Trial}
-use Rattle.expected.specs.declared.Trial.the-variants.{Fits, Misfit, Outgrown}
-use Rattle.expected.specs.Expected.{asTokens, trialOf}
-use Rattle.expected.specs.Promise.{CouldCome}
+use Rattle.expected_trials.specs.declared.Trial.{Trial}
+use Rattle.expected_trials.specs.declared.Trial.the-variants.{Fits, Misfit, Outgrown}
+use Rattle.expected_trials.specs.Trials.{asTokens, trialOf}
+use Rattle.expected_promise.specs.Promise.{CouldCome}
 
 -- a trial says that A holds, that it does not, or that the walk outgrows what is lent with at most p tokens taken
 pub data Says (g : Grammar) (m : Automaton) (n k p : ℕ) (v : List ℕ) (A : Type 0) : Trial → Type 0 where

@@ -4,9 +4,9 @@ use Prim.Native.Nat.{ℕ, suc, _+_, _-_, _≤_, _<_}
 use native.Mathlib.Omega.{arith}
 use lib.ListN.{length, take, set, length-set}
 use borrow.Author.Needs.{needs}
-use Rattle.expected.proofs.CodeLaws.{trials, told-is, Noting, noting-start, noting-misfit, noting-fits, noting-outgrown, noting-full, noting-end, short-told}
-use Rattle.expected.proofs.try_codes.Statement.{statement}
-use Rattle.expected.proofs.try_codes.Tie as tie
+use Rattle.expected_trials.proofs.CodeLaws.{trials, told-is, Noting, noting-start, noting-misfit, noting-fits, noting-outgrown, noting-full, noting-end, short-told}
+use Rattle.expected_trials.proofs.try_codes.Statement.{statement}
+use Rattle.expected_trials.proofs.try_codes.Tie as tie
 
 abbrev Inv-loop : tie.InvT-loop
 Inv-loop kinds values gotos rows machine trial₀ place stack₀ listing₀ codes₀ count₀ next₀ left₀ trial stack listing codes count next left =

@@ -5,8 +5,8 @@ use mathlib.Core.Path.{_≡_, refl, sym, ap, subst, _∙_}
 use mathlib.Core.Bool.{Bool, cond}
 use mathlib.Core.List.{List, [], _∷_, _++_, append-nil, append-assoc}
 use borrow.Author.Tests.{le-leb, lt-leb, lt-ltb, le-ltb}
-use lib.ListN.{length, getD, take, set, replicate, length-append}
-use lib.Seq.{take-suc, take-suc-set}
+use lib.ListN.{length, take, set, replicate, length-append}
+use lib.Seq.{take-suc-set}
 use Rattle.language.specs.Grammar.{Grammar}
 use Rattle.leftcorner.specs.Machine.{Verdict, whole-at, wrong-at, short-at}
 use Rattle.leftcorner.proofs.ReadOff.{clash}
@@ -16,11 +16,11 @@ use Rattle.walker.specs.declared.Walked.{Walked}
 use Rattle.walker.specs.declared.Walked.the-variants as walked
 use Rattle.walker.specs.Walked.{memoryWalk, answer, padded}
 use Rattle.machine.specs.declared.Machine.{Machine}
-use Rattle.expected.specs.declared.Trial.{Trial}
-use Rattle.expected.specs.declared.Trial.the-variants.{Fits, Misfit, Outgrown}
-use Rattle.expected.specs.declared.ExpectedReply.{ExpectedReply}
-use Rattle.expected.specs.declared.ExpectedReply.the-variants.{Listed}
-use Rattle.expected.specs.Expected.{Expected, asTokens, trialOf, Tried, lacking, fitting, noted, tried, shortAt, listedAt, answeredAt, ListTold}
+use Rattle.expected_trials.specs.declared.Trial.{Trial}
+use Rattle.expected_trials.specs.declared.Trial.the-variants.{Fits, Misfit, Outgrown}
+use Rattle.expected_trials.specs.declared.ExpectedReply.{ExpectedReply}
+use Rattle.expected_trials.specs.declared.ExpectedReply.the-variants.{Listed}
+use Rattle.expected_trials.specs.Trials.{Expected, asTokens, trialOf, Tried, lacking, fitting, noted, tried, shortAt, listedAt, answeredAt, ListTold}
 
 -- ---- a trial, by how its walk was answered
 module _ (g : Grammar) (p : ℕ) where
@@ -62,13 +62,6 @@ module _ (l : List ℕ) (p : ℕ) where
   pub code-behind : (c : ℕ) → (c ≡ 0 → ⊥) → p < length l → take (p + 1) (set l p c) ≡ take p l ++ asTokens c
   code-behind zero some h = absurd (some refl)
   code-behind (suc a) some h = ap (λ (i : ℕ). take i (set l p (suc a))) (let z : p + 1 ≡ suc p = omega arith in z) ∙ take-suc-set l p (suc a) h
-
--- one token more is copied
-pub copied-more : (l out : List ℕ) (i : ℕ) → i < length l → i < length out → take i out ≡ take i l → take (i + 1) (set out i (getD l i 0)) ≡ take (i + 1) l
-copied-more l out i h k e =
-    let z : i + 1 ≡ suc i = omega arith in
-    ap (λ (j : ℕ). take j (set out i (getD l i 0))) z ∙ take-suc-set out i (getD l i 0) k ∙ ap (λ (m : List ℕ). m ++ getD l i 0 ∷ []) e
-    ∙ sym (take-suc l i 0 h) ∙ ap (λ (j : ℕ). take j l) (sym z)
 
 -- ---- the trials that the code makes, after tokens u
 

@@ -11,17 +11,9 @@ use Rattle.language.specs.Sentence.{In, here, there}
 use Rattle.language.proofs.Member.{in-cons}
 use Rattle.language.proofs.Rising.{rising-below}
 use Rattle.leftcorner.proofs.ReadOff.{clash}
-use Rattle.expected.specs.declared.Trial.{Trial}
-use Rattle.expected.specs.declared.Trial.the-variants.{Fits, Misfit, Outgrown}
-use Rattle.expected.specs.Expected.{Tried, lacking, fitting, noted, tried}
-
--- two rows of trials that tell the same
-pub tried-alike : (f h : ℕ → Trial) (left c : ℕ) → ((x : ℕ) → x < c + left → f x ≡ h x) → tried f left c ≡ tried h left c
-unfolding tried
-tried-alike f h zero c same = refl
-tried-alike f h (suc left) c same =
-    ap (λ (x : Trial). noted x c (tried f left (suc c))) (same c (omega arith))
-    ∙ ap (noted (h c) c) (tried-alike f h left (suc c) (λ x l. same x (omega (arith, l))))
+use Rattle.expected_trials.specs.declared.Trial.{Trial}
+use Rattle.expected_trials.specs.declared.Trial.the-variants.{Fits, Misfit, Outgrown}
+use Rattle.expected_trials.specs.Trials.{Tried, lacking, fitting, noted, tried}
 
 module _ (f : ℕ → Trial) where
   -- l has the codes that fit of those from c on, as many as left, and none of these outgrows what is lent
