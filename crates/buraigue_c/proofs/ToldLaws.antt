@@ -6,8 +6,9 @@ use Rattle.reply.specs.declared.Reply.{Reply}
 use Rattle.walker.specs.declared.Walked.{Walked}
 use Rattle.walker.specs.Walked.{asReply, ruleCount, unitCount}
 use Rattle.session.specs.Session.{Session}
-use Rattle.expected.specs.declared.ExpectedReply.{ExpectedReply}
-use Rattle.expected.specs.Expected.{Expected, codeCount}
+use Rattle.expected_trials.specs.declared.ExpectedReply.{ExpectedReply}
+use Rattle.expected_trials.specs.Trials.{Expected}
+use Rattle.expected.specs.Expected.{codeCount}
 use Rattle.expected.specs.Expected as expected
 use Rattle.buraigue_c.specs.Told.{ReplyGiven, SessionGiven, ExpectedTold}
 

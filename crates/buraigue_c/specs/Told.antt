@@ -6,7 +6,8 @@ use Rattle.reply.specs.declared.Reply.{Reply}
 use Rattle.reply.specs.Reply.{numberOf, placeOf}
 use Rattle.walker.specs.Walked.{asReply, ruleCount, unitCount}
 use Rattle.session.specs.Session.{Session}
-use Rattle.expected.specs.Expected.{Expected, codeCount}
+use Rattle.expected_trials.specs.Trials.{Expected}
+use Rattle.expected.specs.Expected.{codeCount}
 use Rattle.expected.specs.Expected as expected
 
 -- a reply's number and place

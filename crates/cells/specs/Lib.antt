@@ -1,2 +1,1 @@
 pub mod Demands
-pub mod Contents

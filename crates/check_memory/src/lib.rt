@@ -131,7 +131,7 @@ fn check_state(
         &mut demands,
         &mut others,
     );
-    let filled = cells::cells_meet(&demands, &symbols, kinds, values, gotos, totals.codes, q);
+    let filled = check_cells::cells_meet(&demands, &symbols, kinds, values, gotos, totals.codes, q);
     State {
         items: met,
         agree,

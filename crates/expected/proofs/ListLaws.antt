@@ -7,7 +7,8 @@ use mathlib.Core.Bool.{Bool, true, false, cond}
 use mathlib.Core.List.{List, [], _∷_, _++_}
 use borrow.Author.Tests.{lt-ltb, le-ltb}
 use lib.Dec.{ltb, eqb}
-use lib.ListN.{length, take, drop, replicate, take-append-drop}
+use lib.ListN.{length, getD, take, drop, set, replicate, take-append-drop}
+use lib.Seq.{take-suc, take-suc-set}
 use Rattle.language.specs.Grammar.{Grammar}
 use Rattle.language.specs.Sentence.{In}
 use Rattle.language.proofs.Member.{in-left, in-either, in-cons}
@@ -37,13 +38,20 @@ use Rattle.session.specs.Session.{Session, refusedAt, endedBy, tableSession, af
 use Rattle.session.specs.Session as session
 use Rattle.session.proofs.SessionLaws.{ended-wrong, ended-short}
 use Rattle.session.proofs.TableLaws.{all-terminals, walk-alike}
-use Rattle.expected.specs.declared.ExpectedReply.{ExpectedReply}
-use Rattle.expected.specs.declared.ExpectedReply.the-variants.{Refused}
-use Rattle.expected.specs.Expected.{Expected, asTokens, trialOf, tried, refusedBy, answeredAt, onReply, listFor, expected, Driven, ListTold, Tells}
-use Rattle.expected.specs.Promise.{EndsAt}
-use Rattle.expected.proofs.TriedLaws.{tried-alike}
+use Rattle.expected_trials.specs.declared.Trial.{Trial}
+use Rattle.expected_trials.specs.declared.ExpectedReply.{ExpectedReply}
+use Rattle.expected_trials.specs.declared.ExpectedReply.the-variants.{Refused}
+use Rattle.expected_trials.specs.Trials.{Expected, asTokens, trialOf, noted, tried, refusedBy, answeredAt, ListTold}
+use Rattle.expected_trials.proofs.CodeLaws.{trials}
+use Rattle.expected.specs.Expected.{EndsAt, onReply, listFor, expected, Driven, Tells}
 use Rattle.expected.proofs.PlaceLaws.{on-ends, on-others}
-use Rattle.expected.proofs.CodeLaws.{trials}
+
+-- one token more is copied
+pub copied-more : (l out : List ℕ) (i : ℕ) → i < length l → i < length out → take i out ≡ take i l → take (i + 1) (set out i (getD l i 0)) ≡ take (i + 1) l
+copied-more l out i h k e =
+    let z : i + 1 ≡ suc i = omega arith in
+    ap (λ (j : ℕ). take j (set out i (getD l i 0))) z ∙ take-suc-set out i (getD l i 0) k ∙ ap (λ (m : List ℕ). m ++ getD l i 0 ∷ []) e
+    ∙ sym (take-suc l i 0 h) ∙ ap (λ (j : ℕ). take j l) (sym z)
 
 -- ---- replies 0 and 12
 pub ends-whole : {r : Walked} {tally : Tally} → r ≡ walked.Accepted tally → EndsAt r (tally .tokens)
@@ -56,6 +64,14 @@ answer-place : (g : Grammar) (v : Verdict) → placeOf (asReply (answer g v)) �
 answer-place g (whole-at p l) = refl
 answer-place g (wrong-at p) = refl
 answer-place g (short-at p) = refl
+
+-- two rows of trials that tell the same
+tried-alike : (f h : ℕ → Trial) (left c : ℕ) → ((x : ℕ) → x < c + left → f x ≡ h x) → tried f left c ≡ tried h left c
+unfolding tried
+tried-alike f h zero c same = refl
+tried-alike f h (suc left) c same =
+    ap (λ (x : Trial). noted x c (tried f left (suc c))) (same c (omega arith))
+    ∙ ap (noted (h c) c) (tried-alike f h left (suc c) (λ x l. same x (omega (arith, l))))
 
 module _ (g : Grammar) (t : Table) (n k : ℕ) (w : List ℕ) where
   -- a session over accepted books is the walk's answer, or refuses a stray token

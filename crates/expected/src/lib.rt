@@ -1,5 +1,6 @@
 // What could have come: the codes that would have fitted where a session ends.
 // The door is `list_expected`; `as_reply` and `code_count` are for whoever calls it, `refuse` is inner.
+use expected_trials::ExpectedReply;
 use machine::Machine;
 use machine::MachineReply;
 use reply::Kind;
@@ -19,26 +20,8 @@ ghost use Rattle.walker.specs.Walked.{memoryWalk};
 ghost use Rattle.machine.specs.Machine.{Drives};
 ghost use Rattle.table.specs.Book.{whole};
 ghost use Rattle.session.specs.Session.{tableSession, afterBooks};
-ghost use Rattle.expected.specs.Expected.{asTokens, trialOf, tried, refusedBy, answeredAt, onReply, listFor, expected, asReply, codeCount, Driven, ListTold, Tells};
-
-// What the trial of a code tells: that it could come, that it could not, or that the walk outgrows what is lent before it is taken.
-pub enum Trial {
-    Fits,
-    Misfit,
-    Outgrown,
-}
-
-// The place of the session's reply 0 or 12, and the number of codes in the list.
-pub struct Listed {
-    pub place: usize,
-    pub codes: usize,
-}
-
-// A list, or the refusal.
-pub enum ExpectedReply {
-    Listed(Listed),
-    Refused(Refusal),
-}
+ghost use Rattle.expected_trials.specs.Trials.{asTokens, trialOf, tried, refusedBy, answeredAt, ListTold};
+ghost use Rattle.expected.specs.Expected.{onReply, listFor, expected, asReply, codeCount, Driven, Tells};
 
 // The answer without its count.
 pub fn as_reply(answer: ExpectedReply) -> Reply
@@ -60,148 +43,6 @@ pub fn code_count(answer: ExpectedReply) -> usize
     }
 }
 
-// Walks the first tokens and a code behind them: past the place, the code was taken.
-fn try_tokens(
-    kinds: &[u8],
-    values: &[u8],
-    gotos: &[u8],
-    rows: &[u8],
-    start: u8,
-    tokens: &[u8],
-    place: usize,
-    stack: &mut [u8],
-    listing: &mut [u8],
-) -> Trial
-    requires { ⌜ Shaped (now kinds) (now values) (now gotos) (now rows) ⌝ }
-    ensures { λ r. ⌜ r ≡ trialOf place (memoryWalk (now (kinds .entry)) (now (values .entry)) (now (gotos .entry)) (now (rows .entry)) start (length (now (stack .entry))) (length (now (listing .entry))) (now (tokens .entry))) ⌝ }
-{
-    let walked = walker::run(kinds, values, gotos, rows, start, tokens, stack, listing);
-    let Walked::Refused(why) = walked else {
-        return Trial::Fits;
-    };
-    if place < why.place {
-        return Trial::Fits;
-    }
-    let kind = why.kind;
-    if reply::kind_number(kind) == 12 {
-        return Trial::Misfit;
-    }
-    Trial::Outgrown
-}
-
-// Tries a code after the first tokens, which stand in `trial`.
-fn try_code(
-    kinds: &[u8],
-    values: &[u8],
-    gotos: &[u8],
-    rows: &[u8],
-    start: u8,
-    trial: &mut [u8],
-    place: usize,
-    code: u8,
-    stack: &mut [u8],
-    listing: &mut [u8],
-) -> Trial
-    requires { ⌜ Shaped (now kinds) (now values) (now gotos) (now rows) ⌝ }
-    requires { ⌜ place < length (now trial) ⌝ }
-    ensures { λ r. ⌜ r ≡ trialOf place (memoryWalk (now (kinds .entry)) (now (values .entry)) (now (gotos .entry)) (now (rows .entry)) start (length (now (stack .entry))) (length (now (listing .entry))) (take place (now (trial .entry)) ++ asTokens code)) ⌝ }
-    ensures { λ r. ⌜ take place (now (trial .exit)) ≡ take place (now (trial .entry)) ⌝ }
-{
-    if code == 0 {
-        return try_tokens(
-            kinds,
-            values,
-            gotos,
-            rows,
-            start,
-            &trial[..place],
-            place,
-            stack,
-            listing,
-        );
-    }
-    trial[place] = code;
-    let end = place + 1;
-    try_tokens(
-        kinds,
-        values,
-        gotos,
-        rows,
-        start,
-        &trial[..end],
-        place,
-        stack,
-        listing,
-    )
-}
-
-// A trial or the list outgrows what is lent.
-fn refuse_list(at: usize, codes: &mut [u8]) -> ExpectedReply
-    ensures { λ r. ⌜ ListTold (refusedBy (length (now (codes .entry))) (record { kind = Kind.BufferTooSmall; place = at })) r (now (codes .exit)) ⌝ }
-{
-    clear(codes);
-    ExpectedReply::Refused(Refusal {
-        kind: Kind::BufferTooSmall,
-        place: at,
-    })
-}
-
-// Tries the codes 0 to t and notes those that fit.
-fn try_codes(
-    kinds: &[u8],
-    values: &[u8],
-    gotos: &[u8],
-    rows: &[u8],
-    machine: Machine,
-    trial: &mut [u8],
-    place: usize,
-    stack: &mut [u8],
-    listing: &mut [u8],
-    codes: &mut [u8],
-) -> ExpectedReply
-    requires { ⌜ Shaped (now kinds) (now values) (now gotos) (now rows) ⌝ }
-    requires { ⌜ (place < length (now trial)) × (machine .terminals ≤ 63) × (now codes ≡ replicate (length (now codes)) 0) ⌝ }
-    ensures { λ r. ⌜ ListTold (answeredAt (length (now (codes .entry))) place (tried (λ c. trialOf place (memoryWalk (now (kinds .entry)) (now (values .entry)) (now (gotos .entry)) (now (rows .entry)) (machine .start) (length (now (stack .entry))) (length (now (listing .entry))) (take place (now (trial .entry)) ++ asTokens c))) (suc (machine .terminals)) 0)) r (now (codes .exit)) ⌝ }
-{
-    let mut count = 0;
-    let mut next = 0u8;
-    let mut left = machine.terminals + 1;
-    while 0 < left {
-        let code = next;
-        let told = try_code(
-            kinds,
-            values,
-            gotos,
-            rows,
-            machine.start,
-            trial,
-            place,
-            code,
-            stack,
-            listing,
-        );
-        next += 1;
-        left -= 1;
-        match told {
-            Trial::Fits => {
-                if codes.len() <= count {
-                    return refuse_list(place, codes);
-                }
-                codes[count] = code;
-                count += 1;
-            }
-            Trial::Misfit => {}
-            Trial::Outgrown => {
-                return refuse_list(place, codes);
-            }
-        }
-    }
-    ExpectedReply::Listed(Listed {
-        place,
-        codes: count,
-    })
-}
-
 // Copies the first tokens.
 fn copy_front(tokens: &[u8], count: usize, out: &mut [u8])
     requires { ⌜ (count ≤ length (now tokens)) × (count ≤ length (now out)) ⌝ }
@@ -212,14 +53,6 @@ fn copy_front(tokens: &[u8], count: usize, out: &mut [u8])
         out[i] = tokens[i];
         i += 1;
     }
-}
-
-// Clears the slices of the walks, once for all trials.
-fn clear_walks(stack: &mut [u8], listing: &mut [u8])
-    ensures { λ r. ⌜ (now (stack .exit) ≡ replicate (length (now (stack .entry))) 0) × (now (listing .exit) ≡ replicate (length (now (listing .entry))) 0) ⌝ }
-{
-    clear(stack);
-    clear(listing);
 }
 
 // Lists the codes that could come after the first tokens.
@@ -241,7 +74,7 @@ fn list_at(
 {
     let mut trial = [0u8; 65536];
     copy_front(tokens, place, &mut trial);
-    let answer = try_codes(
+    let answer = expected_trials::try_codes(
         kinds,
         values,
         gotos,
@@ -253,7 +86,7 @@ fn list_at(
         listing,
         codes,
     );
-    clear_walks(stack, listing);
+    expected_trials::clear_walks(stack, listing);
     answer
 }
 
@@ -318,7 +151,7 @@ fn list_machine(
 pub fn refuse(why: Refusal, stack: &mut [u8], listing: &mut [u8], codes: &mut [u8]) -> ExpectedReply
     ensures { λ r. ⌜ Tells (length (now (stack .entry))) (length (now (listing .entry))) (refusedBy (length (now (codes .entry))) why) r (now (stack .exit)) (now (listing .exit)) (now (codes .exit)) ⌝ }
 {
-    clear_walks(stack, listing);
+    expected_trials::clear_walks(stack, listing);
     clear(codes);
     ExpectedReply::Refused(why)
 }
@@ -369,7 +202,7 @@ fn list_books(
 // What could have come: a session over both books and the tokens, and where its reply is 0 or 12 at a place, every code that could
 // stand there, in rising order: 0 where the tokens before the place are a sentence already, and each terminal that after them begins
 // one. The codes are in the list slice, then zeros; the stack and the listing slice are lent for the walks, and are zeros after. What is
-// promised of the list is `Promise` (specs/Promise.antt).
+// promised of the list is `Promise` (crate expected_promise).
 pub fn list_expected(
     grammar: &[u8],
     tables: &[u8],

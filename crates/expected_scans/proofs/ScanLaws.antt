@@ -10,8 +10,9 @@ use Rattle.reply.specs.declared.Refusal.{Refusal}
 use Rattle.scans.specs.File.{Scanned, refused, house, scanned}
 use Rattle.checker.specs.Checked.{checkedOf}
 use Rattle.scan_session.specs.ScanSession.{firstRefusal}
-use Rattle.expected.specs.declared.ExpectedReply.{ExpectedReply}
-use Rattle.expected.specs.Expected.{Expected, refusedBy, Tells}
+use Rattle.expected_trials.specs.declared.ExpectedReply.{ExpectedReply}
+use Rattle.expected_trials.specs.Trials.{Expected, refusedBy}
+use Rattle.expected.specs.Expected.{Tells}
 use Rattle.expected.proofs.ListLaws.{tells-as}
 use Rattle.expected_scans.specs.ExpectedScans.{afterScans, expectedScans}
 

@@ -8,7 +8,8 @@ use Rattle.reply.specs.declared.Kind.the-variants.{LimitExceeded}
 use Rattle.scans.specs.File.{Scanned, tokens, refused, house, scanned}
 use Rattle.checker.specs.Checked.{checkedOf}
 use Rattle.scan_session.specs.ScanSession.{firstRefusal}
-use Rattle.expected.specs.Expected.{Expected, refusedBy, expected}
+use Rattle.expected_trials.specs.Trials.{Expected, refusedBy}
+use Rattle.expected.specs.Expected.{expected}
 
 abbrev pub afterScans : ℕ → ℕ → ℕ → List ℕ → List ℕ → Scanned → Expected
 afterScans n k room gs s (tokens w) = expected gs s w n k room

@@ -1,6 +1,6 @@
 // What could have come over a scan file.
 // The door is `list_expected_scans`.
-use expected::ExpectedReply;
+use expected_trials::ExpectedReply;
 use reply::Kind;
 use reply::Refusal;
 use reply::Reply;

@@ -618,7 +618,7 @@ fn print_cell(out: &mut [u8; OUTPUT], symbol: usize, asked: usize, there: usize)
 fn explain_goto(out: &mut [u8; OUTPUT], symbols: &[u8], gotos: &[u8], q: usize)
     requires { ⌜ (length (now symbols) ≡ 128) × (16384 ≤ length (now gotos)) × (q < 256) ⌝ }
 {
-    let goto = cells::find_goto(symbols, gotos, q);
+    let goto = check_cells::find_goto(symbols, gotos, q);
     let Found::At(b) = goto else {
         return;
     };
@@ -660,12 +660,17 @@ fn explain_cells(
     requires { ⌜ (totals .rules ≤ totals .items) × (totals .items < 256) × (q < 256) × (totals .lines * 64 ≤ length (now lookaheads)) ⌝ }
     requires { ⌜ (length (now present) ≡ 64) × (length (now follow) ≡ 4096) × (length (now symbols) ≡ 128) × (length (now asked) ≡ 64) ⌝ }
 {
-    let cell = cells::find_cell(asked, kinds, values, totals.codes, q);
+    let cell = check_cells::find_cell(asked, kinds, values, totals.codes, q);
     let Found::At(c) = cell else {
         explain_goto(out, symbols, gotos, q);
         return;
     };
-    print_cell(out, c, asked[c], cells::demand_of(kinds, values, q, c));
+    print_cell(
+        out,
+        c,
+        asked[c],
+        check_cells::demand_of(kinds, values, q, c),
+    );
     print_demands(
         out,
         items,

@@ -18,8 +18,8 @@ use Rattle.checker.specs.Checked.{verdictOf, Accepts}
 use Rattle.checker.proofs.Exactly as checker
 use Rattle.session.specs.Demand3.{Demanded}
 use Rattle.session.proofs.Demand3 as session
-use Rattle.expected.specs.Promise as expected
-use Rattle.expected.proofs.Promise as listed
+use Rattle.expected_promise.specs.Promise as expected
+use Rattle.expected_promise.proofs.Promise as listed
 use Rattle.build_promise.specs.Promise.{Promise}
 use Rattle.build_promise.proofs.Promise as builder
 use Rattle.worked_examples.specs.Books.{smallest, g1, g1-cut, d}

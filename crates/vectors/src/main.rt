@@ -8,7 +8,7 @@
 //     7, GRAMMAR TABLES TOKENS STACK, LISTING, CODES,   list_expected; 65,536 stands for all that the program can lend
 //     8, GRAMMAR TABLES SCANS STACK, LISTING, CODES,    list_expected_scans
 // Prints for each the name of its last file, what the call answers, and what is not 0 in each slice that was lent, which held 7s.
-use expected::ExpectedReply;
+use expected_trials::ExpectedReply;
 use program::Input;
 use program::OUTPUT;
 use program::argument_number;

@@ -11,17 +11,18 @@ use Rattle.build_computed.proofs.Computed.{computed}
 use Rattle.walker.specs.Walked.{padded}
 use Rattle.stray_tokens.specs.Stray.{strayFrom}
 use Rattle.session.specs.Session.{tableSession}
-use Rattle.expected.specs.Expected.{listedAt, tried, listFor}
-use Rattle.expected.specs.Expected as expected
+use Rattle.expected_trials.specs.Trials.{listedAt, tried}
+use Rattle.expected_trials.specs.Trials as trials
+use Rattle.expected.specs.Expected.{listFor}
 use Rattle.worked_examples.specs.Books.{Books}
 use Rattle.worked_examples.proofs.Laws.{Computes, expectedOver, expected-is}
 use Rattle.worked_examples.proofs.Computing.{computes}
 use Rattle.worked_examples.specs.Expected.{Fitting, after, fitting-g1, fitting-g1-cut, fitting-d, Listed, Expected}
 
-abbrev answerOf : Fitting → expected.Expected
+abbrev answerOf : Fitting → trials.Expected
 answerOf (after w p codes) = listedAt 64 p codes
 
-abbrev overTable : Grammar → ℕ → Fitting → expected.Expected
+abbrev overTable : Grammar → ℕ → Fitting → trials.Expected
 overTable g n (after w p codes) = expectedOver g (computed g n) w 20 20 64
 
 lists : {b : Books} {g : Grammar} {n : ℕ} → Computes b g n → (l : List Fitting) → map (overTable g n) l ≡ map answerOf l → Each (Listed b) l

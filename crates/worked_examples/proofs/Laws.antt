@@ -27,7 +27,8 @@ use Rattle.checker.proofs.Exactly.{accepts}
 use Rattle.builder.specs.Build.{textLength, buildFrom, buildOf}
 use Rattle.worked_examples.specs.Books.{book, Books}
 use Rattle.session.specs.Session.{Session, refusedAt, tableSession, afterBooks, session}
-use Rattle.expected.specs.Expected.{Expected, onReply, listFor, expected}
+use Rattle.expected_trials.specs.Trials.{Expected}
+use Rattle.expected.specs.Expected.{onReply, listFor, expected}
 
 -- a session over books that are those of g and t
 abbrev pub sessionOver : Grammar → Table → List ℕ → ℕ → ℕ → Session

@@ -3,7 +3,8 @@ use Prim.Native.Nat.{ℕ}
 use mathlib.Core.Path.{_≡_}
 use mathlib.Core.List.{List, [], _∷_}
 use Rattle.fixpoint.specs.Each.{Each}
-use Rattle.expected.specs.Expected.{listedAt, expected}
+use Rattle.expected_trials.specs.Trials.{listedAt}
+use Rattle.expected.specs.Expected.{expected}
 use Rattle.worked_examples.specs.Books.{book, Books, g1, g1-cut, d}
 
 -- some tokens, the place where their session ends, and the codes that could have come there

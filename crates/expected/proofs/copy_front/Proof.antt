@@ -4,7 +4,7 @@ use Prim.Native.Nat.{ℕ, _-_, _≤_}
 use native.Mathlib.Omega.{arith}
 use lib.ListN.{length, take}
 use borrow.Author.Needs.{needs}
-use Rattle.expected.proofs.CodeLaws.{copied-more}
+use Rattle.expected.proofs.ListLaws.{copied-more}
 use Rattle.expected.proofs.copy_front.Statement.{statement}
 use Rattle.expected.proofs.copy_front.Tie as tie
 

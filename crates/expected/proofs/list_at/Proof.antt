@@ -3,7 +3,7 @@ use mathlib.Core.Path.{ap, _∙_}
 use Prim.Native.Nat.{ℕ}
 use lib.ListN.{length, replicate}
 use borrow.Author.Needs.{needs}
-use Rattle.expected.proofs.CodeLaws.{list-told}
+use Rattle.expected_trials.proofs.CodeLaws.{list-told}
 use Rattle.expected.proofs.list_at.Statement.{statement}
 use Rattle.expected.proofs.list_at.Tie as tie
 

@@ -1,0 +1,4 @@
+pub mod TrialLaws
+pub mod TriedLaws
+pub mod EndLaws
+pub mod Promise
