@@ -1,10 +1,10 @@
 -- The number that the field reader hands over is the exact one, with 65536 for every number above 65535, and has no leading zero.
 use Prim.Native.Nat.{ℕ, _+_, _-_, _*_, _≤_, min}
-use mathlib.Core.Path.{_≡_, refl, subst}
+use mathlib.Core.Path.{_≡_, refl, sym, subst}
 use mathlib.Core.List.{List, [], _∷_}
 use mathlib.Core.Bool.{Bool, true, false, cond}
 use native.Mathlib.Omega.{arith}
-use borrow.Author.Tests.{eqb-false}
+use borrow.Author.Tests.{eqb-true, eqb-false}
 use lib.Dec.{eqb}
 use lib.ListN.{drop}
 use Rattle.text.specs.declared.Cursor.{Cursor}
@@ -14,7 +14,7 @@ use Rattle.text.specs.declared.Field.{Field}
 use Rattle.text.specs.declared.Field.the-variants as field
 use Rattle.text.specs.Field.{classOf, endOf, addDigit, closed, onDigit, digitsFrom, byClass, fieldOf, fieldAt}
 use Rattle.text.proofs.ClassLaws.{digit-range}
-use Rattle.text.proofs.NumberLaws.{OfNumber, of-any, of-closed, as-digits}
+use Rattle.text.proofs.NumberLaws.{as-digits, zero-field, OfNumber, of-any, of-closed}
 use Rattle.digits.specs.Exact.{exactFrom, exactAt}
 use Rattle.digits.specs.Compare.{digitOf, digitAt, Leads}
 
@@ -56,20 +56,21 @@ First l v d = 1 ≤ v → 1 ≤ digitOf l
 
 field-first : (l : List ℕ) (at : ℕ) → OfNumber (First l) (fieldOf l at)
 field-first [] at = tt
-field-first (b ∷ l) at = go (classOf b) refl
+field-first (b ∷ l) at = by (eqb b 48) refl
   where
-    go : (k : Class) → classOf b ≡ k → OfNumber (First (b ∷ l)) (byClass k b l at)
-    go class.Digit e = by (eqb b 48) refl
-      where
-        by : (t : Bool) → eqb b 48 ≡ t → OfNumber (First (b ∷ l)) (cond t (closed (field.Number 0) (endOf l (at + 1))) (digitsFrom (b ∷ l) at 0))
-        by true z = of-closed (First (b ∷ l)) (field.Number 0) (endOf l (at + 1)) (λ d q h. absurd (omega arith))
-        by false z =
-            let r = digit-range b e in
-            let n = eqb-false b 48 z in
-            of-any (First (b ∷ l)) (λ v d h. simp e (omega (arith, r .0, n))) (digitsFrom (b ∷ l) at 0)
-    go class.Letter e = of-closed (First (b ∷ l)) (field.Letter b) (endOf l (at + 1)) (λ d q. tt)
-    go class.Mark e = of-closed (First (b ∷ l)) (field.Mark b) (endOf l (at + 1)) (λ d q. tt)
-    go class.Other e = tt
+    go : (k : Class) → classOf b ≡ k → (b ≡ 48 → ⊥) → OfNumber (First (b ∷ l)) (byClass k b l at)
+    go class.Digit e n =
+        let r = digit-range b e in
+        as-digits (OfNumber (First (b ∷ l))) tt at b l (of-any (First (b ∷ l)) (λ v d h. simp e (omega (arith, r .0, n))) (digitsFrom (b ∷ l) at 0))
+    go class.Letter e n = of-closed (First (b ∷ l)) (field.Letter b) (endOf l (at + 1)) (λ d q. tt)
+    go class.Mark e n = of-closed (First (b ∷ l)) (field.Mark b) (endOf l (at + 1)) (λ d q. tt)
+    go class.Other e n = tt
+
+    by : (t : Bool) → eqb b 48 ≡ t → OfNumber (First (b ∷ l)) (fieldOf (b ∷ l) at)
+    by true e =
+        subst (λ (x : ℕ). OfNumber (First (x ∷ l)) (fieldOf (x ∷ l) at)) (sym (eqb-true b 48 e))
+        (zero-field (OfNumber (First (48 ∷ l))) tt at l (λ d q h. absurd (omega arith)))
+    by false e = go (classOf b) refl (eqb-false b 48 e)
 
 -- ---- the field at a cursor
 at-cursor : (P : Field → Type 0) → P field.Broken → (s : List ℕ) (c : Cursor) → P (fieldOf (drop (c .at) s) (c .at)) → P (fieldAt s c)

@@ -2,29 +2,16 @@
 use Prim.Native.Nat.{ℕ, _+_, _-_, _*_, _≤_, _<_}
 use mathlib.Core.Path.{_≡_, refl}
 use mathlib.Core.List.{List, [], _∷_}
-use mathlib.Core.Bool.{Bool, true, false, cond, _||_}
 use native.Mathlib.Decide.{decLt}
 use native.Mathlib.Omega.{arith}
-use lib.Dec.{eqb}
 use lib.ListN.{length, getD, drop}
-use Rattle.range.specs.Range.{within}
-use Rattle.range.proofs.RangeLaws.{false-within}
 use Rattle.text.specs.declared.Class.{Class}
 use Rattle.text.specs.declared.Class.the-variants as class
 use Rattle.text.specs.Field.{classOf, onDigit}
 use Rattle.text.proofs.Bytes.{here, past}
-use Rattle.text.proofs.ClassLaws.{class-digit, digit-range}
+use Rattle.text.proofs.ClassLaws.{class-digit, digit-range, no-digit}
 use Rattle.digits.specs.Exact.{exactFrom}
 use Rattle.digits.specs.Compare.{digitOf, digitAt}
-
-no-digit : (b : ℕ) → (48 ≤ b → b ≤ 57 → ⊥) → {A : Type 0} (x y : A) → onDigit (classOf b) x y ≡ y
-unfolding classOf
-no-digit b f x y = rw (false-within 48 b 57 f) (go (within 65 b 90) (eqb b 47 || eqb b 94))
-  where
-    go : (t u : Bool) → onDigit (cond t class.Letter (cond u class.Mark class.Other)) x y ≡ y
-    go true u = refl
-    go false true = refl
-    go false false = refl
 
 -- a number only grows
 pub exact-grows : (l : List ℕ) (v : ℕ) → v ≤ exactFrom v l

@@ -1,6 +1,6 @@
 -- The bytes of each class.
 use Prim.Native.Nat.{ℕ, _≤_}
-use mathlib.Core.Path.{_≡_, refl}
+use mathlib.Core.Path.{_≡_, refl, sym, _∙_}
 use mathlib.Core.Bool.{Bool, true, false, cond, _||_}
 use mathlib.Core.List.{[], _∷_}
 use mathlib.Core.Logic.{inl, inr, ⊎-elim}
@@ -8,13 +8,10 @@ use native.Mathlib.Omega.{arith}
 use borrow.Author.Tests.{eq-eqb, ne-eqb}
 use lib.Dec.{eqb}
 use types.Run.{OneOf}
-use denote.Enum.Declared.{tagOf}
 use Rattle.range.specs.Range.{within}
 use Rattle.range.proofs.RangeLaws.{within-true, true-within, false-within}
-use Rattle.text.specs.declared.Class.{Class}
 use Rattle.text.specs.declared.Class.the-variants as class
 use Rattle.text.specs.Field.{classOf, onDigit}
-use Rattle.text.proofs.Class.{the-type}
 
 module _ (b : ℕ) where
   pub class-digit : 48 ≤ b → b ≤ 57 → classOf b ≡ class.Digit
@@ -52,9 +49,15 @@ module _ (b : ℕ) where
       go false false true p e = let z : _≡_ {A = ℕ} 0 1 = cc in absurd (omega arith)
       go false false false p e = let z : _≡_ {A = ℕ} 0 1 = cc in absurd (omega arith)
 
--- the arm of `let Class::Digit = k else`, where k is another class
-pub not-digit : {A : Type 0} (k : Class) → OneOf (1 ∷ 2 ∷ 3 ∷ []) (tagOf the-type k) → (x y : A) → onDigit k x y ≡ y
-not-digit class.Digit h x y = absurd (⊎-elim (λ e. omega arith) (λ g. ⊎-elim (λ e. omega arith) (λ e. omega arith) g) h)
-not-digit class.Letter h x y = refl
-not-digit class.Mark h x y = refl
-not-digit class.Other h x y = refl
+  pub no-digit : (48 ≤ b → b ≤ 57 → ⊥) → {A : Type 0} (x y : A) → onDigit (classOf b) x y ≡ y
+  unfolding classOf
+  no-digit f x y = rw (false-within 48 b 57 f) (go (within 65 b 90) (eqb b 47 || eqb b 94))
+    where
+      go : (t u : Bool) → onDigit (cond t class.Letter (cond u class.Mark class.Other)) x y ≡ y
+      go true u = refl
+      go false true = refl
+      go false false = refl
+
+-- the test of a digit, where it fails
+pub outside : (b : ℕ) → within 48 b 57 ≡ false → 48 ≤ b → b ≤ 57 → ⊥
+outside b e l h = let z : _≡_ {A = ℕ} 0 1 = cc (sym (true-within 48 b 57 l h) ∙ e) in absurd (omega arith)

@@ -3,6 +3,7 @@ pub mod ClassLaws
 pub mod NumberLaws
 pub mod FieldLaws
 pub mod ElseLaws
+pub mod SignLaws
 pub mod OnwardLaws
 pub mod DigitsLaws
 pub mod Promise

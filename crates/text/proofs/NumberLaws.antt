@@ -4,10 +4,6 @@ use mathlib.Core.Path.{_≡_, refl, sym, subst}
 use mathlib.Core.Bool.{Bool, true, false, cond}
 use mathlib.Core.List.{List, [], _∷_}
 use native.Mathlib.Omega.{arith}
-use borrow.Author.Tests.{eqb-true}
-use types.Run.{OneOf}
-use denote.Enum.Declared.{tagOf}
-use lib.Dec.{eqb}
 use lib.ListN.{length, getD, drop}
 use Rattle.range.specs.Range.{within}
 use Rattle.text.specs.declared.Cursor.{Cursor}
@@ -16,10 +12,9 @@ use Rattle.text.specs.declared.End.{End}
 use Rattle.text.specs.declared.End.the-variants.{Past, Missing}
 use Rattle.text.specs.declared.Field.{Field}
 use Rattle.text.specs.declared.Field.the-variants as field
-use Rattle.text.specs.Field.{classOf, endOf, addDigit, closed, digitsFrom, byClass}
-use Rattle.text.proofs.Class.{the-type}
+use Rattle.text.specs.Field.{classOf, endOf, addDigit, closed, digitsFrom, padded, byClass, fieldOf}
 use Rattle.text.proofs.Bytes.{here, past}
-use Rattle.text.proofs.ClassLaws.{not-digit}
+use Rattle.text.proofs.ClassLaws.{class-digit, no-digit, outside}
 
 pub capped : (v b : ℕ) → addDigit v b ≤ 65536
 unfolding addDigit
@@ -31,35 +26,36 @@ module _ (s : List ℕ) (i v : ℕ) where
   none-left h = simp (past s i h)
 
   module _ (h : i < length s) where
-    pub one-more : classOf (getD s i 0) ≡ class.Digit → digitsFrom (drop i s) i v ≡ digitsFrom (drop (i + 1) s) (i + 1) (addDigit v (getD s i 0))
+    pub one-more : 48 ≤ getD s i 0 → getD s i 0 ≤ 57 → digitsFrom (drop i s) i v ≡ digitsFrom (drop (i + 1) s) (i + 1) (addDigit v (getD s i 0))
     unfolding digitsFrom
-    one-more e = simp (here s i h, e)
+    one-more l m = simp (here s i h, class-digit (getD s i 0) l m)
 
-    pub no-more : OneOf (1 ∷ 2 ∷ 3 ∷ []) (tagOf the-type (classOf (getD s i 0))) → digitsFrom (drop i s) i v ≡ closed (field.Number v) (endOf (drop i s) i)
+    pub no-more : (48 ≤ getD s i 0 → getD s i 0 ≤ 57 → ⊥) → digitsFrom (drop i s) i v ≡ closed (field.Number v) (endOf (drop i s) i)
     unfolding digitsFrom
-    no-more o = rw (here s i h) (not-digit (classOf (getD s i 0)) o _ _)
+    no-more n = rw (here s i h) (no-digit (getD s i 0) n _ _)
 
--- ---- where a first 0 ends the number, its digits are read to the same end: a field that begins with a digit is its digits, or torn
+-- ---- a field that begins with a digit is its digits, or torn
+pub as-digits : (P : Field → Type 0) → P field.Broken → (at b : ℕ) (l : List ℕ) → P (digitsFrom (b ∷ l) at 0) → P (byClass class.Digit b l at)
+as-digits P torn at b l h = go (padded (b ∷ l))
+  where
+    go : (t : Bool) → P (cond t field.Broken (digitsFrom (b ∷ l) at 0))
+    go true = torn
+    go false = h
+
+-- one that begins with `0` is 0, and ends after it, or torn
 module _ (P : Field → Type 0) (torn : P field.Broken) (at : ℕ) where
-  zero-digits : (l : List ℕ) → P (digitsFrom (48 ∷ l) at 0) → P (closed (field.Number 0) (endOf l (at + 1)))
-  unfolding digitsFrom addDigit endOf classOf within
-  zero-digits [] h = torn
-  zero-digits (x ∷ l) h = go (eqb x 44) refl (eqb x 10) refl h
+  pub zero-field : (l : List ℕ) → ((d : Cursor) → endOf l (at + 1) ≡ Past d → P (field.Number 0 d)) → P (fieldOf (48 ∷ l) at)
+  unfolding digitsFrom addDigit classOf within
+  zero-field [] h = torn
+  zero-field (x ∷ l) h = go (within 48 x 57) refl
     where
-      As : ℕ → Type 0
-      As y = P (digitsFrom (48 ∷ y ∷ l) at 0) → P (closed (field.Number 0) (endOf (y ∷ l) (at + 1)))
+      ends : (e : End) → endOf (x ∷ l) (at + 1) ≡ e → P (closed (field.Number 0) e)
+      ends (Past d) q = h d q
+      ends Missing q = torn
 
-      go : (t : Bool) → eqb x 44 ≡ t → (u : Bool) → eqb x 10 ≡ u → As x
-      go true p u q = subst As (sym (eqb-true x 44 p)) (λ h. h)
-      go false p true q = subst As (sym (eqb-true x 10 q)) (λ h. h)
-      go false p false q = λ h. simp (p, q) torn
-
-  pub as-digits : (b : ℕ) (l : List ℕ) → P (digitsFrom (b ∷ l) at 0) → P (byClass class.Digit b l at)
-  as-digits b l h = go (eqb b 48) refl
-    where
-      go : (t : Bool) → eqb b 48 ≡ t → P (cond t (closed (field.Number 0) (endOf l (at + 1))) (digitsFrom (b ∷ l) at 0))
-      go true e = zero-digits l (subst (λ (x : ℕ). P (digitsFrom (x ∷ l) at 0)) (eqb-true b 48 e) h)
-      go false e = h
+      go : (t : Bool) → within 48 x 57 ≡ t → P (cond t field.Broken (digitsFrom (48 ∷ x ∷ l) at 0))
+      go true e = torn
+      go false e = subst P (sym (no-digit x (outside x e) _ _)) (ends (endOf (x ∷ l) (at + 1)) refl)
 
 -- ---- P of a field where it is a number, nothing where it is none
 abbrev pub OfNumber : (ℕ → Cursor → Type 0) → Field → Type 0

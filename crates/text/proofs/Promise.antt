@@ -5,11 +5,12 @@ use mathlib.Core.List.{List, [], _∷_, _++_}
 use mathlib.Core.Bool.{Bool, true, false, cond}
 use native.Mathlib.Decide.{decLe}
 use native.Mathlib.Omega.{arith}
-use borrow.Author.Tests.{eqb-true, eqb-false, ne-eqb}
+use borrow.Author.Tests.{eqb-true, eqb-false}
 use lib.Dec.{eqb}
 use lib.ListN.{length, drop, length-append}
 use lib.Seq.{append-snoc, drop-drop, drop-append-seam}
 use Rattle.range.specs.Range.{within}
+use Rattle.range.proofs.RangeLaws.{true-within}
 use Rattle.text.specs.declared.Cursor.{Cursor}
 use Rattle.text.specs.declared.Class.{Class}
 use Rattle.text.specs.declared.Class.the-variants as class
@@ -21,7 +22,8 @@ use Rattle.text.specs.Field.{classOf, endOf, addDigit, closed, onDigit, 
 use Rattle.text.specs.Promise.{ending, Spelled, NumberPromise}
 use Rattle.text.proofs.ClassLaws.{class-digit, digit-range}
 use Rattle.text.proofs.DigitsLaws.{digits-one, digits-more}
-use Rattle.text.proofs.NumberLaws.{OfNumber, of-number, of-closed}
+use Rattle.text.proofs.FieldLaws.{padded-other}
+use Rattle.text.proofs.NumberLaws.{as-digits, zero-field, OfNumber, of-number, of-closed}
 
 -- ---- bytes l at `at` that begin with w and the byte that ends a field; d is the cursor past it
 record Spells (l : List ℕ) (at : ℕ) (w : List ℕ) (d : Cursor) : Type 0 where
@@ -104,26 +106,30 @@ first-digit b l at low high v d h m =
     let g : digits (addDigit 0 b) ≡ b ∷ [] = digits-one (addDigit 0 b) (omega arith) ∙ ap (λ (x : ℕ). x ∷ []) (omega arith) in
     spells-as (ap (λ (w : List ℕ). w ++ l) g) refl (h .1 m at (omega (arith, ap length g)))
 
-class-written : (k : Class) (b : ℕ) (l : List ℕ) (at : ℕ) → classOf b ≡ k → OfNumber (Written (b ∷ l) at) (byClass k b l at)
+class-written : (k : Class) (b : ℕ) (l : List ℕ) (at : ℕ) → classOf b ≡ k → (b ≡ 48 → ⊥) → OfNumber (Written (b ∷ l) at) (byClass k b l at)
 unfolding digitsFrom
-class-written class.Digit b l at k = go (eqb b 48) refl
-  where
-    go : (t : Bool) → eqb b 48 ≡ t → OfNumber (Written (b ∷ l) at) (cond t (closed (field.Number 0) (endOf l (at + 1))) (digitsFrom (b ∷ l) at 0))
-    go true e =
-        of-closed (Written (b ∷ l) at) (field.Number 0) (endOf l (at + 1))
-        (λ d h m. spells-as refl (ap (λ (x : ℕ). x ∷ []) (eqb-true b 48 e) ∙ sym (digits-one 0 (omega arith))) (spells-behind (b ∷ []) (omega arith) (end-spells l (at + 1) h)))
-    go false e =
-        let r = digit-range b k in
-        let z = eqb-false b 48 e in
-        let g = grown 0 b (omega (arith, r .0, z)) in
-        simp k (of-number (first-digit b l at (r .0) (r .1)) (digitsFrom l (at + 1) (addDigit 0 b)) (digits-grow l (at + 1) (addDigit 0 b) (g .0) (g .1)))
-class-written class.Letter b l at k = of-closed (Written (b ∷ l) at) (field.Letter b) (endOf l (at + 1)) (λ d h. tt)
-class-written class.Mark b l at k = of-closed (Written (b ∷ l) at) (field.Mark b) (endOf l (at + 1)) (λ d h. tt)
-class-written class.Other b l at k = tt
+class-written class.Digit b l at k z =
+    let r = digit-range b k in
+    let g = grown 0 b (omega (arith, r .0, z)) in
+    as-digits (OfNumber (Written (b ∷ l) at)) tt at b l
+    (simp k (of-number (first-digit b l at (r .0) (r .1)) (digitsFrom l (at + 1) (addDigit 0 b)) (digits-grow l (at + 1) (addDigit 0 b) (g .0) (g .1))))
+class-written class.Letter b l at k z = of-closed (Written (b ∷ l) at) (field.Letter b) (endOf l (at + 1)) (λ d h. tt)
+class-written class.Mark b l at k z = of-closed (Written (b ∷ l) at) (field.Mark b) (endOf l (at + 1)) (λ d h. tt)
+class-written class.Other b l at k z = tt
+
+-- a first digit that is 0
+zero-written : (l : List ℕ) (at : ℕ) → OfNumber (Written (48 ∷ l) at) (fieldOf (48 ∷ l) at)
+zero-written l at =
+    zero-field (OfNumber (Written (48 ∷ l) at)) tt at l
+    (λ d h m. spells-as refl (sym (digits-one 0 (omega arith))) (spells-behind (48 ∷ []) (omega arith) (end-spells l (at + 1) h)))
 
 field-written : (l : List ℕ) (at : ℕ) → OfNumber (Written l at) (fieldOf l at)
 field-written [] at = tt
-field-written (b ∷ l) at = class-written (classOf b) b l at refl
+field-written (b ∷ l) at = go (eqb b 48) refl
+  where
+    go : (t : Bool) → eqb b 48 ≡ t → OfNumber (Written (b ∷ l) at) (fieldOf (b ∷ l) at)
+    go true e = subst (λ (x : ℕ). OfNumber (Written (x ∷ l) at) (fieldOf (x ∷ l) at)) (sym (eqb-true b 48 e)) (zero-written l at)
+    go false e = class-written (classOf b) b l at refl (eqb-false b 48 e)
 
 -- ---- digits are read as their number
 module _ (l : List ℕ) where
@@ -132,7 +138,7 @@ module _ (l : List ℕ) where
   digit-on b n v w low high m e = simp (class-digit b low high) (ap (digitsFrom l (n + 1)) (omega arith))
 
   one-digit : (at v : ℕ) → 1 ≤ v → v ≤ 9 → fieldOf ((48 + v) ∷ l) at ≡ digitsFrom l (at + 1) v
-  one-digit at v some few = simp (class-digit (48 + v) (omega arith) (omega arith), ne-eqb (48 + v) 48 (λ e. omega arith)) (digit-on (48 + v) at 0 v (omega arith) (omega arith) (omega arith) (omega arith))
+  one-digit at v some few = simp (class-digit (48 + v) (omega arith) (omega arith), padded-other (48 + v) l (λ e. omega arith)) (digit-on (48 + v) at 0 v (omega arith) (omega arith) (omega arith) (omega arith))
 
 -- by induction over v / 10; k bounds it
 digits-read : (k v : ℕ) → v ≤ k → 1 ≤ v → v ≤ 65535 → (l : List ℕ) (at : ℕ) → fieldOf (digits v ++ l) at ≡ digitsFrom l (at + length (digits v)) v
@@ -156,7 +162,7 @@ number-ends true l at v = refl
 number-ends false l at v = refl
 
 zero-ends : (t : Bool) (l : List ℕ) (at : ℕ) → fieldOf (digits 0 ++ ending t ∷ l) at ≡ field.Number 0 (record { at = at + length (digits 0) + 1; ended = t })
-unfolding endOf classOf within
+unfolding digitsFrom addDigit endOf classOf within
 zero-ends true l at = rw (digits-one 0 (omega arith)) refl
 zero-ends false l at = rw (digits-one 0 (omega arith)) refl
 
@@ -166,8 +172,7 @@ number-at (suc v) m t l at = digits-read (suc v) (suc v) (omega arith) (omega ar
 
 -- ---- a digit after a first 0
 zero-torn : (b : ℕ) (l : List ℕ) (at : ℕ) → classOf b ≡ class.Digit → fieldOf (48 ∷ b ∷ l) at ≡ field.Broken
-unfolding classOf within endOf
-zero-torn b l at e = let r = digit-range b e in simp (ne-eqb b 44 (λ q. omega (arith, r .0)), ne-eqb b 10 (λ q. omega (arith, r .0)))
+zero-torn b l at e = let r = digit-range b e in simp (class-digit 48 (omega arith) (omega arith), true-within 48 b 57 (r .0) (r .1))
 
 -- ---- the field at a cursor
 module _ (s : List ℕ) (c : Cursor) where

@@ -3,7 +3,7 @@
 -- now torn; 0 alone remains good."
 use Prim.Native.Nat.{ℕ, _+_, _-_, _*_, min}
 use mathlib.Core.List.{List, [], _∷_}
-use mathlib.Core.Bool.{true, false, cond, _||_}
+use mathlib.Core.Bool.{Bool, true, false, cond, _&&_, _||_}
 use lib.ListN.{drop}
 use lib.Dec.{eqb}
 use Rattle.range.specs.Range.{within}
@@ -50,9 +50,22 @@ digitsFrom [] at v = field.Broken
 digitsFrom (b ∷ l) at v =
     onDigit (classOf b) (digitsFrom l (at + 1) (addDigit v b)) (closed (field.Number v) (endOf (b ∷ l) at))
 
--- a field that begins with b and goes on with l, by the class of b; a first `0`, 48, is the whole number
+-- bytes that begin with a leading zero: `0`, 48, and a further digit
+abbrev pub padded : List ℕ → Bool
+padded [] = false
+padded (b ∷ []) = false
+padded (b ∷ c ∷ l) = eqb b 48 && within 48 c 57
+
+-- a letter, where its class says so, or a mark
+abbrev pub signOf : Class → ℕ → Cursor → Field
+signOf class.Letter b c = field.Letter b c
+signOf class.Digit b c = field.Mark b c
+signOf class.Mark b c = field.Mark b c
+signOf class.Other b c = field.Mark b c
+
+-- a field that begins with b and goes on with l, by the class of b
 abbrev pub byClass : Class → ℕ → List ℕ → ℕ → Field
-byClass class.Digit b l at = cond (eqb b 48) (closed (field.Number 0) (endOf l (at + 1))) (digitsFrom (b ∷ l) at 0)
+byClass class.Digit b l at = cond (padded (b ∷ l)) field.Broken (digitsFrom (b ∷ l) at 0)
 byClass class.Letter b l at = closed (field.Letter b) (endOf l (at + 1))
 byClass class.Mark b l at = closed (field.Mark b) (endOf l (at + 1))
 byClass class.Other b l at = field.Broken

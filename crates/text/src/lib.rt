@@ -1,9 +1,10 @@
 // Fields of books: what stands at a cursor, up to the comma or the LF that ends it.
 // Inner: for the readers of lines.
+use range::in_range;
 ghost use mathlib.Core.Path.{_≡_};
 ghost use Prim.Native.Nat.{_≤_, _<_};
-ghost use lib.ListN.{drop};
-ghost use Rattle.text.specs.Field.{classOf, endOf, addDigit, closed, digitsFrom, fieldAt};
+ghost use lib.ListN.{length, drop};
+ghost use Rattle.text.specs.Field.{classOf, endOf, addDigit, closed, digitsFrom, padded, signOf, fieldAt};
 
 // A place in a line: the next byte, and whether the line's LF has been passed.
 pub struct Cursor {
@@ -94,20 +95,15 @@ fn number(v: usize, e: End) -> Field
     Field::Number(v, c)
 }
 
-fn mark(b: u8, e: End) -> Field
-    ensures { λ r. ⌜ r ≡ closed (Field.Mark b) e ⌝ }
+// A letter or a mark, of class k. One end for both keeps `read_field` small enough to be compiled into the loops over fields.
+fn sign(k: Class, b: u8, e: End) -> Field
+    ensures { λ r. ⌜ r ≡ closed (signOf k b) e ⌝ }
 {
     let End::Past(c) = e else {
         return Field::Broken;
     };
-    Field::Mark(b, c)
-}
-
-fn letter(b: u8, e: End) -> Field
-    ensures { λ r. ⌜ r ≡ closed (Field.Letter b) e ⌝ }
-{
-    let End::Past(c) = e else {
-        return Field::Broken;
+    let Class::Letter = k else {
+        return Field::Mark(b, c);
     };
     Field::Letter(b, c)
 }
@@ -121,16 +117,30 @@ fn digits(s: &[u8], at: usize, first: usize) -> Field
     let mut i = at;
     while i < s.len() {
         let b = s[i];
-        let Class::Digit = classify(b) else {
+        if !in_range(48, wide(b), 57) {
             return number(v, end_at(s, i));
-        };
+        }
         v = add_digit(v, b);
         i += 1;
     }
     Field::Broken
 }
 
-// The field at a cursor. Past the line's LF there is none. A first 0 is the whole number: a digit after it is no end.
+// Whether the number at `at` has a leading zero.
+fn is_padded(s: &[u8], at: usize) -> bool
+    requires { ⌜ at < length (now s) ⌝ }
+    ensures { λ r. ⌜ r ≡ padded (drop at (now (s .entry))) ⌝ }
+{
+    if s[at] != b'0' {
+        return false;
+    }
+    if s.len() <= at + 1 {
+        return false;
+    }
+    in_range(48, wide(s[at + 1]), 57)
+}
+
+// The field at a cursor. Past the line's LF there is none.
 pub fn read_field(s: &[u8], c: Cursor) -> Field
     ensures { λ r. ⌜ r ≡ fieldAt (now (s .entry)) c ⌝ }
 {
@@ -143,15 +153,15 @@ pub fn read_field(s: &[u8], c: Cursor) -> Field
         return Field::Broken;
     }
     let b = s[at];
-    match classify(b) {
+    let k = classify(b);
+    match k {
         Class::Digit => {
-            if b == b'0' {
-                return number(0, end_at(s, at + 1));
+            if is_padded(s, at) {
+                return Field::Broken;
             }
             digits(s, at, 0)
         }
-        Class::Letter => letter(b, end_at(s, at + 1)),
-        Class::Mark => mark(b, end_at(s, at + 1)),
         Class::Other => Field::Broken,
+        _ => sign(k, b, end_at(s, at + 1)),
     }
 }

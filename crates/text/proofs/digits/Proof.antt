@@ -1,18 +1,16 @@
 -- `text::digits` meets its contract. The loop's invariant: the number from the start on is the number from here on, with v read. Assumes nothing.
-use Prim.Native.Nat.{_+_, _≤_, _-_}
-use mathlib.Core.List.{[], _∷_}
-use types.Run.{OneOf}
+use Prim.Native.Nat.{ℕ, _+_, _≤_, _-_}
 use denote.Ref.{now}
-use denote.Enum.Declared.{tagOf}
-use mathlib.Core.Path.{_≡_, sym, ap, subst, _∙_}
+use mathlib.Core.Path.{_≡_, sym, ap, _∙_}
 use native.Mathlib.Omega.{arith}
 use borrow.Author.Needs.{needs}
+use borrow.Author.Tests.{not-true, not-false}
 use lib.ListN.{length, drop, getD}
-use Rattle.text.specs.declared.Class.{Class}
+use Rattle.range.specs.Range.{within}
+use Rattle.range.proofs.RangeLaws.{within-true}
 use Rattle.text.specs.declared.Field.the-variants as field
 use Rattle.text.specs.Field.{digitsFrom, closed}
-use Rattle.text.proofs.Class.{the-type}
-use Rattle.text.proofs.ClassLaws.{digit-range}
+use Rattle.text.proofs.ClassLaws.{outside}
 use Rattle.text.proofs.NumberLaws.{capped, one-more, no-more, none-left}
 use Rattle.text.proofs.digits.Statement.{statement}
 use Rattle.text.proofs.digits.Tie as tie
@@ -29,11 +27,11 @@ loop-holds c = search needs
 shared-slice-read-b : tie.Need-shared-slice-read-b Inv-loop μ-loop
 shared-slice-read-b c = search needs
 
-classify-requires : tie.Need-classify-requires Inv-loop μ-loop
-classify-requires c κs = search needs
+wide-requires : tie.Need-wide-requires Inv-loop μ-loop
+wide-requires c κs = search needs
 
-enum-told : tie.Need-enum-told Inv-loop μ-loop
-enum-told c = search needs
+in-range-requires : tie.Need-in-range-requires Inv-loop μ-loop
+in-range-requires c κs = search needs
 
 end-at-requires : tie.Need-end-at-requires Inv-loop μ-loop
 end-at-requires c κs = search needs
@@ -43,18 +41,21 @@ number-requires c κs = search needs
 
 returns : tie.Need-returns Inv-loop μ-loop
 returns c =
-    let at-match = c .before .before in
-    let at-loop-test = at-match .before .before .before in
+    let at-if1 = c .before .before in
+    let at-wide = at-if1 .before .before in
+    let at-loop-test = at-wide .before .before in
     let a = at-loop-test .before .before .before .args in
     let l = at-loop-test .before .loop in
     c .number .ensures
     ∙ ap (closed (field.Number (l .v))) (c .before .end-at .ensures)
     ∙ sym (no-more (now (a .s)) (l .i) (l .v) (at-loop-test .loop-test .taken)
-    (subst (λ (k : Class). OneOf (1 ∷ 2 ∷ 3 ∷ []) (tagOf the-type k)) (at-match .before .classify .ensures) (at-match .match .keys2)))
+    (outside _ (ap (λ (n : ℕ). within 48 n 57) (sym (at-wide .wide .ensures .0)) ∙ sym (at-if1 .before .in-range .ensures) ∙ not-true _ (at-if1 .if1 .taken))))
     ∙ sym (l .inv .1)
 
 add-digit-requires : tie.Need-add-digit-requires Inv-loop μ-loop
-add-digit-requires c κs = (search needs, digit-range _ (sym (c .before .before .classify .ensures) ∙ c .enum-told .given .1) .0)
+add-digit-requires c κs =
+    let at-in-range = c .before in
+    (search needs, omega (arith, within-true 48 _ 57 (sym (at-in-range .in-range .ensures) ∙ not-false _ (c .if1 .left)) .0, at-in-range .before .wide .ensures .0))
 
 add-i : tie.Need-add-i Inv-loop μ-loop
 add-i c = search needs
@@ -64,15 +65,17 @@ loop-less c = search needs
 
 loop-again : tie.Need-loop-again Inv-loop μ-loop
 loop-again c =
-    let at-classify = c .before .before .before in
-    let at-loop-test = at-classify .before .before in
+    let at-if1 = c .before in
+    let at-wide = at-if1 .before .before in
+    let at-loop-test = at-wide .before .before in
     let a = at-loop-test .before .before .before .args in
     let l = at-loop-test .before .loop in
-    let e = c .add-digit .ensures in (
+    let e = c .add-digit .ensures in
+    let r = within-true 48 _ 57 (sym (at-if1 .before .in-range .ensures) ∙ not-false _ (at-if1 .if1 .left)) in
+    let w = at-wide .wide .ensures .0 in (
       omega (arith, capped (l .v) (getD (now (a .s)) (l .i) 0)),
       l .inv .1
-          ∙ one-more (now (a .s)) (l .i) (l .v) (at-loop-test .loop-test .taken)
-          (sym (at-classify .classify .ensures) ∙ c .before .enum-told .given .1)
+          ∙ one-more (now (a .s)) (l .i) (l .v) (at-loop-test .loop-test .taken) (omega (arith, r .0, w)) (omega (arith, r .1, w))
           ∙ ap (digitsFrom (drop (l .i + 1) (now (a .s))) (l .i + 1)) (sym e),
     )
 
@@ -90,8 +93,8 @@ digits-spec =
     μ-loop
     loop-holds
     shared-slice-read-b
-    classify-requires
-    enum-told
+    wide-requires
+    in-range-requires
     end-at-requires
     number-requires
     returns

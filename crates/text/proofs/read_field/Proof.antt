@@ -1,11 +1,12 @@
 -- `text::read_field` meets its contract. Assumes nothing.
 use Prim.Native.Nat.{_+_}
-use mathlib.Core.Path.{_≡_, sym, ap, _∙_}
+use mathlib.Core.Path.{_≡_, refl, sym, ap, _∙_}
 use denote.Ref.{now}
 use lib.ListN.{drop, getD}
 use Rattle.text.specs.declared.Class.{Class}
 use Rattle.text.specs.Field.{closed, byClass, fieldAt}
-use Rattle.text.proofs.FieldLaws.{line-over, book-over, by-first, by-zero, by-digits}
+use Rattle.text.proofs.SignLaws.{by-sign}
+use Rattle.text.proofs.FieldLaws.{line-over, book-over, by-first, by-padded, by-digits}
 use borrow.Author.Needs.{needs}
 use Rattle.text.proofs.read_field.Statement.{statement}
 use Rattle.text.proofs.read_field.Tie as tie
@@ -31,14 +32,8 @@ classify-requires c κs = search needs
 enum-told : tie.Need-enum-told
 enum-told c = search needs
 
-add-end-at : tie.Need-add-end-at
-add-end-at c = search needs
-
-end-at-requires : tie.Need-end-at-requires
-end-at-requires c κs = search needs
-
-number-requires : tie.Need-number-requires
-number-requires c κs = search needs
+is-padded-requires : tie.Need-is-padded-requires
+is-padded-requires c κs = search needs
 
 digits-requires : tie.Need-digits-requires
 digits-requires c κs = search needs
@@ -46,63 +41,45 @@ digits-requires c κs = search needs
 enum-told-2 : tie.Need-enum-told-2
 enum-told-2 c = search needs
 
-add-end-at-2 : tie.Need-add-end-at-2
-add-end-at-2 c = search needs
+add-end-at : tie.Need-add-end-at
+add-end-at c = search needs
 
-end-at-requires-2 : tie.Need-end-at-requires-2
-end-at-requires-2 c κs = search needs
+end-at-requires : tie.Need-end-at-requires
+end-at-requires c κs = search needs
 
-letter-requires : tie.Need-letter-requires
-letter-requires c κs = search needs
-
-enum-told-3 : tie.Need-enum-told-3
-enum-told-3 c = search needs
-
-add-end-at-3 : tie.Need-add-end-at-3
-add-end-at-3 c = search needs
-
-end-at-requires-3 : tie.Need-end-at-requires-3
-end-at-requires-3 c κs = search needs
-
-mark-requires : tie.Need-mark-requires
-mark-requires c κs = search needs
-
-enum-told-4 : tie.Need-enum-told-4
-enum-told-4 c = search needs
+sign-requires : tie.Need-sign-requires
+sign-requires c κs = search needs
 
 returns-3 : tie.Need-returns-3
 returns-3 c =
-    let at-if3 = c .before .before in
-    let at-classify = at-if3 .before .before .before in
+    let at-told = c .before .before in
+    let at-classify = at-told .before .before in
     let at-if2 = at-classify .before .before in
-    c .number .ensures
-    ∙ ap (closed _) (c .before .end-at .ensures)
-    ∙ sym
-    (by-zero _ _ (at-if2 .before .if1 .left) (at-if2 .if2 .left) (sym (at-classify .classify .ensures) ∙ at-if3 .before .enum-told .given .1) (at-if3 .if3 .taken))
+    sym
+    (by-padded _ _ (at-if2 .before .if1 .left) (at-if2 .if2 .left) (sym (at-classify .classify .ensures) ∙ at-told .enum-told .given .1)
+    (sym (c .before .is-padded .ensures) ∙ c .if3 .taken))
 
 returns-4 : tie.Need-returns-4
 returns-4 c =
     let at-if3 = c .before in
-    let at-classify = at-if3 .before .before .before in
+    let at-told = at-if3 .before .before in
+    let at-classify = at-told .before .before in
     let at-if2 = at-classify .before .before in
     c .digits .ensures
     ∙ sym
-    (by-digits _ _ (at-if2 .before .if1 .left) (at-if2 .if2 .left) (sym (at-classify .classify .ensures) ∙ at-if3 .before .enum-told .given .1) (at-if3 .if3 .left))
+    (by-digits _ _ (at-if2 .before .if1 .left) (at-if2 .if2 .left) (sym (at-classify .classify .ensures) ∙ at-told .enum-told .given .1)
+    (sym (at-if3 .before .is-padded .ensures) ∙ at-if3 .if3 .left))
 
 returns-5 : tie.Need-returns-5
-returns-5 c =
-    c .letter .ensures
-    ∙ ap (closed _) (c .before .end-at2 .ensures)
-    ∙ sym (by-byte (c .before .before .before .before) _ (c .before .before .enum-told2 .given .1))
+returns-5 c = sym (by-byte (c .before .before) _ (c .enum-told2 .given .1))
 
 returns-6 : tie.Need-returns-6
 returns-6 c =
-    c .mark .ensures
-    ∙ ap (closed _) (c .before .end-at3 .ensures)
-    ∙ sym (by-byte (c .before .before .before .before) _ (c .before .before .enum-told3 .given .1))
-
-returns-7 : tie.Need-returns-7
-returns-7 c = sym (by-byte (c .before .before) _ (c .enum-told4 .given .1))
+    let at-match = c .before .before in
+    let k = at-match .before .classify .result in
+    c .sign .ensures
+    ∙ ap (closed _) (c .before .end-at .ensures)
+    ∙ sym (by-byte (at-match .before) k refl ∙ by-sign k _ _ _ (at-match .match .keys3))
 
 pub read-field-spec : {M : Type 1} → statement M
 read-field-spec =
@@ -113,21 +90,13 @@ read-field-spec =
     shared-slice-read-b
     classify-requires
     enum-told
-    add-end-at
-    end-at-requires
-    number-requires
+    is-padded-requires
     returns-3
     digits-requires
     enum-told-2
-    add-end-at-2
-    end-at-requires-2
-    letter-requires
-    enum-told-3
-    add-end-at-3
-    end-at-requires-3
-    mark-requires
-    enum-told-4
+    add-end-at
+    end-at-requires
+    sign-requires
     returns-4
     returns-5
-    returns-6
-    returns-7)
+    returns-6)
