@@ -1,4 +1,4 @@
--- The number and the place of each reply. Document 01, 'Replies'.
+-- The number and the place of each reply. Document 01, 'Replies'; from 13 on document 02.
 use Prim.Native.Nat.{ℕ}
 use Rattle.reply.specs.declared.Kind.{Kind}
 use Rattle.reply.specs.declared.Kind.the-variants as kind
@@ -19,6 +19,7 @@ kindNumber kind.Conflict = 9  -- clash
 kindNumber kind.CellMismatch = 10  -- cell
 kindNumber kind.BufferTooSmall = 11  -- short slip
 kindNumber kind.SyntaxError = 12  -- wrong scan
+kindNumber kind.SequenceReused = 13  -- S-3: crossed
 
 -- "0 | whole | accepted, or read to the end"
 abbrev pub numberOf : Reply → ℕ

@@ -4,7 +4,7 @@ ghost use mathlib.Core.Path.{_≡_};
 ghost use lib.ListN.{length, replicate};
 ghost use Rattle.reply.specs.Reply.{kindNumber, numberOf, placeOf};
 
-// Why something is refused. Each variant's comment has the word that document 01 uses for it.
+// Why something is refused. Each variant's comment has the word that the documents use for it.
 pub enum Kind {
     // torn
     Malformed,
@@ -30,9 +30,11 @@ pub enum Kind {
     BufferTooSmall,
     // wrong scan
     SyntaxError,
+    // crossed
+    SequenceReused,
 }
 
-// A refusal: its kind, and the place that document 01 fixes for it.
+// A refusal: its kind, and the place that the documents fix for it.
 pub struct Refusal {
     pub kind: Kind,
     pub place: usize,
@@ -61,6 +63,7 @@ pub fn kind_number(kind: Kind) -> u64
         Kind::CellMismatch => 10,
         Kind::BufferTooSmall => 11,
         Kind::SyntaxError => 12,
+        Kind::SequenceReused => 13,
     }
 }
 

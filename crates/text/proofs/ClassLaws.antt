@@ -49,6 +49,16 @@ module _ (b : ℕ) where
       go false false true p e = let z : _≡_ {A = ℕ} 0 1 = cc in absurd (omega arith)
       go false false false p e = let z : _≡_ {A = ℕ} 0 1 = cc in absurd (omega arith)
 
+  pub letter-range : classOf b ≡ class.Letter → (65 ≤ b) × (b ≤ 90)
+  unfolding classOf
+  letter-range e = go (within 48 b 57) (within 65 b 90) (eqb b 47 || eqb b 94) refl e
+    where
+      go : (t u v : Bool) → within 65 b 90 ≡ u → cond t class.Digit (cond u class.Letter (cond v class.Mark class.Other)) ≡ class.Letter → (65 ≤ b) × (b ≤ 90)
+      go true u v p e = let z : _≡_ {A = ℕ} 0 1 = cc in absurd (omega arith)
+      go false true v p e = within-true 65 b 90 p
+      go false false true p e = let z : _≡_ {A = ℕ} 0 1 = cc in absurd (omega arith)
+      go false false false p e = let z : _≡_ {A = ℕ} 0 1 = cc in absurd (omega arith)
+
   pub no-digit : (48 ≤ b → b ≤ 57 → ⊥) → {A : Type 0} (x y : A) → onDigit (classOf b) x y ≡ y
   unfolding classOf
   no-digit f x y = rw (false-within 48 b 57 f) (go (within 65 b 90) (eqb b 47 || eqb b 94))

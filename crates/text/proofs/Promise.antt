@@ -8,14 +8,12 @@ use native.Mathlib.Omega.{arith}
 use borrow.Author.Tests.{eqb-true, eqb-false}
 use lib.Dec.{eqb}
 use lib.ListN.{length, drop, length-append}
-use lib.Seq.{append-snoc, drop-drop, drop-append-seam}
+use lib.Seq.{append-snoc}
 use Rattle.range.specs.Range.{within}
 use Rattle.range.proofs.RangeLaws.{true-within}
 use Rattle.text.specs.declared.Cursor.{Cursor}
 use Rattle.text.specs.declared.Class.{Class}
 use Rattle.text.specs.declared.Class.the-variants as class
-use Rattle.text.specs.declared.End.{End}
-use Rattle.text.specs.declared.End.the-variants.{Past, Missing}
 use Rattle.text.specs.declared.Field.the-variants as field
 use Rattle.text.specs.Digits.{digits}
 use Rattle.text.specs.Field.{classOf, endOf, addDigit, closed, onDigit, digitsFrom, byClass, fieldOf, fieldAt}
@@ -24,37 +22,7 @@ use Rattle.text.proofs.ClassLaws.{class-digit, digit-range}
 use Rattle.text.proofs.DigitsLaws.{digits-one, digits-more}
 use Rattle.text.proofs.FieldLaws.{padded-other}
 use Rattle.text.proofs.NumberLaws.{as-digits, zero-field, OfNumber, of-number, of-closed}
-
--- ---- bytes l at `at` that begin with w and the byte that ends a field; d is the cursor past it
-record Spells (l : List ℕ) (at : ℕ) (w : List ℕ) (d : Cursor) : Type 0 where
-  rest : List ℕ
-  bytes : l ≡ w ++ ending (d .ended) ∷ rest
-  place : d .at ≡ at + length w + 1
-
--- after bytes w there is only the end
-spells-behind : (w : List ℕ) {l : List ℕ} {from at : ℕ} {d : Cursor} → at ≡ from + length w → Spells l at [] d → Spells (w ++ l) from w d
-spells-behind w e h = record { rest = h .rest; bytes = ap (λ (l : List ℕ). w ++ l) (h .bytes); place = omega (arith, e, h .place) }
-
-spells-as : {l m w x : List ℕ} {at : ℕ} {d : Cursor} → l ≡ m → w ≡ x → Spells l at w d → Spells m at x d
-spells-as {l} {x = x} {at} {d} e f h = subst (λ (m : List ℕ). Spells m at x d) e (subst (λ (x : List ℕ). Spells l at x d) f h)
-
-abbrev EndSpells : List ℕ → ℕ → End → Type 0
-EndSpells l at (Past d) = Spells l at [] d
-EndSpells l at Missing = Unit {0}
-
-end-spells : (l : List ℕ) (at : ℕ) {d : Cursor} → endOf l at ≡ Past d → Spells l at [] d
-unfolding endOf
-end-spells l at e = subst (EndSpells l at) e (go l)
-  where
-    go : (l : List ℕ) → EndSpells l at (endOf l at)
-    go [] = tt
-    go (b ∷ l) = by (eqb b 44) refl (eqb b 10) refl
-      where
-        by : (t : Bool) → eqb b 44 ≡ t → (u : Bool) → eqb b 10 ≡ u
-            → EndSpells (b ∷ l) at (cond t (Past (record { at = at + 1; ended = false })) (cond u (Past (record { at = at + 1; ended = true })) Missing))
-        by true p u q = record { rest = l; bytes = ap (λ (x : ℕ). x ∷ l) (eqb-true b 44 p); place = omega arith }
-        by false p true q = record { rest = l; bytes = ap (λ (x : ℕ). x ∷ l) (eqb-true b 10 q); place = omega arith }
-        by false p false q = tt
+use Rattle.text.proofs.SpellLaws.{Spells, spells-behind, spells-as, end-spells, spelled}
 
 -- ---- the digits of a number, of which u was read before `at`
 abbrev Grows : List ℕ → ℕ → ℕ → ℕ → Cursor → Type 0
@@ -176,21 +144,13 @@ zero-torn b l at e = let r = digit-range b e in simp (class-digit 48 (omega arit
 
 -- ---- the field at a cursor
 module _ (s : List ℕ) (c : Cursor) where
-  spelled : {w : List ℕ} {d : Cursor} → c .ended ≡ false → Spells (drop (c .at) s) (c .at) w d → Spelled s c w d
-  spelled {w} {d} e h = record { going = e; bytes = h .bytes ∙ ap (λ (l : List ℕ). w ++ ending (d .ended) ∷ l) (sym past); place = h .place }
-    where
-      past : drop (d .at) s ≡ h .rest
-      past =
-          ap (λ (n : ℕ). drop n s) (h .place)
-          ∙ (sym (drop-drop 1 (c .at + length w) s) ∙ (ap (drop 1) (sym (drop-drop (length w) (c .at) s) ∙ (ap (drop (length w)) (h .bytes) ∙ drop-append-seam w _))))
-
   pub number-written : (v : ℕ) (d : Cursor) → v ≤ 65535 → fieldAt s c ≡ field.Number v d → Spelled s c (digits v) d
   unfolding fieldAt
   number-written v d m e = subst (OfNumber (λ v d. v ≤ 65535 → Spelled s c (digits v) d)) e (go (c .ended) refl) m
     where
       go : (t : Bool) → c .ended ≡ t → OfNumber (λ v d. v ≤ 65535 → Spelled s c (digits v) d) (cond t field.Broken (fieldOf (drop (c .at) s) (c .at)))
       go true e = tt
-      go false e = of-number (λ v d h m. spelled e (h m)) (fieldOf (drop (c .at) s) (c .at)) (field-written (drop (c .at) s) (c .at))
+      go false e = of-number (λ v d h m. spelled s c e (h m)) (fieldOf (drop (c .at) s) (c .at)) (field-written (drop (c .at) s) (c .at))
 
   pub written-number : (v : ℕ) (d : Cursor) → v ≤ 65535 → Spelled s c (digits v) d → fieldAt s c ≡ field.Number v d
   unfolding fieldAt

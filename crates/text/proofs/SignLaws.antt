@@ -10,7 +10,8 @@ use Rattle.text.specs.declared.Cursor.{Cursor}
 use Rattle.text.specs.declared.Class.{Class}
 use Rattle.text.specs.declared.Class.the-variants as class
 use Rattle.text.specs.declared.Field.the-variants as field
-use Rattle.text.specs.Field.{endOf, closed, signOf, byClass}
+use Rattle.text.specs.Field.{endOf, closed, byClass}
+use Rattle.text.specs.Sign.{signOf}
 use Rattle.text.proofs.Class.{the-type}
 
 pub not-letter : (k : Class) (b : ℕ) (c : Cursor) → OneOf (0 ∷ 2 ∷ 3 ∷ []) (tagOf the-type k) → signOf k b c ≡ field.Mark b c

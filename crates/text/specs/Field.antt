@@ -56,13 +56,6 @@ padded [] = false
 padded (b ∷ []) = false
 padded (b ∷ c ∷ l) = eqb b 48 && within 48 c 57
 
--- a letter, where its class says so, or a mark
-abbrev pub signOf : Class → ℕ → Cursor → Field
-signOf class.Letter b c = field.Letter b c
-signOf class.Digit b c = field.Mark b c
-signOf class.Mark b c = field.Mark b c
-signOf class.Other b c = field.Mark b c
-
 -- a field that begins with b and goes on with l, by the class of b
 abbrev pub byClass : Class → ℕ → List ℕ → ℕ → Field
 byClass class.Digit b l at = cond (padded (b ∷ l)) field.Broken (digitsFrom (b ∷ l) at 0)

@@ -4,7 +4,8 @@ use range::in_range;
 ghost use mathlib.Core.Path.{_≡_};
 ghost use Prim.Native.Nat.{_≤_, _<_};
 ghost use lib.ListN.{length, drop};
-ghost use Rattle.text.specs.Field.{classOf, endOf, addDigit, closed, digitsFrom, padded, signOf, fieldAt};
+ghost use Rattle.text.specs.Field.{classOf, endOf, addDigit, closed, digitsFrom, padded, fieldAt};
+ghost use Rattle.text.specs.Sign.{signOf};
 
 // A place in a line: the next byte, and whether the line's LF has been passed.
 pub struct Cursor {
