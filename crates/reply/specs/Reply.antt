@@ -19,7 +19,7 @@ kindNumber kind.Conflict = 9  -- clash
 kindNumber kind.CellMismatch = 10  -- cell
 kindNumber kind.BufferTooSmall = 11  -- short slip
 kindNumber kind.SyntaxError = 12  -- wrong scan
-kindNumber kind.SequenceReused = 13  -- S-3: crossed
+kindNumber kind.ConflictingRepeat = 13  -- S-3: crossed
 
 -- "0 | whole | accepted, or read to the end"
 abbrev pub numberOf : Reply → ℕ

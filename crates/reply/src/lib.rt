@@ -31,7 +31,7 @@ pub enum Kind {
     // wrong scan
     SyntaxError,
     // crossed
-    SequenceReused,
+    ConflictingRepeat,
 }
 
 // A refusal: its kind, and the place that the documents fix for it.
@@ -63,7 +63,7 @@ pub fn kind_number(kind: Kind) -> u64
         Kind::CellMismatch => 10,
         Kind::BufferTooSmall => 11,
         Kind::SyntaxError => 12,
-        Kind::SequenceReused => 13,
+        Kind::ConflictingRepeat => 13,
     }
 }
 
