@@ -7,9 +7,9 @@ use native.Mathlib.Omega.{arith}
 use lib.ListN.{length, drop, length-drop}
 use lib.Dec.{leb, eqb}
 use Rattle.text.specs.declared.Cursor.{Cursor}
-use Rattle.text.specs.declared.Field.{Field}
 use Rattle.text.specs.declared.Field.the-variants as field
-use Rattle.text.specs.Field.{fieldAt, onLetter}
+use Rattle.text.specs.Field.{fieldAt}
+use Rattle.text.proofs.ElseLaws.{all-number, all-letter}
 use Rattle.text.proofs.OnwardLaws.{onward}
 use Rattle.scans.specs.declared.Line.{Line}
 use Rattle.scans.specs.declared.Text.{Text}
@@ -17,18 +17,18 @@ use Rattle.scans.specs.declared.Text.the-variants as text
 use Rattle.scans.specs.declared.Parsed.{Parsed}
 use Rattle.scans.specs.declared.Parsed.the-variants as parsed
 use Rattle.scans.specs.Line.{textByte, textEnd, textFrom, onText, lineAfter, lineAt}
-use Rattle.scans.specs.Token.{Within}
+use Rattle.scans.specs.Read.{Within}
 
--- of a text that was read, that its end is past `low` and not past `high`
+-- of a text that was read, that its end is not before `low`, and before `high`
 abbrev TextIn : ℕ → ℕ → Text → Type 0
-TextIn low high (text.Past next) = (low < next) × (next ≤ high)
+TextIn low high (text.Until end) = (low ≤ end) × (end < high)
 TextIn low high text.Broken = Unit {0}
 
-end-in : (low high next n : ℕ) → low < next → next ≤ high → TextIn low high (textEnd next n)
+end-in : (low high at n : ℕ) → low ≤ at → at < high → TextIn low high (textEnd at n)
 unfolding textEnd
-end-in low high next n l h = go (leb 1 n && leb n 30)
+end-in low high at n l h = go (leb 1 n && leb n 30)
   where
-    go : (t : Bool) → TextIn low high (cond t (text.Past next) text.Broken)
+    go : (t : Bool) → TextIn low high (cond t (text.Until at) text.Broken)
     go true = (l, h)
     go false = tt
 
@@ -40,35 +40,37 @@ text-in (b ∷ l) low high at n p q =
     go (eqb b 10) (textByte b) m (text-in l low high (at + 1) (n + 1) (omega arith) (λ z. omega arith))
   where
     go : (t u : Bool) → at + length (b ∷ l) ≤ high → TextIn low high (textFrom l (at + 1) (n + 1))
-        → TextIn low high (cond t (textEnd (at + 1) n) (cond u (textFrom l (at + 1) (n + 1)) text.Broken))
-    go true u m r = end-in low high (at + 1) n (omega arith) (omega arith)
+        → TextIn low high (cond t (textEnd at n) (cond u (textFrom l (at + 1) (n + 1)) text.Broken))
+    go true u m r = end-in low high at n p (omega arith)
     go false true m r = r
     go false false m r = tt
 
 -- of a line that was read, that it begins at `at` and stands in the file
 abbrev LineIn : List ℕ → ℕ → Parsed → Type 0
-LineIn s at (parsed.Line line) = (line .start ≡ at) × Within s line
+LineIn s at (parsed.Line line) = (at < line .text) × Within s line
 LineIn s at parsed.Broken = Unit {0}
 
 module _ (s : List ℕ) (at : ℕ) where
-  after-in : (letter : ℕ) (c : Cursor) → at < c .at → LineIn s at (lineAfter s at letter c)
+  after-in : (sequence letter : ℕ) (c : Cursor) → at < c .at → LineIn s at (lineAfter s sequence letter c)
   unfolding lineAfter
-  after-in letter c h =
+  after-in sequence letter c h =
       go (c .ended) (textFrom (drop (c .at) s) (c .at) 0)
       (text-in (drop (c .at) s) (c .at) (length s) (c .at) 0 (omega arith) (λ z. omega (arith, length-drop (c .at) s)))
     where
       go : (t : Bool) (x : Text) → TextIn (c .at) (length s) x
-          → LineIn s at (cond t parsed.Broken (onText x (λ next. parsed.Line (record { letter = letter; start = at; next = next }))))
+          → LineIn s at
+          (cond t parsed.Broken (onText x (λ end. parsed.Line (record { sequence = sequence; letter = letter; text = c .at; end = end }))))
       go true x p = tt
-      go false (text.Past next) p = (refl, record { some = omega arith; inside = p .1 })
+      go false (text.Until end) p = (h, record { some-text = p .0; inside = p .1 })
       go false text.Broken p = tt
 
-  pub line-in : {line : Line} → lineAt s at ≡ parsed.Line line → (line .start ≡ at) × Within s line
+  pub line-in : {line : Line} → lineAt s at ≡ parsed.Line line → (at < line .text) × Within s line
   unfolding lineAt
-  line-in e = subst (LineIn s at) e (go (fieldAt s (record { at = at; ended = false })) refl)
-    where
-      go : (f : Field) → fieldAt s (record { at = at; ended = false }) ≡ f → LineIn s at (onLetter f (lineAfter s at) parsed.Broken)
-      go (field.Letter b c) q = after-in b c (onward s _ (field.Letter b c) q .0)
-      go (field.Number v c) q = tt
-      go (field.Mark b c) q = tt
-      go field.Broken q = tt
+  line-in e =
+      subst (LineIn s at) e
+      (all-number (LineIn s at) (fieldAt s (record { at = at; ended = false }))
+      (λ sequence c p.
+      all-letter (LineIn s at) (fieldAt s c)
+      (λ letter d q. after-in sequence letter d (omega (arith, onward s _ (field.Number sequence c) p .0, onward s c (field.Letter letter d) q .0)))
+      tt)
+      tt)

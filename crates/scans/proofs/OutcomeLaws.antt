@@ -11,7 +11,8 @@ use Rattle.reply.specs.declared.Kind.the-variants as kind
 use Rattle.reply.specs.declared.Refusal.{Refusal}
 use Rattle.reply.specs.declared.Reply.{Reply}
 use Rattle.reply.specs.declared.Reply.the-variants as reply
-use Rattle.scans.specs.File.{Scanned, tokens, refused, refusedAt, allLines, scanned, replyOf, outcomeOf, Stored}
+use Rattle.scans.specs.File.{Scanned, tokens, refused, refusedAt, allLines, scanned, replyOf, outcomeOf}
+use Rattle.scans.specs.Read.{Stored}
 
 drop-zeros : (n k : ℕ) → drop {A = ℕ} k (replicate n 0) ≡ replicate (n - k) 0
 drop-zeros n zero = let e : n ≡ n - 0 = omega arith in ap (λ (m : ℕ). replicate m 0) e
@@ -41,24 +42,24 @@ module _ (letters s : List ℕ) (room : ℕ) where
       e : scanned letters s ≡ refusedAt kind.LimitExceeded 0
       e = simp (lt-leb (length s) 65536 h)
 
-  module _ (h : length s ≤ 65536) {r : Reply} {lent held : List ℕ} (d : Stored (allLines letters s) r lent held) where
-    by-lines : scanned letters s ≡ allLines letters s
+  module _ (h : length s ≤ 65536) {r : Reply} {lent held : List ℕ} (d : Stored (allLines letters 0 s) r lent held) where
+    by-lines : scanned letters s ≡ allLines letters 0 s
     unfolding scanned
     by-lines = simp (le-leb (length s) 65536 h)
 
     pub refused-lines : {x : Refusal} → r ≡ reply.Refused x → {a : Reply} {zeros : List ℕ}
         → a ≡ reply.Refused x → zeros ≡ replicate room 0 → Answers letters s room a zeros
-    refused-lines {x} e p q = refused-answer (by-lines ∙ go (allLines letters s) (sym e ∙ d .replied)) p q
+    refused-lines {x} e p q = refused-answer (by-lines ∙ go (allLines letters 0 s) (sym e ∙ d .replied)) p q
       where
         go : (y : Scanned) → reply.Refused x ≡ replyOf y → y ≡ refused x
         go (tokens l) p = let z : _≡_ {A = ℕ} 0 1 = cc in absurd (omega arith)
         go (refused w) p = let f : w ≡ x = cc in ap refused f
 
     module _ {n : ℕ} (e : r ≡ reply.Accepted n) where
-      listed : (l : List ℕ) × (allLines letters s ≡ tokens l) × (length l ≡ n)
-      listed = go (allLines letters s) refl (sym e ∙ d .replied)
+      listed : (l : List ℕ) × (allLines letters 0 s ≡ tokens l) × (length l ≡ n)
+      listed = go (allLines letters 0 s) refl (sym e ∙ d .replied)
         where
-          go : (y : Scanned) → allLines letters s ≡ y → reply.Accepted n ≡ replyOf y → (l : List ℕ) × (allLines letters s ≡ tokens l) × (length l ≡ n)
+          go : (y : Scanned) → allLines letters 0 s ≡ y → reply.Accepted n ≡ replyOf y → (l : List ℕ) × (allLines letters 0 s ≡ tokens l) × (length l ≡ n)
           go (tokens l) q p = (l, q, let f : length l ≡ n = cc in f)
           go (refused w) q p = let z : _≡_ {A = ℕ} 0 1 = cc in absurd (omega arith)
 

@@ -2,22 +2,25 @@
 use Prim.Native.Nat.{ℕ, zero, suc, _+_, _<_, _≤_}
 use mathlib.Core.Path.{_≡_, refl, sym, ap, _∙_}
 use mathlib.Core.List.{List, [], _∷_, _++_, append-assoc, append-nil}
+use mathlib.Core.Option.{Option, some, none}
 use native.Mathlib.Omega.{arith}
 use native.Mathlib.Nat.{zero-add}
-use borrow.Author.Tests.{lt-ltb, le-ltb, ne-eqb}
+use borrow.Author.Tests.{lt-ltb, le-ltb}
 use lib.ListN.{length, set, length-append, length-set}
 use lib.Seq.{sets}
 use Rattle.reply.specs.declared.Kind.{Kind}
 use Rattle.reply.specs.declared.Kind.the-variants as kind
 use Rattle.reply.specs.declared.Reply.{Reply}
 use Rattle.reply.specs.declared.Reply.the-variants as reply
+use Rattle.scans.specs.declared.Judged.the-variants as judged
 use Rattle.scans.specs.declared.Line.{Line}
 use Rattle.scans.specs.declared.Parsed.the-variants as parsed
 use Rattle.scans.specs.declared.Previous.{Previous}
 use Rattle.scans.specs.declared.Previous.the-variants as previous
 use Rattle.scans.specs.Line.{lineAt}
-use Rattle.scans.specs.Token.{codeOf, tokenOf, Within, WithinFile}
-use Rattle.scans.specs.File.{Scanned, tokens, refused, refusedAt, join, linesFrom, allLines, replyOf, Stored}
+use Rattle.scans.specs.Tokens.{Scan, Scanned, tokens, refused, refusedAt, join, judge, tokensOf}
+use Rattle.scans.specs.File.{scanOf, rowsFrom, allLines, replyOf}
+use Rattle.scans.specs.Read.{beforeOf, Within, WithinFile, Stored}
 use Rattle.scans.proofs.LineLaws.{line-in}
 
 join-none : (x : Scanned) → join [] x ≡ x
@@ -44,30 +47,32 @@ pub record Going (letters s : List ℕ) (all : Scanned) (lent held : List ℕ) (
   pub few : count ≤ at
   pub stored : held ≡ sets lent 0 out
   pub long : length held ≡ length lent
-  pub same : all ≡ join out (linesFrom letters s fuel before at)
+  pub same : all ≡ join out (tokensOf letters (beforeOf s before) (rowsFrom 0 s fuel at))
 
-module _ (letters s : List ℕ) (before : Previous) (at : ℕ) where
-  none-left : length s ≤ at → (k : ℕ) → linesFrom letters s k before at ≡ tokens []
-  unfolding linesFrom
+module _ (letters s : List ℕ) (before : Option Scan) (at : ℕ) where
+  none-left : length s ≤ at → (k : ℕ) → tokensOf letters before (rowsFrom 0 s k at) ≡ tokens []
+  unfolding tokensOf rowsFrom
   none-left h zero = refl
   none-left h (suc k) = simp (le-ltb at (length s) h)
 
   module _ (h : at < length s) where
-    broken-here : lineAt s at ≡ parsed.Broken → (k : ℕ) → linesFrom letters s (suc k) before at ≡ refusedAt kind.Malformed at
-    unfolding linesFrom
-    broken-here q k = simp (lt-ltb at (length s) h, q)
+    broken-here : lineAt s at ≡ parsed.Broken → (k : ℕ) → tokensOf letters before (rowsFrom 0 s (suc k) at) ≡ refusedAt kind.Malformed at
+    unfolding tokensOf rowsFrom
+    broken-here q k = simp (lt-ltb at (length s) h, q, zero-add)
 
     module _ {line : Line} (q : lineAt s at ≡ parsed.Line line) where
-      undeclared-here : codeOf letters (line .letter) ≡ 0 → (k : ℕ) → linesFrom letters s (suc k) before at ≡ refusedAt kind.Undeclared at
-      unfolding linesFrom
-      undeclared-here z k = simp (lt-ltb at (length s) h, q, z)
+      refused-here : {w : Kind} → judge letters before (scanOf s line) ≡ judged.Refused w → (k : ℕ)
+          → tokensOf letters before (rowsFrom 0 s (suc k) at) ≡ refusedAt w at
+      unfolding tokensOf rowsFrom
+      refused-here j k = simp (lt-ltb at (length s) h, q, j, zero-add)
 
-      read-here : (codeOf letters (line .letter) ≡ 0 → ⊥) → (k : ℕ) → linesFrom letters s (suc k) before at
-          ≡ join (tokenOf s before line (codeOf letters (line .letter)) ∷ []) (linesFrom letters s k (previous.Line line) (line .next))
-      unfolding linesFrom
-      read-here f k = simp (lt-ltb at (length s) h, q, ne-eqb _ _ f)
+      read-here : {t : ℕ} → judge letters before (scanOf s line) ≡ judged.Token t → (k : ℕ)
+          → tokensOf letters before (rowsFrom 0 s (suc k) at)
+          ≡ join (t ∷ []) (tokensOf letters (some (scanOf s line)) (rowsFrom 0 s k (line .end + 1)))
+      unfolding tokensOf rowsFrom
+      read-here j k = simp (lt-ltb at (length s) h, q, j)
 
-pub going-start : (letters s lent : List ℕ) → Going letters s (allLines letters s) lent lent previous.Nothing 0 0
+pub going-start : (letters s lent : List ℕ) → Going letters s (allLines letters 0 s) lent lent previous.Nothing 0 0
 going-start letters s lent =
     record {
       out = [];
@@ -90,60 +95,59 @@ module _ {letters s : List ℕ} {all : Scanned} {lent held : List ℕ} {before :
       go zero e = absurd (omega arith)
       go (suc k) e = (k, refl)
 
+  abbrev with-fuel : ℕ → Scanned
+  with-fuel n = join (g .out) (tokensOf letters (beforeOf s before) (rowsFrom 0 s n at))
+
   pub all-read : length s ≤ at → Stored all (reply.Accepted count) lent held
   all-read h = record { replied = simp (e, g .counted); stored = λ l q. g .stored ∙ ap (sets lent 0) (same-list l q) }
     where
       e : all ≡ tokens (g .out)
-      e = g .same ∙ ap (join (g .out)) (none-left letters s before at h (g .fuel)) ∙ ap tokens (simp append-nil)
+      e = g .same ∙ ap (join (g .out)) (none-left letters s (beforeOf s before) at h (g .fuel)) ∙ ap tokens (simp append-nil)
 
       same-list : (l : List ℕ) → all ≡ tokens l → g .out ≡ l
       same-list l q = let p = e in cc
 
   -- the line at `at` is refused, and so the file
-  refused-line : (k : Kind) → at < length s → ((n : ℕ) → linesFrom letters s (suc n) before at ≡ refusedAt k at)
+  refused-line : (k : Kind) → at < length s → ((n : ℕ) → tokensOf letters (beforeOf s before) (rowsFrom 0 s (suc n) at) ≡ refusedAt k at)
       → {r : Reply} → r ≡ reply.Refused (record { kind = k; place = at }) → Stored all r lent held
   refused-line k h f {r} p = record { replied = p ∙ sym (ap replyOf e); stored = λ l q. let z : _≡_ {A = ℕ} 0 1 = clash l q in absurd (omega arith) }
     where
       e : all ≡ refusedAt k at
-      e = g .same ∙ ap (λ (n : ℕ). join (g .out) (linesFrom letters s n before at)) (fuel-left h .1) ∙ ap (join (g .out)) (f (fuel-left h .0))
+      e = g .same ∙ ap with-fuel (fuel-left h .1) ∙ ap (join (g .out)) (f (fuel-left h .0))
 
       clash : (l : List ℕ) → all ≡ tokens l → _≡_ {A = ℕ} 0 1
       clash l q = let p = e in cc
 
   module _ (h : at < length s) where
     pub line-broken : lineAt s at ≡ parsed.Broken → {r : Reply} → r ≡ reply.Refused (record { kind = kind.Malformed; place = at }) → Stored all r lent held
-    line-broken q = refused-line kind.Malformed h (λ n. broken-here letters s before at h q n)
+    line-broken q = refused-line kind.Malformed h (λ n. broken-here letters s (beforeOf s before) at h q n)
 
     module _ {line : Line} (q : lineAt s at ≡ parsed.Line line) where
-      pub line-undeclared : codeOf letters (line .letter) ≡ 0 → {r : Reply}
-          → r ≡ reply.Refused (record { kind = kind.Undeclared; place = at }) → Stored all r lent held
-      line-undeclared z = refused-line kind.Undeclared h (λ n. undeclared-here letters s before at h q z n)
+      pub line-refused : {w : Kind} → judge letters (beforeOf s before) (scanOf s line) ≡ judged.Refused w → {r : Reply}
+          → r ≡ reply.Refused (record { kind = w; place = at }) → Stored all r lent held
+      line-refused {w} j = refused-line w h (λ n. refused-here letters s (beforeOf s before) at h q j n)
 
-      pub line-read : (codeOf letters (line .letter) ≡ 0 → ⊥) → {held′ : List ℕ}
-          → held′ ≡ set held count (tokenOf s before line (codeOf letters (line .letter)))
-          → Going letters s all lent held′ (previous.Line line) (line .next) (count + 1)
-      line-read f {held′} e =
+      pub line-read : {token : ℕ} → judge letters (beforeOf s before) (scanOf s line) ≡ judged.Token token → {held′ : List ℕ} → held′ ≡ set held count token
+          → Going letters s all lent held′ (previous.Line line) (line .end + 1) (count + 1)
+      line-read {token} j {held′} e =
           record {
             out = g .out ++ token ∷ [];
             fuel = k .0;
-            enough = omega (arith, k .1, w .0, w .1 .some, g .enough);
+            enough = omega (arith, g .enough, k .1, w .0, w .1 .some-text);
             within = w .1;
             counted = length-append (g .out) (token ∷ []) ∙ ap (λ (n : ℕ). n + 1) (g .counted);
-            few = omega (arith, w .0, w .1 .some, g .few);
+            few = omega (arith, w .0, w .1 .some-text, g .few);
             stored = e ∙ simp (g .stored, sets-more (g .out) lent 0 token, zero-add, g .counted);
             long = ap length e ∙ length-set held count token ∙ g .long;
             same =
                 g .same
-                ∙ ap (λ (n : ℕ). join (g .out) (linesFrom letters s n before at)) (k .1)
-                ∙ ap (join (g .out)) (read-here letters s before at h q f (k .0))
-                ∙ join-one (g .out) token (linesFrom letters s (k .0) (previous.Line line) (line .next));
+                ∙ ap with-fuel (k .1)
+                ∙ ap (join (g .out)) (read-here letters s (beforeOf s before) at h q j (k .0))
+                ∙ join-one (g .out) token (tokensOf letters (some (scanOf s line)) (rowsFrom 0 s (k .0) (line .end + 1)));
           }
         where
-          token : ℕ
-          token = tokenOf s before line (codeOf letters (line .letter))
-
           k : (k : ℕ) × (g .fuel ≡ suc k)
           k = fuel-left h
 
-          w : (line .start ≡ at) × Within s line
+          w : (at < line .text) × Within s line
           w = line-in s at q

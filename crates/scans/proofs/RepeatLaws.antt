@@ -1,4 +1,4 @@
--- What the test for a repeat tells.
+-- What the tests of two lines tell.
 use Prim.Native.Nat.{ℕ}
 use mathlib.Core.Path.{_≡_, refl, sym, _∙_}
 use mathlib.Core.List.{List, [], _∷_}
@@ -7,7 +7,11 @@ use native.Mathlib.Omega.{arith}
 use borrow.Author.Tests.{eqb-true, eq-eqb}
 use lib.Dec.{eqb}
 use Rattle.scans.specs.declared.Line.{Line}
-use Rattle.scans.specs.Token.{bytesOf, sameBytes, repeats}
+use Rattle.scans.specs.declared.Previous.{Previous}
+use Rattle.scans.specs.declared.Previous.the-variants as previous
+use Rattle.scans.specs.Tokens.{sameBytes, repeats}
+use Rattle.scans.specs.File.{scanOf}
+use Rattle.scans.specs.Read.{beforeOf, repeatsLine}
 
 pub same-equal : (a b : List ℕ) → sameBytes a b ≡ true → a ≡ b
 unfolding sameBytes
@@ -37,12 +41,7 @@ same-told false a b f g = go (sameBytes a b) refl
     go true q = g (same-equal a b q) ∙ sym q
     go false q = sym q
 
--- a line is a repeat of the line before it if and only if it is the same bytes
-module _ (s : List ℕ) (before line : Line) where
-  pub repeat-equal : repeats s before line ≡ true → bytesOf s before ≡ bytesOf s line
-  unfolding repeats
-  repeat-equal e = same-equal _ _ e
-
-  pub equal-repeat : bytesOf s before ≡ bytesOf s line → repeats s before line ≡ true
-  unfolding repeats
-  equal-repeat e = equal-same _ _ e
+-- the sequences alone tell a repeat
+pub repeats-is : (s : List ℕ) (before : Previous) (line : Line) → repeats (beforeOf s before) (scanOf s line) ≡ repeatsLine before line
+repeats-is s previous.Nothing line = refl
+repeats-is s (previous.Line before) line = refl

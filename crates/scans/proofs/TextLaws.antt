@@ -15,7 +15,7 @@ module _ (s : List ℕ) (i n : ℕ) where
   text-over h = simp (past s i h)
 
   module _ (h : i < length s) where
-    pub text-end : getD s i 0 ≡ 10 → textFrom (drop i s) i n ≡ textEnd (i + 1) n
+    pub text-end : getD s i 0 ≡ 10 → textFrom (drop i s) i n ≡ textEnd i n
     unfolding textFrom
     text-end e = simp (here s i h, eq-eqb _ _ e)
 

@@ -1,78 +1,106 @@
 -- What is known of the tokens of a file that was read.
-use Prim.Native.Nat.{ℕ, zero, suc, _-_, _<_, _≤_}
-use mathlib.Core.Path.{_≡_, refl, ap, subst, _∙_}
+use Prim.Native.Nat.{ℕ, zero, suc, _+_, _-_, _<_, _≤_}
+use mathlib.Core.Path.{_≡_, refl, sym, ap, subst, _∙_}
 use mathlib.Core.List.{List, [], _∷_, _++_, map}
+use mathlib.Core.Option.{Option, some, none}
 use mathlib.Core.Bool.{Bool, true, false, cond, _&&_}
 use native.Mathlib.Omega.{arith}
 use borrow.Author.Needs.{needs}
-use borrow.Author.Tests.{leb-true, eqb-false}
+use borrow.Author.Tests.{leb-true, eqb-false, ltb-false}
 use lib.Dec.{leb, ltb, eqb}
 use lib.ListN.{length, getD, replicate}
 use Rattle.reply.specs.declared.Refusal.{Refusal}
 use Rattle.reply.specs.declared.Reply.the-variants as reply
 use Rattle.reply.specs.declared.Kind.the-variants as kind
+use Rattle.scans.specs.declared.Judged.{Judged}
+use Rattle.scans.specs.declared.Judged.the-variants as judged
 use Rattle.scans.specs.declared.Line.{Line}
 use Rattle.scans.specs.declared.Parsed.{Parsed}
 use Rattle.scans.specs.declared.Parsed.the-variants as parsed
-use Rattle.scans.specs.declared.Previous.{Previous}
-use Rattle.scans.specs.declared.Previous.the-variants as previous
 use Rattle.scans.specs.Line.{lineAt, onLine}
-use Rattle.scans.specs.Token.{codeOf, repeatsPrevious, tokenOf}
-use Rattle.scans.specs.File.{house, Scanned, tokens, refused, refusedAt, join, linesFrom, allLines, scanned, outcomeOf, scansOf}
+use Rattle.scans.specs.Tokens.{Scan, Row, scan, torn, Scanned, tokens, refused, refusedAt, join, codeOf, repeats, differs, judge, onJudged, tokensOf}
+use Rattle.scans.specs.File.{house, scanOf, rowsFrom, allLines, scanned, outcomeOf, scansOf}
 
--- what holds of the end and of a refusal, and goes on holding with each token, holds of what the lines give
+-- ---- what a token tells of its line
+pub record Taken (letters : List ℕ) (before : Option Scan) (x : Scan) (t : ℕ) : Type 0 where
+  pub numbered : x .sequence ≤ 65535
+  pub agrees : repeats before x && differs before x ≡ false
+  pub coded : codeOf letters (x .letter) ≡ 0 → ⊥
+  pub token : t ≡ cond (repeats before x) 4 (codeOf letters (x .letter))
+
+pub taken : (letters : List ℕ) (before : Option Scan) (x : Scan) {t : ℕ} → judge letters before x ≡ judged.Token t → Taken letters before x t
+unfolding judge
+taken letters before x {t} e =
+    go (ltb 65535 (x .sequence)) refl (repeats before x && differs before x) refl (eqb (codeOf letters (x .letter)) 0) refl e
+  where
+    go : (a : Bool) → ltb 65535 (x .sequence) ≡ a → (b : Bool) → repeats before x && differs before x ≡ b → (c : Bool) → eqb (codeOf letters (x .letter)) 0 ≡ c
+        → cond a (judged.Refused kind.LimitExceeded) (cond b (judged.Refused kind.ConflictingRepeat)
+        (cond c (judged.Refused kind.Undeclared) (judged.Token (cond (repeats before x) 4 (codeOf letters (x .letter)))))) ≡ judged.Token t
+        → Taken letters before x t
+    go true p b q c r e = let z : _≡_ {A = ℕ} 0 1 = cc in absurd (omega arith)
+    go false p true q c r e = let z : _≡_ {A = ℕ} 0 1 = cc in absurd (omega arith)
+    go false p false q true r e = let z : _≡_ {A = ℕ} 0 1 = cc in absurd (omega arith)
+    go false p false q false r e = record {
+      numbered = omega (arith, ltb-false 65535 (x .sequence) p);
+      agrees = q;
+      coded = eqb-false _ _ r;
+      token = let f : cond (repeats before x) 4 (codeOf letters (x .letter)) ≡ t = cc in sym f;
+    }
+
+-- ---- what holds of the end and of a refusal, and goes on holding with each token, holds of what lines give
 module _
-    (letters s : List ℕ)
-    (Q : ℕ → Scanned → Type 0)
-    (none : (k : ℕ) → Q k (tokens []))
-    (fails : (k : ℕ) (x : Refusal) → Q k (refused x))
-    (more : (k : ℕ) (before : Previous) (line : Line) → (codeOf letters (line .letter) ≡ 0 → ⊥) → (rest : Scanned) → Q k rest
-    → Q (suc k) (join (tokenOf s before line (codeOf letters (line .letter)) ∷ []) rest)) where
-  by-lines : (k : ℕ) (before : Previous) (at : ℕ) → Q k (linesFrom letters s k before at)
-  unfolding linesFrom
-  by-lines zero before at = none zero
-  by-lines (suc k) before at = go (ltb at (length s)) (lineAt s at) (λ line. by-lines k (previous.Line line) (line .next))
+    (letters : List ℕ)
+    (Q : List Row → Scanned → Type 0)
+    (done : Q [] (tokens []))
+    (fails : (rows : List Row) (x : Refusal) → Q rows (refused x))
+    (more : (place : ℕ) (before : Option Scan) (x : Scan) (t : ℕ) → Taken letters before x t → (rows : List Row) (rest : Scanned) → Q rows rest
+    → Q (scan place x ∷ rows) (join (t ∷ []) rest)) where
+  by-rows : (rows : List Row) (before : Option Scan) → Q rows (tokensOf letters before rows)
+  unfolding tokensOf
+  by-rows [] before = done
+  by-rows (torn place ∷ rows) before = fails _ _
+  by-rows (scan place x ∷ rows) before = go (judge letters before x) refl (by-rows rows (some x))
     where
-      coded : (line : Line) (rest : Scanned) (t : Bool) → eqb (codeOf letters (line .letter)) 0 ≡ t → Q k rest
-          → Q (suc k) (cond t (refusedAt kind.Undeclared at) (join (tokenOf s before line (codeOf letters (line .letter)) ∷ []) rest))
-      coded line rest true q r = fails (suc k) _
-      coded line rest false q r = more k before line (eqb-false _ _ q) rest r
+      go : (j : Judged) → judge letters before x ≡ j → Q rows (tokensOf letters (some x) rows)
+          → Q (scan place x ∷ rows) (onJudged j (λ t. join (t ∷ []) (tokensOf letters (some x) rows)) (λ k. refusedAt k place))
+      go (judged.Token t) e q = more place before x t (taken letters before x e) rows (tokensOf letters (some x) rows) q
+      go (judged.Refused k) e q = fails _ _
 
-      go : (t : Bool) (x : Parsed) → ((line : Line) → Q k (linesFrom letters s k (previous.Line line) (line .next)))
-          → Q (suc k)
-          (cond t
-          (onLine x
-          (λ line.
-          cond (eqb (codeOf letters (line .letter)) 0) (refusedAt kind.Undeclared at)
-          (join (tokenOf s before line (codeOf letters (line .letter)) ∷ []) (linesFrom letters s k (previous.Line line) (line .next))))
-          (refusedAt kind.Malformed at))
-          (tokens []))
-      go true (parsed.Line line) f = coded line (linesFrom letters s k (previous.Line line) (line .next)) (eqb (codeOf letters (line .letter)) 0) refl (f line)
-      go true parsed.Broken f = fails (suc k) _
-      go false x f = none (suc k)
+rows-few : (first : ℕ) (s : List ℕ) (k at : ℕ) → length (rowsFrom first s k at) ≤ k
+unfolding rowsFrom
+rows-few first s zero at = omega arith
+rows-few first s (suc k) at = go (ltb at (length s)) (lineAt s at) (λ line. rows-few first s k (line .end + 1))
+  where
+    go : (t : Bool) (x : Parsed) → ((line : Line) → length (rowsFrom first s k (line .end + 1)) ≤ k)
+        → length (cond t (onLine x (λ line. scan (first + at) (scanOf s line) ∷ rowsFrom first s k (line .end + 1)) (torn (first + at) ∷ [])) []) ≤ suc k
+    go true (parsed.Line line) f = omega (arith, f line)
+    go true parsed.Broken f = omega arith
+    go false x f = omega arith
 
 -- what is read at all is what the lines give
-scanned-lines : (letters s l : List ℕ) → scanned letters s ≡ tokens l → allLines letters s ≡ tokens l
+scanned-lines : (letters s l : List ℕ) → scanned letters s ≡ tokens l → allLines letters 0 s ≡ tokens l
 unfolding scanned
 scanned-lines letters s l e = go (leb (length s) 65536) e
   where
-    go : (t : Bool) → cond t (allLines letters s) (refusedAt kind.LimitExceeded 0) ≡ tokens l → allLines letters s ≡ tokens l
+    go : (t : Bool) → cond t (allLines letters 0 s) (refusedAt kind.LimitExceeded 0) ≡ tokens l → allLines letters 0 s ≡ tokens l
     go true q = q
     go false q = let z : _≡_ {A = ℕ} 0 1 = cc in absurd (omega arith)
 
-abbrev AtMost : ℕ → Scanned → Type 0
-AtMost k (tokens l) = length l ≤ k
-AtMost k (refused x) = Unit {0}
+abbrev AtMost : List Row → Scanned → Type 0
+AtMost rows (tokens l) = length l ≤ length rows
+AtMost rows (refused x) = Unit {0}
 
 -- a file has no more tokens than bytes
 pub tokens-few : (letters s l : List ℕ) → scanned letters s ≡ tokens l → length l ≤ length s
 tokens-few letters s l e =
-    subst (AtMost (length s)) (scanned-lines letters s l e)
-    (by-lines letters s AtMost (λ k. omega arith) (λ k x. tt) (λ k before line f rest r. more k _ rest r) (length s) previous.Nothing 0)
+    omega (arith, subst (AtMost rows) (scanned-lines letters s l e) (by-rows letters AtMost (omega arith) (λ rows x. tt) (λ place before x t h. more place x t) rows none), rows-few 0 s (length s) 0)
   where
-    more : (k t : ℕ) (rest : Scanned) → AtMost k rest → AtMost (suc k) (join (t ∷ []) rest)
-    more k t (tokens l) r = omega arith
-    more k t (refused x) r = tt
+    rows : List Row
+    rows = rowsFrom 0 s (length s) 0
+
+    more : (place : ℕ) (x : Scan) (t : ℕ) (rows : List Row) (rest : Scanned) → AtMost rows rest → AtMost (scan place x ∷ rows) (join (t ∷ []) rest)
+    more place x t rows (tokens l) r = omega arith
+    more place x t rows (refused y) r = tt
 
 abbrev Each : (ℕ → Type 0) → List ℕ → Type 0
 Each P [] = Unit {0}
@@ -89,19 +117,18 @@ EachOf P (refused x) = Unit {0}
 
 -- what holds of the repeat's token and of every letter's code holds of every token
 module _ (P : ℕ → Type 0) (letters s : List ℕ) (four : P 4) (code : (b : ℕ) → (codeOf letters b ≡ 0 → ⊥) → P (codeOf letters b)) where
-  token-of : (before : Previous) (line : Line) → (codeOf letters (line .letter) ≡ 0 → ⊥) → P (tokenOf s before line (codeOf letters (line .letter)))
-  unfolding tokenOf
-  token-of before line f = go (repeatsPrevious s before line)
+  of-token : {before : Option Scan} {x : Scan} {t : ℕ} → Taken letters before x t → P t
+  of-token {before} {x} h = subst P (sym (h .token)) (go (repeats before x))
     where
-      go : (t : Bool) → P (cond t 4 (codeOf letters (line .letter)))
+      go : (t : Bool) → P (cond t 4 (codeOf letters (x .letter)))
       go true = four
-      go false = code (line .letter) f
+      go false = code (x .letter) (h .coded)
 
   pub each-token : (l : List ℕ) → scanned letters s ≡ tokens l → (i : ℕ) → i < length l → P (getD l i 0)
   each-token l e =
       each-at P l
       (subst (EachOf P) (scanned-lines letters s l e)
-      (by-lines letters s (λ k. EachOf P) (λ k. tt) (λ k x. tt) (λ k before line f rest r. more _ rest (token-of before line f) r) (length s) previous.Nothing 0))
+      (by-rows letters (λ rows. EachOf P) tt (λ rows x. tt) (λ place before x t h rows rest r. more t rest (of-token h) r) (rowsFrom 0 s (length s) 0) none))
     where
       more : (t : ℕ) (rest : Scanned) → P t → EachOf P rest → EachOf P (join (t ∷ []) rest)
       more t (tokens l) p r = (p, r)

@@ -1,59 +1,54 @@
--- A whole scan file: its tokens, or why it is refused. Document 01, 'Scan files' and 'Replies'.
-use Prim.Native.Nat.{ℕ, zero, suc, _-_}
+-- A whole scan file: its tokens, or why it is refused. Document 01, 'Scan files' and 'Replies'; document 02, S-3.
+use Prim.Native.Nat.{ℕ, zero, suc, _+_, _-_, _<_, _≤_}
 use mathlib.Core.Path.{_≡_}
 use mathlib.Core.List.{List, [], _∷_, _++_}
-use mathlib.Core.Bool.{cond}
-use lib.ListN.{length, replicate}
+use mathlib.Core.Option.{Option, some, none}
+use mathlib.Core.Bool.{Bool, false, cond}
+use lib.ListN.{length, replicate, take, drop}
 use lib.Seq.{sets}
 use lib.Dec.{leb, ltb, eqb}
-use Rattle.reply.specs.declared.Kind.{Kind}
 use Rattle.reply.specs.declared.Kind.the-variants as kind
 use Rattle.reply.specs.declared.Refusal.{Refusal}
 use Rattle.reply.specs.declared.Reply.{Reply}
 use Rattle.reply.specs.declared.Reply.the-variants as reply
 use Rattle.scans.specs.declared.Line.{Line}
-use Rattle.scans.specs.declared.Previous.{Previous}
-use Rattle.scans.specs.declared.Previous.the-variants as previous
 use Rattle.scans.specs.Line.{lineAt, onLine}
-use Rattle.scans.specs.Token.{codeOf, tokenOf}
+use Rattle.scans.specs.Tokens.{Scan, Row, scan, torn, tokensOf}
+pub use Rattle.scans.specs.Tokens.{Scanned, tokens, refused, refusedAt}
 
 -- "House letters: D 1, G 2, P 3, E 5, T 6, F 7; others are strays." The codes of A to Z.
 abbrev pub house : List ℕ
 house =
     0 ∷ 0 ∷ 0 ∷ 1 ∷ 5 ∷ 7 ∷ 2 ∷ 0 ∷ 0 ∷ 0 ∷ 0 ∷ 0 ∷ 0 ∷ 0 ∷ 0 ∷ 3 ∷ 0 ∷ 0 ∷ 0 ∷ 6 ∷ 0 ∷ 0 ∷ 0 ∷ 0 ∷ 0 ∷ 0 ∷ []
 
--- what reading gives: the token list, or the refusal
-pub data Scanned : Type 0 where
-  tokens : List ℕ → Scanned
-  refused : Refusal → Scanned
+-- what a line of s says
+abbrev pub scanOf : List ℕ → Line → Scan
+scanOf s line = record {
+  sequence = line .sequence;
+  letter = line .letter;
+  text = take (line .end - line .text) (drop (line .text) s);
+}
 
-abbrev pub refusedAt : Kind → ℕ → Scanned
-refusedAt k place = refused (record { kind = k; place = place })
-
-abbrev pub join : List ℕ → Scanned → Scanned
-join out (tokens l) = tokens (out ++ l)
-join out (refused x) = refused x
-
--- "lines in order, each by 1, 3": what the lines at `at` and after it give, of which there are at most as many as the first
--- argument says; a line's place is its first byte
-unfoldable pub linesFrom : List ℕ → List ℕ → ℕ → Previous → ℕ → Scanned
-linesFrom letters s zero before at = tokens []
-linesFrom letters s (suc k) before at =
+-- the lines of s at `at` and after it, of which there are at most as many as the third argument says, up to one that is torn; the first
+-- byte of s has the place `first`
+unfoldable pub rowsFrom : ℕ → List ℕ → ℕ → ℕ → List Row
+rowsFrom first s zero at = []
+rowsFrom first s (suc k) at =
     cond (ltb at (length s))
-    (onLine (lineAt s at)
-    (λ line.
-    cond (eqb (codeOf letters (line .letter)) 0) (refusedAt kind.Undeclared at)
-    (join (tokenOf s before line (codeOf letters (line .letter)) ∷ []) (linesFrom letters s k (previous.Line line) (line .next))))
-    (refusedAt kind.Malformed at))
-    (tokens [])
+    (onLine (lineAt s at) (λ line. scan (first + at) (scanOf s line) ∷ rowsFrom first s k (line .end + 1)) (torn (first + at) ∷ []))
+    []
 
 -- all lines; a line has a byte at least, so there are at most as many lines as bytes
-abbrev pub allLines : List ℕ → List ℕ → Scanned
-allLines letters s = linesFrom letters s (length s) previous.Nothing 0
+abbrev pub rowsOf : ℕ → List ℕ → List Row
+rowsOf first s = rowsFrom first s (length s) 0
+
+-- what the lines of s give
+abbrev pub allLines : List ℕ → ℕ → List ℕ → Scanned
+allLines letters first s = tokensOf letters none (rowsOf first s)
 
 -- "Scan files: length, then lines in order": "book or scan file | 0 | 65,536 bytes", place "0 for a length"
 unfoldable pub scanned : List ℕ → List ℕ → Scanned
-scanned letters s = cond (leb (length s) 65536) (allLines letters s) (refusedAt kind.LimitExceeded 0)
+scanned letters s = cond (leb (length s) 65536) (allLines letters 0 s) (refusedAt kind.LimitExceeded 0)
 
 -- the reply before the room is looked at: of whole, the place is "tokens read"
 abbrev pub replyOf : Scanned → Reply
@@ -79,8 +74,3 @@ outcomeOf (refused x) room = refusal x room
 -- what reading a scan file into a slice of `room` tokens gives, with the house letters
 unfoldable pub scansOf : List ℕ → ℕ → Outcome
 scansOf s room = outcomeOf (scanned house s) room
-
--- what reading lines leaves in a slice: the tokens from its start on, as far as it goes
-pub record Stored (all : Scanned) (r : Reply) (before after : List ℕ) : Type 0 where
-  pub replied : r ≡ replyOf all
-  pub stored : (l : List ℕ) → all ≡ tokens l → after ≡ sets before 0 l

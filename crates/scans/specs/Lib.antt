@@ -1,3 +1,4 @@
 pub mod Line
-pub mod Token
+pub mod Tokens
 pub mod File
+pub mod Read

@@ -10,19 +10,21 @@ ghost use mathlib.Core.Bool.{true};
 ghost use Prim.Native.Nat.{_≤_, _<_};
 ghost use lib.ListN.{length, drop, set, replicate};
 ghost use Rattle.scans.specs.Line.{textByte, textEnd, textFrom, lineAt};
-ghost use Rattle.scans.specs.Token.{codeOf, bytesOf, repeats, Within, WithinFile, tokenOf};
-ghost use Rattle.scans.specs.File.{allLines, Stored, outcomeOf, scanned, scansOf};
+ghost use Rattle.scans.specs.Tokens.{codeOf, differs, judge};
+ghost use Rattle.scans.specs.File.{allLines, outcomeOf, scanned, scansOf, scanOf};
+ghost use Rattle.scans.specs.Read.{beforeOf, repeatsLine, textOf, Within, WithinFile, Stored};
 
-// A line: its letter, its first byte and the byte past its LF.
+// A line: its sequence number, its letter, and its text from the first byte to the LF.
 pub struct Line {
+    pub sequence: usize,
     pub letter: u8,
-    pub start: usize,
-    pub next: usize,
+    pub text: usize,
+    pub end: usize,
 }
 
-// The text of a line: the byte past its LF, or none.
+// The text of a line, up to its LF, or none.
 pub enum Text {
-    Past(usize),
+    Until(usize),
     Broken,
 }
 
@@ -36,6 +38,12 @@ pub enum Parsed {
 pub enum Previous {
     Nothing,
     Line(Line),
+}
+
+// What a line gives: its token, or why it is refused.
+pub enum Judged {
+    Token(u8),
+    Refused(Kind),
 }
 
 // The house letters: the codes of A to Z, 0 where a letter has none.
@@ -71,6 +79,9 @@ const HOUSE: [u8; 26] = [
 // The token of a repeat.
 const REPEAT: u8 = 4;
 
+// The highest sequence number.
+const LAST: usize = 65535;
+
 // The most bytes that a scan file has.
 const LONGEST: usize = 65536;
 
@@ -89,9 +100,9 @@ fn text_byte(b: u8) -> bool
     true
 }
 
-// A text of n bytes, whose LF is before `next`.
-fn end_text(next: usize, n: usize) -> Text
-    ensures { λ r. ⌜ r ≡ textEnd next n ⌝ }
+// A text of n bytes, whose LF is at `at`.
+fn end_text(at: usize, n: usize) -> Text
+    ensures { λ r. ⌜ r ≡ textEnd at n ⌝ }
 {
     if n < 1 {
         return Text::Broken;
@@ -99,7 +110,7 @@ fn end_text(next: usize, n: usize) -> Text
     if 30 < n {
         return Text::Broken;
     }
-    Text::Past(next)
+    Text::Until(at)
 }
 
 // The text that begins at `at`.
@@ -111,7 +122,7 @@ fn read_text(file: &[u8], at: usize) -> Text
     while i < file.len() {
         let b = file[i];
         if b == b'\n' {
-            return end_text(i + 1, n);
+            return end_text(i, n);
         }
         if !text_byte(b) {
             return Text::Broken;
@@ -126,19 +137,23 @@ fn read_text(file: &[u8], at: usize) -> Text
 fn read_line(file: &[u8], at: usize) -> Parsed
     ensures { λ r. ⌜ r ≡ lineAt (now (file .entry)) at ⌝ }
 {
-    let Field::Letter(letter, c) = text::read_field(file, Cursor { at, ended: false }) else {
+    let Field::Number(sequence, c) = text::read_field(file, Cursor { at, ended: false }) else {
         return Parsed::Broken;
     };
-    if c.ended {
+    let Field::Letter(letter, d) = text::read_field(file, c) else {
+        return Parsed::Broken;
+    };
+    if d.ended {
         return Parsed::Broken;
     }
-    let Text::Past(next) = read_text(file, c.at) else {
+    let Text::Until(end) = read_text(file, d.at) else {
         return Parsed::Broken;
     };
     Parsed::Line(Line {
+        sequence,
         letter,
-        start: at,
-        next,
+        text: d.at,
+        end,
     })
 }
 
@@ -161,42 +176,68 @@ fn code_of(letters: &[u8; 26], letter: u8) -> u8
     letters[wide(letter) - 65]
 }
 
-// Whether two lines are the same bytes.
-fn same_bytes(file: &[u8], a: Line, b: Line) -> bool
+// Whether two lines have the same text.
+fn same_text(file: &[u8], a: Line, b: Line) -> bool
     requires { ⌜ Within (now file) a ⌝ }
     requires { ⌜ Within (now file) b ⌝ }
-    ensures same { λ r. ⌜ (r ≡ true → bytesOf (now (file .entry)) a ≡ bytesOf (now (file .entry)) b) ⌝ }
-    ensures told { λ r. ⌜ (bytesOf (now (file .entry)) a ≡ bytesOf (now (file .entry)) b → r ≡ true) ⌝ }
+    ensures same { λ r. ⌜ (r ≡ true → textOf (now (file .entry)) a ≡ textOf (now (file .entry)) b) ⌝ }
+    ensures told { λ r. ⌜ (textOf (now (file .entry)) a ≡ textOf (now (file .entry)) b → r ≡ true) ⌝ }
 {
-    let from = a.start;
-    let to = a.next;
-    let start = b.start;
-    let next = b.next;
-    check::same(&file[from..to], &file[start..next])
+    let from = a.text;
+    let to = a.end;
+    let text = b.text;
+    let end = b.end;
+    check::same(&file[from..to], &file[text..end])
 }
 
-// Whether a line repeats the line before it.
-fn repeats_line(file: &[u8], before: Line, line: Line) -> bool
-    requires { ⌜ Within (now file) before ⌝ }
-    requires { ⌜ Within (now file) line ⌝ }
-    ensures { λ r. ⌜ r ≡ repeats (now (file .entry)) before line ⌝ }
-{
-    same_bytes(file, before, line)
-}
-
-// The token of a line whose letter has the code `code`.
-fn token_of(file: &[u8], previous: Previous, line: Line, code: u8) -> u8
+// Whether a line has another letter or text than the line before it.
+fn differs_from(file: &[u8], previous: Previous, line: Line) -> bool
     requires { ⌜ WithinFile (now file) previous ⌝ }
     requires { ⌜ Within (now file) line ⌝ }
-    ensures { λ r. ⌜ r ≡ tokenOf (now (file .entry)) previous line code ⌝ }
+    ensures { λ r. ⌜ r ≡ differs (beforeOf (now (file .entry)) previous) (scanOf (now (file .entry)) line) ⌝ }
 {
     let Previous::Line(before) = previous else {
-        return code;
+        return false;
     };
-    if repeats_line(file, before, line) {
-        return REPEAT;
+    if before.letter != line.letter {
+        return true;
     }
-    code
+    !same_text(file, before, line)
+}
+
+// Whether a line has the sequence of the line before it.
+fn repeats_line(previous: Previous, line: Line) -> bool
+    ensures { λ r. ⌜ r ≡ repeatsLine previous line ⌝ }
+{
+    let Previous::Line(before) = previous else {
+        return false;
+    };
+    before.sequence == line.sequence
+}
+
+// The token of a line, or why it is refused.
+fn judge_line(letters: &[u8; 26], file: &[u8], previous: Previous, line: Line) -> Judged
+    requires { ⌜ WithinFile (now file) previous ⌝ }
+    requires { ⌜ Within (now file) line ⌝ }
+    ensures { λ r. ⌜ r ≡ judge (now (letters .entry)) (beforeOf (now (file .entry)) previous) (scanOf (now (file .entry)) line) ⌝ }
+{
+    if LAST < line.sequence {
+        return Judged::Refused(Kind::LimitExceeded);
+    }
+    let repeats = repeats_line(previous, line);
+    if repeats {
+        if differs_from(file, previous, line) {
+            return Judged::Refused(Kind::ConflictingRepeat);
+        }
+    }
+    let code = code_of(letters, line.letter);
+    if code == 0 {
+        return Judged::Refused(Kind::Undeclared);
+    }
+    if repeats {
+        return Judged::Token(REPEAT);
+    }
+    Judged::Token(code)
 }
 
 // Stores where there is room.
@@ -210,7 +251,7 @@ fn store(tokens: &mut [u8], i: usize, token: u8)
 
 // Reads the lines, and stores their tokens as far as there is room.
 fn read_lines(letters: &[u8; 26], file: &[u8], tokens: &mut [u8]) -> Reply
-    ensures { λ r. ⌜ Stored (allLines (now (letters .entry)) (now (file .entry))) r (now (tokens .entry)) (now (tokens .exit)) ⌝ }
+    ensures { λ r. ⌜ Stored (allLines (now (letters .entry)) 0 (now (file .entry))) r (now (tokens .entry)) (now (tokens .exit)) ⌝ }
 {
     let mut previous = Previous::Nothing;
     let mut at = 0;
@@ -219,14 +260,14 @@ fn read_lines(letters: &[u8; 26], file: &[u8], tokens: &mut [u8]) -> Reply
         let Parsed::Line(line) = read_line(file, at) else {
             return reply::refuse(Kind::Malformed, at);
         };
-        let code = code_of(letters, line.letter);
-        if code == 0 {
-            return reply::refuse(Kind::Undeclared, at);
+        let judged = judge_line(letters, file, previous, line);
+        match judged {
+            Judged::Token(token) => store(tokens, count, token),
+            Judged::Refused(kind) => return reply::refuse(kind, at),
         }
-        store(tokens, count, token_of(file, previous, line, code));
         count += 1;
         previous = Previous::Line(line);
-        at = line.next;
+        at = line.end + 1;
     }
     Reply::Accepted(count)
 }

@@ -1,7 +1,7 @@
 -- `scans::code_of` meets its contract. Assumes nothing.
 use borrow.Author.Needs.{needs}
 use borrow.Author.Tests.{le-leb, lt-leb}
-use Rattle.scans.specs.Token.{codeOf}
+use Rattle.scans.specs.Tokens.{codeOf}
 use Rattle.scans.proofs.code_of.Statement.{statement}
 use Rattle.scans.proofs.code_of.Tie as tie
 

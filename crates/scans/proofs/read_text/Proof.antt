@@ -22,9 +22,6 @@ loop-holds c = search needs
 shared-slice-read-b : tie.Need-shared-slice-read-b Inv-loop μ-loop
 shared-slice-read-b c = search needs
 
-add-end-text : tie.Need-add-end-text Inv-loop μ-loop
-add-end-text c = search needs
-
 end-text-requires : tie.Need-end-text-requires Inv-loop μ-loop
 end-text-requires c κs = search needs
 
@@ -80,7 +77,6 @@ read-text-spec =
     μ-loop
     loop-holds
     shared-slice-read-b
-    add-end-text
     end-text-requires
     returns
     text-byte-requires

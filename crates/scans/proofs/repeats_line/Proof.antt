@@ -1,16 +1,19 @@
 -- `scans::repeats_line` meets its contract. Assumes nothing.
 use borrow.Author.Needs.{needs}
-use Rattle.scans.specs.Token.{repeats}
-use Rattle.scans.proofs.RepeatLaws.{same-told}
 use Rattle.scans.proofs.repeats_line.Statement.{statement}
 use Rattle.scans.proofs.repeats_line.Tie as tie
 
-same-bytes-requires : tie.Need-same-bytes-requires
-same-bytes-requires c κs = search needs
+enum-known-previous : tie.Need-enum-known-previous
+enum-known-previous c = search needs
+
+enum-told : tie.Need-enum-told
+enum-told c = search needs
 
 returns : tie.Need-returns
-unfolding repeats
-returns c = same-told _ _ _ (c .same-bytes .ensures .0) (c .same-bytes .ensures .1)
+returns c = simp (c .enum-told .given .1)
+
+returns-2 : tie.Need-returns-2
+returns-2 c = simp (c .before .before .before .previous .given .1)
 
 pub repeats-line-spec : {M : Type 1} → statement M
-repeats-line-spec = tie.close (tie.spec same-bytes-requires returns)
+repeats-line-spec = tie.close (tie.spec enum-known-previous enum-told returns returns-2)
