@@ -13,6 +13,17 @@ use Rattle.scans.specs.File.{scanOf}
 use Rattle.scans.specs.Read.{beforeOf, repeatsLine}
 use Rattle.scans.proofs.RepeatLaws.{repeats-is}
 
+-- it is no repeat, or has the label of the line before
+abbrev pub Agrees : List ℕ → Previous → Line → Type 0
+Agrees s before line = repeats (beforeOf s before) (scanOf s line) && differs (beforeOf s before) (scanOf s line) ≡ false
+
+module _ (s : List ℕ) (before : Previous) (line : Line) where
+  pub agrees-new : repeatsLine before line ≡ false → Agrees s before line
+  agrees-new r = simp (repeats-is s before line ∙ r)
+
+  pub agrees-same : repeatsLine before line ≡ true → differs (beforeOf s before) (scanOf s line) ≡ false → Agrees s before line
+  agrees-same r d = simp (repeats-is s before line ∙ r, d)
+
 module _ (letters s : List ℕ) (before : Previous) (line : Line) where
   pub too-high : 65535 < line .sequence → judge letters (beforeOf s before) (scanOf s line) ≡ judged.Refused kind.LimitExceeded
   unfolding judge
@@ -24,17 +35,7 @@ module _ (letters s : List ℕ) (before : Previous) (line : Line) where
     unfolding judge
     crossed r d = simp (le-ltb _ _ low, repeats-is s before line ∙ r, d)
 
-    -- it is no repeat, or has the label of the line before
-    abbrev pub Agrees : Type 0
-    Agrees = repeats (beforeOf s before) (scanOf s line) && differs (beforeOf s before) (scanOf s line) ≡ false
-
-    pub agrees-new : repeatsLine before line ≡ false → Agrees
-    agrees-new r = simp (repeats-is s before line ∙ r)
-
-    pub agrees-same : repeatsLine before line ≡ true → differs (beforeOf s before) (scanOf s line) ≡ false → Agrees
-    agrees-same r d = simp (repeats-is s before line ∙ r, d)
-
-    module _ (a : Agrees) where
+    module _ (a : Agrees s before line) where
       pub no-code : codeOf letters (line .letter) ≡ 0 → judge letters (beforeOf s before) (scanOf s line) ≡ judged.Refused kind.Undeclared
       unfolding judge
       no-code z = simp (le-ltb _ _ low, a, z)

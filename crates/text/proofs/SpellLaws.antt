@@ -45,12 +45,17 @@ end-spells l at e = subst (EndSpells l at) e (go l)
         by false p true q = record { rest = l; bytes = ap (λ (x : ℕ). x ∷ l) (eqb-true b 10 q); place = omega arith }
         by false p false q = tt
 
+-- ---- what follows bytes w and one byte more
+pub drop-past : (s w rest : List ℕ) (at n b : ℕ) → drop at s ≡ w ++ b ∷ rest → n ≡ at + length w + 1 → drop n s ≡ rest
+drop-past s w rest at n b e place =
+    ap (λ (n : ℕ). drop n s) place
+    ∙ (sym (drop-drop 1 (at + length w) s) ∙ (ap (drop 1) (sym (drop-drop (length w) at s) ∙ (ap (drop (length w)) e ∙ drop-append-seam w _))))
+
 -- ---- the same, at a cursor
 module _ (s : List ℕ) (c : Cursor) where
   pub spelled : {w : List ℕ} {d : Cursor} → c .ended ≡ false → Spells (drop (c .at) s) (c .at) w d → Spelled s c w d
-  spelled {w} {d} e h = record { going = e; bytes = h .bytes ∙ ap (λ (l : List ℕ). w ++ ending (d .ended) ∷ l) (sym past); place = h .place }
-    where
-      past : drop (d .at) s ≡ h .rest
-      past =
-          ap (λ (n : ℕ). drop n s) (h .place)
-          ∙ (sym (drop-drop 1 (c .at + length w) s) ∙ (ap (drop 1) (sym (drop-drop (length w) (c .at) s) ∙ (ap (drop (length w)) (h .bytes) ∙ drop-append-seam w _))))
+  spelled {w} {d} e h = record {
+    going = e;
+    bytes = h .bytes ∙ ap (λ (l : List ℕ). w ++ ending (d .ended) ∷ l) (sym (drop-past s w (h .rest) (c .at) (d .at) _ (h .bytes) (h .place)));
+    place = h .place;
+  }
