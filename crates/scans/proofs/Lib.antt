@@ -1,7 +1,10 @@
 pub mod TextLaws
+pub mod LineLaws
 pub mod RepeatLaws
 pub mod JudgeLaws
-pub mod LineLaws
+pub mod RowLaws
 pub mod ReadLaws
 pub mod OutcomeLaws
 pub mod TokenLaws
+pub mod FormLaws
+pub mod Promise

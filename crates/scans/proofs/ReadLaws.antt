@@ -1,11 +1,10 @@
 -- How reading the lines goes on, and how it ends.
 use Prim.Native.Nat.{ℕ, zero, suc, _+_, _<_, _≤_}
 use mathlib.Core.Path.{_≡_, refl, sym, ap, _∙_}
-use mathlib.Core.List.{List, [], _∷_, _++_, append-assoc, append-nil}
-use mathlib.Core.Option.{Option, some, none}
+use mathlib.Core.List.{List, [], _∷_, _++_, append-nil}
+use mathlib.Core.Option.{some}
 use native.Mathlib.Omega.{arith}
 use native.Mathlib.Nat.{zero-add}
-use borrow.Author.Tests.{lt-ltb, le-ltb}
 use lib.ListN.{length, set, length-append, length-set}
 use lib.Seq.{sets}
 use Rattle.reply.specs.declared.Kind.{Kind}
@@ -18,18 +17,12 @@ use Rattle.scans.specs.declared.Parsed.the-variants as parsed
 use Rattle.scans.specs.declared.Previous.{Previous}
 use Rattle.scans.specs.declared.Previous.the-variants as previous
 use Rattle.scans.specs.Line.{lineAt}
-use Rattle.scans.specs.Tokens.{Scan, Scanned, tokens, refused, refusedAt, join, judge, tokensOf}
+use Rattle.scans.specs.Tokens.{Row, Scanned, tokens, refusedAt, join, judge, tokensOf}
 use Rattle.scans.specs.File.{scanOf, rowsFrom, allLines, replyOf}
 use Rattle.scans.specs.Read.{beforeOf, Within, WithinFile, Stored}
 use Rattle.scans.proofs.LineLaws.{line-in}
-
-join-none : (x : Scanned) → join [] x ≡ x
-join-none (tokens l) = refl
-join-none (refused x) = refl
-
-join-one : (out : List ℕ) (t : ℕ) (x : Scanned) → join out (join (t ∷ []) x) ≡ join (out ++ t ∷ []) x
-join-one out t (tokens l) = ap tokens (simp append-assoc)
-join-one out t (refused x) = refl
+use Rattle.scans.proofs.RowLaws.{join-none, join-join, rows-end, rows-torn, rows-line}
+use Rattle.scans.proofs.RowLaws as rows
 
 -- one store more at the end of a run of stores
 sets-more : (out l : List ℕ) (i t : ℕ) → sets l i (out ++ t ∷ []) ≡ set (sets l i out) (i + length out) t
@@ -48,29 +41,6 @@ pub record Going (letters s : List ℕ) (all : Scanned) (lent held : List ℕ) (
   pub stored : held ≡ sets lent 0 out
   pub long : length held ≡ length lent
   pub same : all ≡ join out (tokensOf letters (beforeOf s before) (rowsFrom 0 s fuel at))
-
-module _ (letters s : List ℕ) (before : Option Scan) (at : ℕ) where
-  none-left : length s ≤ at → (k : ℕ) → tokensOf letters before (rowsFrom 0 s k at) ≡ tokens []
-  unfolding tokensOf rowsFrom
-  none-left h zero = refl
-  none-left h (suc k) = simp (le-ltb at (length s) h)
-
-  module _ (h : at < length s) where
-    broken-here : lineAt s at ≡ parsed.Broken → (k : ℕ) → tokensOf letters before (rowsFrom 0 s (suc k) at) ≡ refusedAt kind.Malformed at
-    unfolding tokensOf rowsFrom
-    broken-here q k = simp (lt-ltb at (length s) h, q, zero-add)
-
-    module _ {line : Line} (q : lineAt s at ≡ parsed.Line line) where
-      refused-here : {w : Kind} → judge letters before (scanOf s line) ≡ judged.Refused w → (k : ℕ)
-          → tokensOf letters before (rowsFrom 0 s (suc k) at) ≡ refusedAt w at
-      unfolding tokensOf rowsFrom
-      refused-here j k = simp (lt-ltb at (length s) h, q, j, zero-add)
-
-      read-here : {t : ℕ} → judge letters before (scanOf s line) ≡ judged.Token t → (k : ℕ)
-          → tokensOf letters before (rowsFrom 0 s (suc k) at)
-          ≡ join (t ∷ []) (tokensOf letters (some (scanOf s line)) (rowsFrom 0 s k (line .end + 1)))
-      unfolding tokensOf rowsFrom
-      read-here j k = simp (lt-ltb at (length s) h, q, j)
 
 pub going-start : (letters s lent : List ℕ) → Going letters s (allLines letters 0 s) lent lent previous.Nothing 0 0
 going-start letters s lent =
@@ -95,37 +65,44 @@ module _ {letters s : List ℕ} {all : Scanned} {lent held : List ℕ} {before :
       go zero e = absurd (omega arith)
       go (suc k) e = (k, refl)
 
-  abbrev with-fuel : ℕ → Scanned
-  with-fuel n = join (g .out) (tokensOf letters (beforeOf s before) (rowsFrom 0 s n at))
+  abbrev gives : List Row → Scanned
+  gives rows = join (g .out) (tokensOf letters (beforeOf s before) rows)
 
   pub all-read : length s ≤ at → Stored all (reply.Accepted count) lent held
+  unfolding tokensOf
   all-read h = record { replied = simp (e, g .counted); stored = λ l q. g .stored ∙ ap (sets lent 0) (same-list l q) }
     where
       e : all ≡ tokens (g .out)
-      e = g .same ∙ ap (join (g .out)) (none-left letters s (beforeOf s before) at h (g .fuel)) ∙ ap tokens (simp append-nil)
+      e = g .same ∙ ap gives (rows-end 0 s at h (g .fuel)) ∙ ap tokens (simp append-nil)
 
       same-list : (l : List ℕ) → all ≡ tokens l → g .out ≡ l
       same-list l q = let p = e in cc
 
   -- the line at `at` is refused, and so the file
-  refused-line : (k : Kind) → at < length s → ((n : ℕ) → tokensOf letters (beforeOf s before) (rowsFrom 0 s (suc n) at) ≡ refusedAt k at)
+  refused-line : (k : Kind) → at < length s → ((n : ℕ) → tokensOf letters (beforeOf s before) (rowsFrom 0 s (suc n) at) ≡ refusedAt k (0 + at))
       → {r : Reply} → r ≡ reply.Refused (record { kind = k; place = at }) → Stored all r lent held
   refused-line k h f {r} p = record { replied = p ∙ sym (ap replyOf e); stored = λ l q. let z : _≡_ {A = ℕ} 0 1 = clash l q in absurd (omega arith) }
     where
       e : all ≡ refusedAt k at
-      e = g .same ∙ ap with-fuel (fuel-left h .1) ∙ ap (join (g .out)) (f (fuel-left h .0))
+      e =
+          g .same
+          ∙ ap (λ (n : ℕ). gives (rowsFrom 0 s n at)) (fuel-left h .1)
+          ∙ ap (join (g .out)) (f (fuel-left h .0) ∙ ap (refusedAt k) (omega arith))
 
       clash : (l : List ℕ) → all ≡ tokens l → _≡_ {A = ℕ} 0 1
       clash l q = let p = e in cc
 
   module _ (h : at < length s) where
     pub line-broken : lineAt s at ≡ parsed.Broken → {r : Reply} → r ≡ reply.Refused (record { kind = kind.Malformed; place = at }) → Stored all r lent held
-    line-broken q = refused-line kind.Malformed h (λ n. broken-here letters s (beforeOf s before) at h q n)
+    unfolding tokensOf
+    line-broken q = refused-line kind.Malformed h (λ n. ap (tokensOf letters (beforeOf s before)) (rows-torn 0 s at h n q))
 
     module _ {line : Line} (q : lineAt s at ≡ parsed.Line line) where
       pub line-refused : {w : Kind} → judge letters (beforeOf s before) (scanOf s line) ≡ judged.Refused w → {r : Reply}
           → r ≡ reply.Refused (record { kind = w; place = at }) → Stored all r lent held
-      line-refused {w} j = refused-line w h (λ n. refused-here letters s (beforeOf s before) at h q j n)
+      line-refused {w} j =
+          refused-line w h
+          (λ n. ap (tokensOf letters (beforeOf s before)) (rows-line 0 s at h n q) ∙ rows.line-refused letters (beforeOf s before) (0 + at) (scanOf s line) _ j)
 
       pub line-read : {token : ℕ} → judge letters (beforeOf s before) (scanOf s line) ≡ judged.Token token → {held′ : List ℕ} → held′ ≡ set held count token
           → Going letters s all lent held′ (previous.Line line) (line .end + 1) (count + 1)
@@ -141,9 +118,10 @@ module _ {letters s : List ℕ} {all : Scanned} {lent held : List ℕ} {before :
             long = ap length e ∙ length-set held count token ∙ g .long;
             same =
                 g .same
-                ∙ ap with-fuel (k .1)
-                ∙ ap (join (g .out)) (read-here letters s (beforeOf s before) at h q j (k .0))
-                ∙ join-one (g .out) token (tokensOf letters (some (scanOf s line)) (rowsFrom 0 s (k .0) (line .end + 1)));
+                ∙ ap (λ (n : ℕ). gives (rowsFrom 0 s n at)) (k .1)
+                ∙ ap gives (rows-line 0 s at h (k .0) q)
+                ∙ ap (join (g .out)) (rows.line-taken letters (beforeOf s before) (0 + at) (scanOf s line) _ j)
+                ∙ join-join (g .out) (token ∷ []) (tokensOf letters (some (scanOf s line)) (rowsFrom 0 s (k .0) (line .end + 1)));
           }
         where
           k : (k : ℕ) × (g .fuel ≡ suc k)

@@ -9,17 +9,15 @@ use borrow.Author.Needs.{needs}
 use borrow.Author.Tests.{leb-true, eqb-false, ltb-false}
 use lib.Dec.{leb, ltb, eqb}
 use lib.ListN.{length, getD, replicate}
+use Rattle.fixpoint.specs.Each.{Each}
 use Rattle.reply.specs.declared.Refusal.{Refusal}
 use Rattle.reply.specs.declared.Reply.the-variants as reply
 use Rattle.reply.specs.declared.Kind.the-variants as kind
 use Rattle.scans.specs.declared.Judged.{Judged}
 use Rattle.scans.specs.declared.Judged.the-variants as judged
-use Rattle.scans.specs.declared.Line.{Line}
-use Rattle.scans.specs.declared.Parsed.{Parsed}
-use Rattle.scans.specs.declared.Parsed.the-variants as parsed
-use Rattle.scans.specs.Line.{lineAt, onLine}
 use Rattle.scans.specs.Tokens.{Scan, Row, scan, torn, Scanned, tokens, refused, refusedAt, join, codeOf, repeats, differs, judge, onJudged, tokensOf}
-use Rattle.scans.specs.File.{house, scanOf, rowsFrom, allLines, scanned, outcomeOf, scansOf}
+use Rattle.scans.specs.File.{house, rowsFrom, allLines, scanned, outcomeOf, scansOf}
+use Rattle.scans.proofs.RowLaws.{rows-few}
 
 -- ---- what a token tells of its line
 pub record Taken (letters : List ℕ) (before : Option Scan) (x : Scan) (t : ℕ) : Type 0 where
@@ -66,17 +64,6 @@ module _
       go (judged.Token t) e q = more place before x t (taken letters before x e) rows (tokensOf letters (some x) rows) q
       go (judged.Refused k) e q = fails _ _
 
-rows-few : (first : ℕ) (s : List ℕ) (k at : ℕ) → length (rowsFrom first s k at) ≤ k
-unfolding rowsFrom
-rows-few first s zero at = omega arith
-rows-few first s (suc k) at = go (ltb at (length s)) (lineAt s at) (λ line. rows-few first s k (line .end + 1))
-  where
-    go : (t : Bool) (x : Parsed) → ((line : Line) → length (rowsFrom first s k (line .end + 1)) ≤ k)
-        → length (cond t (onLine x (λ line. scan (first + at) (scanOf s line) ∷ rowsFrom first s k (line .end + 1)) (torn (first + at) ∷ [])) []) ≤ suc k
-    go true (parsed.Line line) f = omega (arith, f line)
-    go true parsed.Broken f = omega arith
-    go false x f = omega arith
-
 -- what is read at all is what the lines give
 scanned-lines : (letters s l : List ℕ) → scanned letters s ≡ tokens l → allLines letters 0 s ≡ tokens l
 unfolding scanned
@@ -101,10 +88,6 @@ tokens-few letters s l e =
     more : (place : ℕ) (x : Scan) (t : ℕ) (rows : List Row) (rest : Scanned) → AtMost rows rest → AtMost (scan place x ∷ rows) (join (t ∷ []) rest)
     more place x t rows (tokens l) r = omega arith
     more place x t rows (refused y) r = tt
-
-abbrev Each : (ℕ → Type 0) → List ℕ → Type 0
-Each P [] = Unit {0}
-Each P (x ∷ l) = P x × Each P l
 
 each-at : (P : ℕ → Type 0) (l : List ℕ) → Each P l → (i : ℕ) → i < length l → P (getD l i 0)
 each-at P [] a i h = absurd (omega arith)
@@ -138,23 +121,31 @@ module _ (P : ℕ → Type 0) (letters s : List ℕ) (four : P 4) (code : (b : �
 pub token-positive : (letters s l : List ℕ) → scanned letters s ≡ tokens l → (i : ℕ) → i < length l → 0 < getD l i 0
 token-positive letters s = each-token (λ (t : ℕ). 0 < t) letters s (omega arith) (λ b f. omega (arith, f))
 
-below : (m : ℕ) (l : List ℕ) → Each (λ (x : ℕ). x ≤ m) l → (i : ℕ) → getD l i 0 ≤ m
-below m [] a i = omega arith
-below m (x ∷ l) a zero = a .0
-below m (x ∷ l) a (suc i) = below m l (a .1) i
-
 -- "D 1, G 2, P 3, E 5, T 6, F 7"
 pub house-letters : map (codeOf house) (68 ∷ 71 ∷ 80 ∷ 69 ∷ 84 ∷ 70 ∷ []) ≡ 1 ∷ 2 ∷ 3 ∷ 5 ∷ 6 ∷ 7 ∷ []
 unfolding codeOf
 house-letters = refl
 
-house-code : (b : ℕ) → codeOf house b ≤ 7
+-- what holds of 0 and of each of its codes holds of every byte's
+house-each : (P : ℕ → Type 0) → P 0 → Each P house → (b : ℕ) → P (codeOf house b)
 unfolding codeOf
-house-code b = go (leb 65 b && leb b 90)
+house-each P zeroth each b = go (leb 65 b && leb b 90)
   where
-    go : (t : Bool) → cond t (getD house (b - 65) 0) 0 ≤ 7
-    go true = below 7 house (search needs) (b - 65)
-    go false = omega arith
+    any : (l : List ℕ) → Each P l → (i : ℕ) → P (getD l i 0)
+    any [] a i = zeroth
+    any (x ∷ l) a zero = a .0
+    any (x ∷ l) a (suc i) = any l (a .1) i
+
+    go : (t : Bool) → P (cond t (getD house (b - 65) 0) 0)
+    go true = any house each (b - 65)
+    go false = zeroth
+
+house-code : (b : ℕ) → codeOf house b ≤ 7
+house-code = house-each (λ (x : ℕ). x ≤ 7) (omega arith) (search needs)
+
+-- and none is the token of a repeat: it lies apart from 4
+pub no-four : (b : ℕ) → codeOf house b ≡ 4 → ⊥
+no-four b e = omega (arith, house-each (λ (x : ℕ). 1 ≤ (x - 4) + (4 - x)) (omega arith) (search needs) b, e)
 
 -- with the house letters every token is one of 1 to 7
 pub house-token : (s l : List ℕ) → scanned house s ≡ tokens l → (i : ℕ) → i < length l → (0 < getD l i 0) × (getD l i 0 ≤ 7)

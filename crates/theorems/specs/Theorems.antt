@@ -13,6 +13,8 @@ use Rattle.reply.specs.declared.Reply.the-variants.{Accepted}
 use Rattle.fixpoint.specs.Each.{Each}
 use Rattle.text.specs.Promise.{NumberPromise}
 use Rattle.text.proofs.Promise as text
+use Rattle.scans.specs.Promise.{ScansPromise}
+use Rattle.scans.proofs.Promise as scans
 use Rattle.grammar.specs.Book.{accepted, grammarOf}
 use Rattle.checker.specs.Checked.{verdictOf, Accepts}
 use Rattle.checker.proofs.Exactly as checker
@@ -49,6 +51,10 @@ expected-promise = listed.promise
 -- Document 02, S-2, of every field of every book: `Promise` has its sentences, one by one
 pub number-promise : NumberPromise
 number-promise = text.number-promise
+
+-- Document 02, S-3, of every scan file: `Promise` has its sentences, one by one
+pub scans-promise : ScansPromise
+scans-promise = scans.scans-promise
 
 -- None of them speaks of nothing: the books of document 01 are built and accepted, and its starred sessions answer what is told
 pub built : Each Built (smallest ∷ g1 ∷ g1-cut ∷ d ∷ [])
