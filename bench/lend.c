@@ -72,7 +72,7 @@ static void read_grammars(void) {
     done("buraigue_read_grammar");
 }
 
-static const uint8_t scans[] = "D,W0001\nD,W0001\nG,O\nP,E4532\n", tokens[] = {1, 4, 2, 3}, listing[] = {1, 2, 3, 4, 5};
+static const uint8_t scans[] = "1,D,W0001\n1,D,W0001\n2,G,O\n3,P,E4532\n", tokens[] = {1, 4, 2, 3}, listing[] = {1, 2, 3, 4, 5};
 enum { SCANS = sizeof scans - 1 };
 
 static void read_scan(size_t length, size_t n, enum buraigue_reply reply, uint64_t at) {
@@ -84,7 +84,7 @@ static void read_scans(void) {
     read_scan(SCANS, sizeof tokens, BURAIGUE_ACCEPTED, 4);
     read_scan(SCANS, BURAIGUE_TOKENS, BURAIGUE_ACCEPTED, 4);
     read_scan(SCANS, FEW, BURAIGUE_BUFFER_TOO_SMALL, 0);
-    read_scan(SCANS - 1, BURAIGUE_TOKENS, BURAIGUE_MALFORMED, 20);
+    read_scan(SCANS - 1, BURAIGUE_TOKENS, BURAIGUE_MALFORMED, 26);
     done("buraigue_read_scans");
 }
 
@@ -163,8 +163,9 @@ int main(void) {
     run(buraigue_run_session, t, "\1\5\2\3", 4, 9, 5, BURAIGUE_UNDECLARED, 1);
     done("buraigue_run_session");
     sessions(buraigue_run_scans, scans, SCANS);
-    run(buraigue_run_scans, t, "D,W0001\nD,W0002\n", 16, 9, 5, BURAIGUE_SYNTAX_ERROR, 1);
-    run(buraigue_run_scans, t, scans, SCANS - 1, 9, 5, BURAIGUE_MALFORMED, 20);
+    run(buraigue_run_scans, t, "1,D,W0001\n2,D,W0001\n", 20, 9, 5, BURAIGUE_SYNTAX_ERROR, 1);
+    run(buraigue_run_scans, t, "1,D,W0001\n1,D,W0002\n", 20, 9, 5, BURAIGUE_CONFLICTING_REPEAT, 10);
+    run(buraigue_run_scans, t, scans, SCANS - 1, 9, 5, BURAIGUE_MALFORMED, 26);
     done("buraigue_run_scans");
     lists();
     printf("%u cases, %u wrong\n", all, all_wrong);

@@ -30,7 +30,7 @@ static size_t table_book(size_t size) {
 
 static size_t scan_file(size_t size) {
     size_t at = 0;
-    for (int i = 0; at + 20 < size; i++) at += sprintf((char *)book + at, "%c,W%012d\n", "DGPETF"[i % 6], i);
+    for (int i = 0; at + 24 < size; i++) at += sprintf((char *)book + at, "%d,%c,W%012d\n", i, "DGPETF"[i % 6], i);
     return at;
 }
 

@@ -10,7 +10,7 @@ enum { SIZE = 8 << 20, PAINT = 0xa5 };
 
 static uint8_t grammar[65537], tables[65537], items[BURAIGUE_ITEMS], tokens[65535], read[BURAIGUE_TOKENS], book[BURAIGUE_BOOK], states[1 << 20], listing[1 << 20], codes[BURAIGUE_CODES];
 static size_t g, t;
-static const uint8_t scans[] = "D,W0001\nD,W0001\nG,O\nP,E4532\n";
+static const uint8_t scans[] = "1,D,W0001\n1,D,W0001\n2,G,O\n3,P,E4532\n";
 static uint64_t place, size, rules, units;
 
 static void nothing(void) {}

@@ -35,11 +35,12 @@ enum buraigue_reply {
     BURAIGUE_CONFLICT = 9,
     BURAIGUE_CELL_MISMATCH = 10,
     BURAIGUE_BUFFER_TOO_SMALL = 11,
-    BURAIGUE_SYNTAX_ERROR = 12
+    BURAIGUE_SYNTAX_ERROR = 12,
+    BURAIGUE_CONFLICTING_REPEAT = 13
 };
 
 /* what is always enough to lend: for an item table, for the tokens of a scan file, for a table book, for the codes that could come */
-enum { BURAIGUE_ITEMS = 8192, BURAIGUE_TOKENS = 16384, BURAIGUE_BOOK = 65536, BURAIGUE_CODES = 64 };
+enum { BURAIGUE_ITEMS = 8192, BURAIGUE_TOKENS = 10922, BURAIGUE_BOOK = 65536, BURAIGUE_CODES = 64 };
 
 /* Reads a grammar book into the item table: rule i in the 64 bytes from items[64 * i] on, its left side, length, recognition point and
    unit flag (1 for U), symbol k at 16 + k, and at 32 + k a 1 where symbol k begins a group. Less than BURAIGUE_ITEMS bytes are too few.

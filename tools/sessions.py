@@ -1,8 +1,8 @@
-"""Scan files and sessions by document 01's text, apart from the proved code. For the script that makes cases."""
+"""Scan files and sessions by the documents' text, apart from the proved code. For the script that makes cases."""
 import functools, re
 import tables
 
-LINE = re.compile(rb'([A-Z]),([!-+\--~]{1,30})')
+LINE = re.compile(rb'(0|[1-9][0-9]*),([A-Z]),([!-+\--~]{1,30})')
 HOUSE = {b'D': 1, b'G': 2, b'P': 3, b'E': 5, b'T': 6, b'F': 7}
 check = functools.cache(tables.check)
 
@@ -11,15 +11,20 @@ def read_scans(scans, room):
     """The reply's number, its place and the tokens."""
     if len(scans) > 65536:
         return 2, 0, []
-    tokens, place, before = [], 0, None
+    tokens, place, before, label_before = [], 0, None, None
     for line in scans.split(b'\n')[:-1]:
         m = LINE.fullmatch(line)
         if not m:
             return 1, place, []
-        if m.group(1) not in HOUSE:
+        sequence, label = int(m.group(1)), m.group(2, 3)
+        if sequence > 65535:
+            return 2, place, []
+        if sequence == before and label != label_before:
+            return 13, place, []
+        if label[0] not in HOUSE:
             return 3, place, []
-        tokens.append(4 if line == before else HOUSE[m.group(1)])
-        before = line
+        tokens.append(4 if sequence == before else HOUSE[label[0]])
+        before, label_before = sequence, label
         place += len(line) + 1
     if place < len(scans):
         return 1, place, []

@@ -1,5 +1,5 @@
 -- A line that is read is written as `lineText` says, and a line that is written so is read.
-use Prim.Native.Nat.{ℕ, suc, _+_, _-_, _<_, _≤_}
+use Prim.Native.Nat.{ℕ, _+_, _-_, _%_, _≤_}
 use mathlib.Core.Path.{_≡_, refl, sym, ap, ap₂, subst, _∙_}
 use mathlib.Core.List.{List, [], _∷_, _++_, append-assoc}
 use mathlib.Core.Bool.{Bool, true, false, cond, not, _&&_}
@@ -7,18 +7,18 @@ use native.Mathlib.Omega.{arith}
 use native.Mathlib.Nat.{zero-add}
 use borrow.Author.Tests.{le-leb, leb-true, eqb-true, ne-eqb}
 use lib.Dec.{leb, eqb}
-use lib.ListN.{length, take, drop, length-append, length-drop}
+use lib.ListN.{length, take, drop, length-append}
 use lib.Seq.{take-at}
 use Rattle.fixpoint.specs.Each.{Each}
 use Rattle.text.specs.declared.Cursor.{Cursor}
 use Rattle.text.specs.declared.Field.the-variants as field
-use Rattle.text.specs.Digits.{digits}
+use Rattle.text.specs.Digits.{lead, digits}
 use Rattle.text.specs.Field.{fieldAt}
 use Rattle.text.specs.Promise.{ending}
 use Rattle.text.proofs.ElseLaws.{all-number, all-letter}
 use Rattle.text.proofs.LetterLaws.{letter-written, written-letter}
 use Rattle.text.proofs.Promise.{number-written, written-number}
-use Rattle.text.proofs.SpellLaws.{Spells, drop-past, spelled}
+use Rattle.text.proofs.SpellLaws.{drop-past, spelled}
 use Rattle.scans.specs.declared.Line.{Line}
 use Rattle.scans.specs.declared.Text.{Text}
 use Rattle.scans.specs.declared.Text.the-variants as text
@@ -109,6 +109,20 @@ line-long x =
       length-append (digits (x .sequence)) (44 ∷ x .letter ∷ 44 ∷ (x .text ++ 10 ∷ [])),
       length-append (x .text) (10 ∷ []),
     )
+
+some-digit : (v : ℕ) → 1 ≤ length (digits v)
+unfolding digits
+some-digit v =
+    omega (
+      arith,
+      length-append (lead 10000 v) (lead 1000 v ++ (lead 100 v ++ (lead 10 v ++ ((48 + v % 10) ∷ [])))),
+      length-append (lead 1000 v) (lead 100 v ++ (lead 10 v ++ ((48 + v % 10) ∷ []))),
+      length-append (lead 100 v) (lead 10 v ++ ((48 + v % 10) ∷ [])),
+      length-append (lead 10 v) ((48 + v % 10) ∷ []),
+    )
+
+pub six-bytes : (x : Scan) → InForm x → 6 ≤ length (lineText x)
+six-bytes x F = omega (arith, line-long x, some-digit (x .sequence), F .long .0)
 
 module _ (s : List ℕ) (at : ℕ) where
   abbrev start : Cursor

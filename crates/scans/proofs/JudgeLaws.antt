@@ -2,8 +2,8 @@
 use Prim.Native.Nat.{ℕ, _<_, _≤_}
 use mathlib.Core.Path.{_≡_, _∙_}
 use mathlib.Core.List.{List}
-use mathlib.Core.Bool.{Bool, true, false, _&&_}
-use borrow.Author.Tests.{lt-ltb, le-ltb, eq-eqb, ne-eqb}
+use mathlib.Core.Bool.{true, false, _&&_}
+use borrow.Author.Tests.{lt-ltb, le-ltb, ne-eqb}
 use Rattle.reply.specs.declared.Kind.the-variants as kind
 use Rattle.scans.specs.declared.Judged.the-variants as judged
 use Rattle.scans.specs.declared.Line.{Line}

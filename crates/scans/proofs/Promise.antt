@@ -1,5 +1,5 @@
 -- Files and the lines that they are written in.
-use Prim.Native.Nat.{ℕ, zero, suc, _+_, _<_, _≤_}
+use Prim.Native.Nat.{ℕ, zero, suc, _+_, _*_, _<_, _≤_}
 use mathlib.Core.Path.{_≡_, refl, sym, ap, ap₂, _∙_}
 use mathlib.Core.List.{List, [], _∷_, _++_, append-assoc, append-nil}
 use mathlib.Core.Option.{Option, some, none}
@@ -22,7 +22,7 @@ use Rattle.scans.specs.File.{scanOf, rowsFrom, allLines}
 use Rattle.scans.specs.Promise.{lineText, written, InForm, ruled, SameLabel, Agrees, Sound, Promise, ScansPromise}
 use Rattle.scans.proofs.RepeatLaws.{same-equal, equal-same}
 use Rattle.scans.proofs.LineLaws.{line-in}
-use Rattle.scans.proofs.FormLaws.{line-long, line-written, Read, written-line}
+use Rattle.scans.proofs.FormLaws.{line-long, six-bytes, line-written, Read, written-line}
 use Rattle.scans.proofs.RowLaws.{join-none, join-join, rows-end, rows-line, line-refused, line-taken}
 use Rattle.scans.proofs.TokenLaws.{Taken, taken, no-four}
 
@@ -199,6 +199,15 @@ module _ (letters : List ℕ) (first : ℕ) where
       → (lines : List Scan) × Each InForm lines × Sound letters none lines × (s ≡ written lines) × (l ≡ ruled letters none lines)
   read s l e = lines-read letters first s (length s) none 0 l (omega arith) e
 
+  few : (s l : List ℕ) → allLines letters first s ≡ tokens l → length l * 6 ≤ length s
+  few s l e =
+      let R = read s l e in
+      omega (arith, long none (R .0) (R .1), ap length (R .3), ap length (R .4))
+    where
+      long : (before : Option Scan) (lines : List Scan) → Each InForm lines → length (ruled letters before lines) * 6 ≤ length (written lines)
+      long before [] F = omega arith
+      long before (x ∷ m) F = omega (arith, long (some x) m (F .1), six-bytes x (F .0), length-append (lineText x) (written m))
+
   whole : (lines : List Scan) → Each InForm lines → Sound letters none lines → allLines letters first (written lines) ≡ tokens (ruled letters none lines)
   unfolding tokensOf
   whole lines F S =
@@ -225,7 +234,7 @@ module _ (letters : List ℕ) (first : ℕ) where
       ∙ ap (refusedAt kind.ConflictingRepeat) (omega arith)
 
   promise : Promise letters first
-  promise = record { read = read; whole = whole; crossed = crossed }
+  promise = record { read = read; few = few; whole = whole; crossed = crossed }
 
 pub scans-promise : ScansPromise
 scans-promise = (promise, no-four)

@@ -1,12 +1,10 @@
 -- A whole scan file: its tokens, or why it is refused. Document 01, 'Scan files' and 'Replies'; document 02, S-3.
-use Prim.Native.Nat.{ℕ, zero, suc, _+_, _-_, _<_, _≤_}
-use mathlib.Core.Path.{_≡_}
+use Prim.Native.Nat.{ℕ, zero, suc, _+_, _-_}
 use mathlib.Core.List.{List, [], _∷_, _++_}
-use mathlib.Core.Option.{Option, some, none}
-use mathlib.Core.Bool.{Bool, false, cond}
+use mathlib.Core.Option.{none}
+use mathlib.Core.Bool.{cond}
 use lib.ListN.{length, replicate, take, drop}
-use lib.Seq.{sets}
-use lib.Dec.{leb, ltb, eqb}
+use lib.Dec.{leb, ltb}
 use Rattle.reply.specs.declared.Kind.the-variants as kind
 use Rattle.reply.specs.declared.Refusal.{Refusal}
 use Rattle.reply.specs.declared.Reply.{Reply}

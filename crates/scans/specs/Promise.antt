@@ -3,7 +3,7 @@
 -- repeat, token 4, if and only if its sequence equals the line before's. The first line is never a repeat. Walks over tokens are as they were;
 -- a file's tokens come from this rule alone. Errors: 13 crossed (equal sequence, other letter or text; the line's first byte), after torn and
 -- oversize, before stray."
-use Prim.Native.Nat.{ℕ, _+_, _≤_}
+use Prim.Native.Nat.{ℕ, _+_, _*_, _≤_}
 use mathlib.Core.Path.{_≡_}
 use mathlib.Core.List.{List, [], _∷_, _++_}
 use mathlib.Core.Option.{Option, some, none}
@@ -54,6 +54,8 @@ pub record Promise (letters : List ℕ) (first : ℕ) : Type 0 where
   -- a file that gives tokens is written so, in sound lines, and the tokens are those of the rule
   pub read : (s l : List ℕ) → allLines letters first s ≡ tokens l
       → (lines : List Scan) × Each InForm lines × Sound letters none lines × (s ≡ written lines) × (l ≡ ruled letters none lines)
+  -- a line has 6 bytes at least: a file of 65,536 bytes has at most 10,922 tokens
+  pub few : (s l : List ℕ) → allLines letters first s ≡ tokens l → length l * 6 ≤ length s
   -- and every file that is written so gives them
   pub whole : (lines : List Scan) → Each InForm lines → Sound letters none lines → allLines letters first (written lines) ≡ tokens (ruled letters none lines)
   -- "equal sequence, other letter or text; the line's first byte": after sound lines, whatever its letter, and whatever comes after it

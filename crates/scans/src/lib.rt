@@ -7,7 +7,7 @@ use text::Cursor;
 use text::Field;
 ghost use mathlib.Core.Path.{_≡_};
 ghost use mathlib.Core.Bool.{true};
-ghost use Prim.Native.Nat.{_≤_, _<_};
+ghost use Prim.Native.Nat.{_<_};
 ghost use lib.ListN.{length, drop, set, replicate};
 ghost use Rattle.scans.specs.Line.{textByte, textEnd, textFrom, lineAt};
 ghost use Rattle.scans.specs.Tokens.{codeOf, differs, judge};
