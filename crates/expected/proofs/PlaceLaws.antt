@@ -7,28 +7,12 @@ use mathlib.Core.Bool.{Bool, cond}
 use borrow.Author.Tests.{eq-eqb, ne-eqb}
 use lib.Dec.{eqb}
 use Rattle.reply.specs.Reply.{kindNumber}
-use Rattle.reply.specs.declared.Kind.{Kind}
-use Rattle.reply.specs.declared.Kind.the-variants as kind
 use Rattle.reply.specs.declared.Refusal.{Refusal}
+use Rattle.reply.proofs.NumberLaws.{refusal-number}
 use Rattle.walker.specs.declared.Walked.{Walked}
 use Rattle.walker.specs.declared.Walked.the-variants.{Accepted, Refused}
 use Rattle.expected_trials.specs.Trials.{Expected, refusedBy}
 use Rattle.expected.specs.Expected.{EndsAt, onReply}
-
--- no refusal has number 0
-refusal-number : (k : Kind) → 1 ≤ kindNumber k
-refusal-number kind.Malformed = omega arith
-refusal-number kind.LimitExceeded = omega arith
-refusal-number kind.Undeclared = omega arith
-refusal-number kind.MisplacedMark = omega arith
-refusal-number kind.Unproductive = omega arith
-refusal-number kind.Unreachable = omega arith
-refusal-number kind.ItemMismatch = omega arith
-refusal-number kind.MissingLookahead = omega arith
-refusal-number kind.Conflict = omega arith
-refusal-number kind.CellMismatch = omega arith
-refusal-number kind.BufferTooSmall = omega arith
-refusal-number kind.SyntaxError = omega arith
 
 module _ (room : ℕ) (list : ℕ → Expected) where
   by-number : (why : Refusal) {b : Bool} → eqb (kindNumber (why .kind)) 12 ≡ b
