@@ -30,10 +30,10 @@ module _ (letters s : List ℕ) (before : Previous) (line : Line) where
   too-high h = simp (lt-ltb _ _ h)
 
   module _ (low : line .sequence ≤ 65535) where
-    pub crossed : repeatsLine before line ≡ true → differs (beforeOf s before) (scanOf s line) ≡ true
+    pub conflicting : repeatsLine before line ≡ true → differs (beforeOf s before) (scanOf s line) ≡ true
         → judge letters (beforeOf s before) (scanOf s line) ≡ judged.Refused kind.ConflictingRepeat
     unfolding judge
-    crossed r d = simp (le-ltb _ _ low, repeats-is s before line ∙ r, d)
+    conflicting r d = simp (le-ltb _ _ low, repeats-is s before line ∙ r, d)
 
     module _ (a : Agrees s before line) where
       pub no-code : codeOf letters (line .letter) ≡ 0 → judge letters (beforeOf s before) (scanOf s line) ≡ judged.Refused kind.Undeclared

@@ -17,7 +17,7 @@ use Rattle.scans.specs.declared.Line.{Line}
 use Rattle.scans.specs.declared.Parsed.{Parsed}
 use Rattle.scans.specs.declared.Parsed.the-variants as parsed
 use Rattle.scans.specs.Line.{lineAt, onLine}
-use Rattle.scans.specs.Tokens.{Scan, Row, scan, torn, Scanned, tokens, refused, refusedAt, join, codeOf, sameBytes, repeats, differs, judge, onJudged, tokensOf}
+use Rattle.scans.specs.Tokens.{Scan, Row, scan, broken, Scanned, tokens, refused, refusedAt, join, codeOf, sameBytes, repeats, differs, judge, onJudged, tokensOf}
 use Rattle.scans.specs.File.{scanOf, rowsFrom, allLines}
 use Rattle.scans.specs.Promise.{lineText, written, InForm, ruled, SameLabel, Agrees, Sound, Promise, ScansPromise}
 use Rattle.scans.proofs.RepeatLaws.{same-equal, equal-same}
@@ -47,26 +47,26 @@ agrees (some a) x e = λ q. go (eqb (a .letter) (x .letter) && sameBytes (a .tex
     go true p e = label-same a x p
     go false p e = let z : _≡_ {A = ℕ} 0 1 = cc in absurd (omega arith)
 
-not-crossed : (before : Option Scan) (x : Scan) → Agrees before x → repeats before x && differs before x ≡ false
-not-crossed none x h = refl
-not-crossed (some a) x h = go (eqb (a .sequence) (x .sequence)) refl
+no-conflict : (before : Option Scan) (x : Scan) → Agrees before x → repeats before x && differs before x ≡ false
+no-conflict none x h = refl
+no-conflict (some a) x h = go (eqb (a .sequence) (x .sequence)) refl
   where
     go : (t : Bool) → eqb (a .sequence) (x .sequence) ≡ t → t && not (eqb (a .letter) (x .letter) && sameBytes (a .text) (x .text)) ≡ false
     go true p = simp (same-label a x (h (eqb-true _ _ p)))
     go false p = refl
 
 -- and where it is
-crossed-told : (a x : Scan) → a .sequence ≡ x .sequence → (SameLabel a x → ⊥) → repeats (some a) x && differs (some a) x ≡ true
-crossed-told a x e f = simp (eq-eqb _ _ e) (go (eqb (a .letter) (x .letter) && sameBytes (a .text) (x .text)) refl)
+conflict-told : (a x : Scan) → a .sequence ≡ x .sequence → (SameLabel a x → ⊥) → repeats (some a) x && differs (some a) x ≡ true
+conflict-told a x e f = simp (eq-eqb _ _ e) (go (eqb (a .letter) (x .letter) && sameBytes (a .text) (x .text)) refl)
   where
     go : (t : Bool) → eqb (a .letter) (x .letter) && sameBytes (a .text) (x .text) ≡ t → not t ≡ true
     go true p = absurd (f (label-same a x p))
     go false p = refl
 
-crossed-judged : (letters : List ℕ) (a x : Scan) → InForm x → a .sequence ≡ x .sequence → (SameLabel a x → ⊥)
+conflict-judged : (letters : List ℕ) (a x : Scan) → InForm x → a .sequence ≡ x .sequence → (SameLabel a x → ⊥)
     → judge letters (some a) x ≡ judged.Refused kind.ConflictingRepeat
 unfolding judge
-crossed-judged letters a x F e f = simp (le-ltb _ _ (F .numbered), crossed-told a x e f)
+conflict-judged letters a x F e f = simp (le-ltb _ _ (F .numbered), conflict-told a x e f)
 
 each-snoc : (P : Scan → Type 0) (l : List Scan) (x : Scan) → Each P l → P x → Each P (l ++ x ∷ [])
 each-snoc P [] x h p = (p, tt)
@@ -115,7 +115,7 @@ module _ (letters : List ℕ) (first : ℕ) (s : List ℕ) where
       go : (t : Bool) → ltb at (length s) ≡ t → (x : Parsed) → lineAt s at ≡ x
           → ((line : Line) (m : List ℕ) → length s ≤ line .end + 1 + k → tokensOf letters (some (scanOf s line)) (rowsFrom first s k (line .end + 1)) ≡ tokens m
           → Whole (some (scanOf s line)) (line .end + 1) m)
-          → tokensOf letters before (cond t (onLine x (λ line. scan (first + at) (scanOf s line) ∷ rowsFrom first s k (line .end + 1)) (torn (first + at) ∷ [])) []) ≡ tokens l
+          → tokensOf letters before (cond t (onLine x (λ line. scan (first + at) (scanOf s line) ∷ rowsFrom first s k (line .end + 1)) (broken (first + at) ∷ [])) []) ≡ tokens l
           → Whole before at l
       go true p (parsed.Line line) q f e = judged-line line q (f line) (judge letters before (scanOf s line)) refl e
       go true p parsed.Broken q f e = let z : _≡_ {A = ℕ} 0 1 = cc in absurd (omega arith)
@@ -134,7 +134,7 @@ module _ (letters : List ℕ) (first : ℕ) (s : List ℕ) where
   sound-token : (before : Option Scan) (x : Scan) → InForm x → Agrees before x → (codeOf letters (x .letter) ≡ 0 → ⊥)
       → judge letters before x ≡ judged.Token (cond (repeats before x) 4 (codeOf letters (x .letter)))
   unfolding judge
-  sound-token before x F a f = simp (le-ltb _ _ (F .numbered), not-crossed before x a, ne-eqb _ _ f)
+  sound-token before x F a f = simp (le-ltb _ _ (F .numbered), no-conflict before x a, ne-eqb _ _ f)
 
   -- one line
   record Next (at k : ℕ) (x : Scan) : Type 0 where
@@ -217,11 +217,11 @@ module _ (letters : List ℕ) (first : ℕ) where
       ∙ ap (λ (rows : List Row). join (ruled letters none lines) (tokensOf letters (lastOf letters first s none lines) rows)) (rows-end first s (0 + length s) (omega arith) (A .fuel))
       ∙ ap tokens (append-nil _)
 
-  crossed : (lines : List Scan) (before x : Scan) (rest : List ℕ) → Each InForm lines → InForm before → InForm x
+  conflicting : (lines : List Scan) (before x : Scan) (rest : List ℕ) → Each InForm lines → InForm before → InForm x
       → Sound letters none (lines ++ before ∷ []) → before .sequence ≡ x .sequence → (SameLabel before x → ⊥)
       → allLines letters first (written (lines ++ before ∷ []) ++ lineText x ++ rest)
       ≡ refusedAt kind.ConflictingRepeat (first + length (written (lines ++ before ∷ [])))
-  crossed lines before x rest F B X S e f =
+  conflicting lines before x rest F B X S e f =
       let front = lines ++ before ∷ [] in
       let s = written front ++ lineText x ++ rest in
       let A = after letters first s front none 0 (length s) (lineText x ++ rest) (each-snoc InForm lines before F B) S (append-assoc (written front) (lineText x) rest) (omega arith) in
@@ -230,11 +230,11 @@ module _ (letters : List ℕ) (first : ℕ) where
       let N = next letters first s at (A .fuel) x rest X d (A .enough) in
       A .gives
       ∙ ap₂ (λ (b : Option Scan) (rows : List Row). join (ruled letters none front) (tokensOf letters b rows)) (last-snoc letters first s none lines before) (N .rows)
-      ∙ ap (join (ruled letters none front)) (line-refused letters (some before) (first + at) x _ (crossed-judged letters before x X e f))
+      ∙ ap (join (ruled letters none front)) (line-refused letters (some before) (first + at) x _ (conflict-judged letters before x X e f))
       ∙ ap (refusedAt kind.ConflictingRepeat) (omega arith)
 
   promise : Promise letters first
-  promise = record { read = read; few = few; whole = whole; crossed = crossed }
+  promise = record { read = read; few = few; whole = whole; conflicting = conflicting }
 
 pub scans-promise : ScansPromise
 scans-promise = (promise, no-four)

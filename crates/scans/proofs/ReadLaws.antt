@@ -21,7 +21,7 @@ use Rattle.scans.specs.Tokens.{Row, Scanned, tokens, refusedAt, join, ju
 use Rattle.scans.specs.File.{scanOf, rowsFrom, allLines, replyOf}
 use Rattle.scans.specs.Read.{beforeOf, Within, WithinFile, Stored}
 use Rattle.scans.proofs.LineLaws.{line-in}
-use Rattle.scans.proofs.RowLaws.{join-none, join-join, rows-end, rows-torn, rows-line}
+use Rattle.scans.proofs.RowLaws.{join-none, join-join, rows-end, rows-broken, rows-line}
 use Rattle.scans.proofs.RowLaws as rows
 
 -- one store more at the end of a run of stores
@@ -95,7 +95,7 @@ module _ {letters s : List ℕ} {all : Scanned} {lent held : List ℕ} {before :
   module _ (h : at < length s) where
     pub line-broken : lineAt s at ≡ parsed.Broken → {r : Reply} → r ≡ reply.Refused (record { kind = kind.Malformed; place = at }) → Stored all r lent held
     unfolding tokensOf
-    line-broken q = refused-line kind.Malformed h (λ n. ap (tokensOf letters (beforeOf s before)) (rows-torn 0 s at h n q))
+    line-broken q = refused-line kind.Malformed h (λ n. ap (tokensOf letters (beforeOf s before)) (rows-broken 0 s at h n q))
 
     module _ {line : Line} (q : lineAt s at ≡ parsed.Line line) where
       pub line-refused : {w : Kind} → judge letters (beforeOf s before) (scanOf s line) ≡ judged.Refused w → {r : Reply}

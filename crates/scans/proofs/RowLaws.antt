@@ -14,7 +14,7 @@ use Rattle.scans.specs.declared.Line.{Line}
 use Rattle.scans.specs.declared.Parsed.{Parsed}
 use Rattle.scans.specs.declared.Parsed.the-variants as parsed
 use Rattle.scans.specs.Line.{lineAt, onLine}
-use Rattle.scans.specs.Tokens.{Scan, Row, scan, torn, Scanned, tokens, refused, refusedAt, join, judge, tokensOf}
+use Rattle.scans.specs.Tokens.{Scan, Row, scan, broken, Scanned, tokens, refused, refusedAt, join, judge, tokensOf}
 use Rattle.scans.specs.File.{scanOf, rowsFrom}
 
 pub join-none : (x : Scanned) → join [] x ≡ x
@@ -32,9 +32,9 @@ module _ (first : ℕ) (s : List ℕ) (at : ℕ) where
   rows-end h (suc k) = simp (le-ltb at (length s) h)
 
   module _ (h : at < length s) (k : ℕ) where
-    pub rows-torn : lineAt s at ≡ parsed.Broken → rowsFrom first s (suc k) at ≡ torn (first + at) ∷ []
+    pub rows-broken : lineAt s at ≡ parsed.Broken → rowsFrom first s (suc k) at ≡ broken (first + at) ∷ []
     unfolding rowsFrom
-    rows-torn q = simp (lt-ltb at (length s) h, q)
+    rows-broken q = simp (lt-ltb at (length s) h, q)
 
     pub rows-line : {line : Line} → lineAt s at ≡ parsed.Line line
         → rowsFrom first s (suc k) at ≡ scan (first + at) (scanOf s line) ∷ rowsFrom first s k (line .end + 1)
@@ -47,7 +47,7 @@ rows-few first s zero at = omega arith
 rows-few first s (suc k) at = go (ltb at (length s)) (lineAt s at) (λ line. rows-few first s k (line .end + 1))
   where
     go : (t : Bool) (x : Parsed) → ((line : Line) → length (rowsFrom first s k (line .end + 1)) ≤ k)
-        → length (cond t (onLine x (λ line. scan (first + at) (scanOf s line) ∷ rowsFrom first s k (line .end + 1)) (torn (first + at) ∷ [])) []) ≤ suc k
+        → length (cond t (onLine x (λ line. scan (first + at) (scanOf s line) ∷ rowsFrom first s k (line .end + 1)) (broken (first + at) ∷ [])) []) ≤ suc k
     go true (parsed.Line line) f = omega (arith, f line)
     go true parsed.Broken f = omega arith
     go false x f = omega arith

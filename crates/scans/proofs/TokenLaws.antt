@@ -15,7 +15,7 @@ use Rattle.reply.specs.declared.Reply.the-variants as reply
 use Rattle.reply.specs.declared.Kind.the-variants as kind
 use Rattle.scans.specs.declared.Judged.{Judged}
 use Rattle.scans.specs.declared.Judged.the-variants as judged
-use Rattle.scans.specs.Tokens.{Scan, Row, scan, torn, Scanned, tokens, refused, refusedAt, join, codeOf, repeats, differs, judge, onJudged, tokensOf}
+use Rattle.scans.specs.Tokens.{Scan, Row, scan, broken, Scanned, tokens, refused, refusedAt, join, codeOf, repeats, differs, judge, onJudged, tokensOf}
 use Rattle.scans.specs.File.{house, rowsFrom, allLines, scanned, outcomeOf, scansOf}
 use Rattle.scans.proofs.RowLaws.{rows-few}
 
@@ -56,7 +56,7 @@ module _
   by-rows : (rows : List Row) (before : Option Scan) → Q rows (tokensOf letters before rows)
   unfolding tokensOf
   by-rows [] before = done
-  by-rows (torn place ∷ rows) before = fails _ _
+  by-rows (broken place ∷ rows) before = fails _ _
   by-rows (scan place x ∷ rows) before = go (judge letters before x) refl (by-rows rows (some x))
     where
       go : (j : Judged) → judge letters before x ≡ j → Q rows (tokensOf letters (some x) rows)

@@ -11,7 +11,7 @@ use Rattle.reply.specs.declared.Reply.{Reply}
 use Rattle.reply.specs.declared.Reply.the-variants as reply
 use Rattle.scans.specs.declared.Line.{Line}
 use Rattle.scans.specs.Line.{lineAt, onLine}
-use Rattle.scans.specs.Tokens.{Scan, Row, scan, torn, tokensOf}
+use Rattle.scans.specs.Tokens.{Scan, Row, scan, broken, tokensOf}
 pub use Rattle.scans.specs.Tokens.{Scanned, tokens, refused, refusedAt}
 
 -- "House letters: D 1, G 2, P 3, E 5, T 6, F 7; others are strays." The codes of A to Z.
@@ -33,7 +33,7 @@ unfoldable pub rowsFrom : ℕ → List ℕ → ℕ → ℕ → List Row
 rowsFrom first s zero at = []
 rowsFrom first s (suc k) at =
     cond (ltb at (length s))
-    (onLine (lineAt s at) (λ line. scan (first + at) (scanOf s line) ∷ rowsFrom first s k (line .end + 1)) (torn (first + at) ∷ []))
+    (onLine (lineAt s at) (λ line. scan (first + at) (scanOf s line) ∷ rowsFrom first s k (line .end + 1)) (broken (first + at) ∷ []))
     []
 
 -- all lines; a line has a byte at least, so there are at most as many lines as bytes

@@ -59,7 +59,7 @@ pub record Promise (letters : List ℕ) (first : ℕ) : Type 0 where
   -- and every file that is written so gives them
   pub whole : (lines : List Scan) → Each InForm lines → Sound letters none lines → allLines letters first (written lines) ≡ tokens (ruled letters none lines)
   -- "equal sequence, other letter or text; the line's first byte": after sound lines, whatever its letter, and whatever comes after it
-  pub crossed : (lines : List Scan) (before x : Scan) (rest : List ℕ) → Each InForm lines → InForm before → InForm x
+  pub conflicting : (lines : List Scan) (before x : Scan) (rest : List ℕ) → Each InForm lines → InForm before → InForm x
       → Sound letters none (lines ++ before ∷ []) → before .sequence ≡ x .sequence → (SameLabel before x → ⊥)
       → allLines letters first (written (lines ++ before ∷ []) ++ lineText x ++ rest)
       ≡ refusedAt kind.ConflictingRepeat (first + length (written (lines ++ before ∷ [])))

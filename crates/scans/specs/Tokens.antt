@@ -19,10 +19,10 @@ pub record Scan : Type 0 where
   pub letter : ℕ
   pub text : List ℕ
 
--- a line of a file, with the place of its first byte: what it says, or that it is torn
+-- a line of a file, with the place of its first byte: what it says, or that it breaks its form ("torn")
 pub data Row : Type 0 where
   scan : ℕ → Scan → Row
-  torn : ℕ → Row
+  broken : ℕ → Row
 
 -- what a file's lines give: the token list, or the refusal
 pub data Scanned : Type 0 where
@@ -72,6 +72,6 @@ onJudged (judged.Refused k) f g = g k
 -- lines in order, the first that is refused refuses the file; of each refusal the place is "the line's first byte"
 unfoldable pub tokensOf : List ℕ → Option Scan → List Row → Scanned
 tokensOf letters before [] = tokens []
-tokensOf letters before (torn place ∷ l) = refusedAt kind.Malformed place
+tokensOf letters before (broken place ∷ l) = refusedAt kind.Malformed place
 tokensOf letters before (scan place x ∷ l) =
     onJudged (judge letters before x) (λ t. join (t ∷ []) (tokensOf letters (some x) l)) (λ k. refusedAt k place)

@@ -4,7 +4,7 @@ use mathlib.Core.Logic.{⊎-elim}
 use borrow.Author.Needs.{needs}
 use denote.Ref.{now}
 use Rattle.scans.specs.declared.Judged.the-variants as judged
-use Rattle.scans.proofs.JudgeLaws.{too-high, crossed, Agrees, agrees-new, agrees-same, no-code, repeated, fresh}
+use Rattle.scans.proofs.JudgeLaws.{too-high, conflicting, Agrees, agrees-new, agrees-same, no-code, repeated, fresh}
 use Rattle.scans.proofs.judge_line.Statement.{statement}
 use Rattle.scans.proofs.judge_line.Tie as tie
 
@@ -24,7 +24,7 @@ returns-2 c =
     let d = c .before in
     let r = d .before .before in
     let k = r .before .before .before .before .args in
-    sym (crossed (now (k .letters)) (now (k .file)) (k .previous) (k .line) (r .before .if1 .left) (sym (r .repeats-line .ensures) ∙ d .before .if2 .taken) (sym (d .differs-from .ensures) ∙ c .if3 .taken))
+    sym (conflicting (now (k .letters)) (now (k .file)) (k .previous) (k .line) (r .before .if1 .left) (sym (r .repeats-line .ensures) ∙ d .before .if2 .taken) (sym (d .differs-from .ensures) ∙ c .if3 .taken))
 
 code-of-requires : tie.Need-code-of-requires
 code-of-requires c κs = search needs
