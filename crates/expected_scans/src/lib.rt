@@ -23,7 +23,7 @@ fn list_scans(
     requires { ⌜ length (now file) ≤ 65536 ⌝ }
     ensures { λ r. ⌜ Tells (length (now (stack .entry))) (length (now (listing .entry))) (afterScans (length (now (stack .entry))) (length (now (listing .entry))) (length (now (codes .entry))) (now (grammar .entry)) (now (tables .entry)) (scanned house (now (file .entry)))) r (now (stack .exit)) (now (listing .exit)) (now (codes .exit)) ⌝ }
 {
-    let mut tokens = [0u8; 65536];
+    let mut tokens = [0u8; 10922];
     let read = scans::read_scans(file, &mut tokens);
     match read {
         Reply::Accepted(n) => {

@@ -12,7 +12,8 @@ use Rattle.reply.specs.declared.Refusal.{Refusal}
 use Rattle.reply.specs.declared.Reply.{Reply}
 use Rattle.reply.specs.declared.Reply.the-variants as reply
 use Rattle.scans.specs.File.{Scanned, tokens, refused, house, scanned, outcomeOf, scansOf}
-use Rattle.scans.proofs.TokenLaws.{tokens-few, scans-listed}
+use Rattle.scans.proofs.Promise.{tokens-few}
+use Rattle.scans.proofs.TokenLaws.{scans-listed}
 use Rattle.table.specs.Book.{Reading, whole, rejected}
 use Rattle.table.specs.Memory.{replyOf, asReply}
 use Rattle.checker.specs.Checked.{checkedOf, verdictOf}
@@ -39,22 +40,22 @@ module _ (gs s : List ℕ) (why : Refusal) {r : Reply} (v : r ≡ verdictOf gs s
       go (whole g t) q = clash cc
       go (rejected y) q = cc
 
--- ---- a scan file that is read, or refused: a slice of 65,536 tokens has room for every file
-module _ (file : List ℕ) {r : Reply} (read : r ≡ scansOf file 65536 .reply) where
+-- ---- a scan file that is read, or refused: a slice of 10,922 tokens has room for every file
+module _ (file : List ℕ) {r : Reply} (read : r ≡ scansOf file 10922 .reply) where
   pub scans-refused : {why : Refusal} → length file ≤ 65536 → r ≡ reply.Refused why → scanned house file ≡ refused why
   unfolding scansOf outcomeOf
   scans-refused {why} few e = go (scanned house file) refl (sym e ∙ read)
     where
-      go : (x : Scanned) → scanned house file ≡ x → reply.Refused why ≡ outcomeOf x 65536 .reply → scanned house file ≡ refused why
+      go : (x : Scanned) → scanned house file ≡ x → reply.Refused why ≡ outcomeOf x 10922 .reply → scanned house file ≡ refused why
       go (tokens l) q f =
-          let f′ = simp (le-leb (length l) 65536 (omega (arith, tokens-few house file l q, few))) at f in
+          let f′ = simp (le-leb (length l) 10922 (omega (arith, tokens-few house file l q, few))) at f in
           clash cc
       go (refused y) q f = q ∙ ap refused (let p : y ≡ why = cc in p)
 
-  pub scans-read : {m : ℕ} (held : List ℕ) → r ≡ reply.Accepted m → held ≡ scansOf file 65536 .tokens → scanned house file ≡ tokens (take m held)
+  pub scans-read : {m : ℕ} (held : List ℕ) → r ≡ reply.Accepted m → held ≡ scansOf file 10922 .tokens → scanned house file ≡ tokens (take m held)
   scans-read {m} held e h =
-      let L = scans-listed file 65536 m (sym read ∙ e) in
-      let front : take m held ≡ L .list = ap (take m) (h ∙ L .held) ∙ take-at (L .list) (replicate (65536 - m) 0) m (L .counted) in
+      let L = scans-listed file 10922 m (sym read ∙ e) in
+      let front : take m held ≡ L .list = ap (take m) (h ∙ L .held) ∙ take-at (L .list) (replicate (10922 - m) 0) m (L .counted) in
       L .read ∙ ap tokens (sym front)
 
 -- ---- the session over it

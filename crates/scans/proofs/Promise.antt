@@ -18,13 +18,13 @@ use Rattle.scans.specs.declared.Parsed.{Parsed}
 use Rattle.scans.specs.declared.Parsed.the-variants as parsed
 use Rattle.scans.specs.Line.{lineAt, onLine}
 use Rattle.scans.specs.Tokens.{Scan, Row, scan, broken, Scanned, tokens, refused, refusedAt, join, codeOf, sameBytes, repeats, differs, judge, onJudged, tokensOf}
-use Rattle.scans.specs.File.{scanOf, rowsFrom, allLines}
+use Rattle.scans.specs.File.{scanOf, rowsFrom, allLines, scanned}
 use Rattle.scans.specs.Promise.{lineText, written, InForm, ruled, SameLabel, Agrees, Sound, Promise, ScansPromise}
 use Rattle.scans.proofs.RepeatLaws.{same-equal, equal-same}
 use Rattle.scans.proofs.LineLaws.{line-in}
 use Rattle.scans.proofs.FormLaws.{line-long, six-bytes, line-written, Read, written-line}
 use Rattle.scans.proofs.RowLaws.{join-none, join-join, rows-end, rows-line, line-refused, line-taken}
-use Rattle.scans.proofs.TokenLaws.{Taken, taken, no-four}
+use Rattle.scans.proofs.TokenLaws.{Taken, taken, scanned-lines, no-four}
 
 -- ---- a label
 label-same : (a x : Scan) → eqb (a .letter) (x .letter) && sameBytes (a .text) (x .text) ≡ true → SameLabel a x
@@ -238,3 +238,7 @@ module _ (letters : List ℕ) (first : ℕ) where
 
 pub scans-promise : ScansPromise
 scans-promise = (promise, no-four)
+
+-- a file of 65,536 bytes has at most 10,922 tokens
+pub tokens-few : (letters s l : List ℕ) → scanned letters s ≡ tokens l → length l * 6 ≤ length s
+tokens-few letters s l e = few letters 0 s l (scanned-lines letters s l e)

@@ -3,17 +3,13 @@ use Prim.Native.Nat.{ℕ, zero, suc, _+_, _<_, _≤_}
 use mathlib.Core.Path.{_≡_, refl, ap}
 use mathlib.Core.List.{List, [], _∷_, _++_, append-assoc}
 use mathlib.Core.Option.{Option, some}
-use mathlib.Core.Bool.{Bool, true, false, cond}
-use native.Mathlib.Omega.{arith}
 use borrow.Author.Tests.{lt-ltb, le-ltb}
-use lib.Dec.{ltb}
 use lib.ListN.{length}
 use Rattle.reply.specs.declared.Kind.{Kind}
 use Rattle.scans.specs.declared.Judged.the-variants as judged
 use Rattle.scans.specs.declared.Line.{Line}
-use Rattle.scans.specs.declared.Parsed.{Parsed}
 use Rattle.scans.specs.declared.Parsed.the-variants as parsed
-use Rattle.scans.specs.Line.{lineAt, onLine}
+use Rattle.scans.specs.Line.{lineAt}
 use Rattle.scans.specs.Tokens.{Scan, Row, scan, broken, Scanned, tokens, refused, refusedAt, join, judge, tokensOf}
 use Rattle.scans.specs.File.{scanOf, rowsFrom}
 
@@ -40,17 +36,6 @@ module _ (first : ℕ) (s : List ℕ) (at : ℕ) where
         → rowsFrom first s (suc k) at ≡ scan (first + at) (scanOf s line) ∷ rowsFrom first s k (line .end + 1)
     unfolding rowsFrom
     rows-line q = simp (lt-ltb at (length s) h, q)
-
-pub rows-few : (first : ℕ) (s : List ℕ) (k at : ℕ) → length (rowsFrom first s k at) ≤ k
-unfolding rowsFrom
-rows-few first s zero at = omega arith
-rows-few first s (suc k) at = go (ltb at (length s)) (lineAt s at) (λ line. rows-few first s k (line .end + 1))
-  where
-    go : (t : Bool) (x : Parsed) → ((line : Line) → length (rowsFrom first s k (line .end + 1)) ≤ k)
-        → length (cond t (onLine x (λ line. scan (first + at) (scanOf s line) ∷ rowsFrom first s k (line .end + 1)) (broken (first + at) ∷ [])) []) ≤ suc k
-    go true (parsed.Line line) f = omega (arith, f line)
-    go true parsed.Broken f = omega arith
-    go false x f = omega arith
 
 module _ (letters : List ℕ) (before : Option Scan) (place : ℕ) (x : Scan) (rows : List Row) where
   pub line-refused : {k : Kind} → judge letters before x ≡ judged.Refused k → tokensOf letters before (scan place x ∷ rows) ≡ refusedAt k place

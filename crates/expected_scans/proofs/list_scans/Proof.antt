@@ -27,7 +27,7 @@ slice-aggregate-list-expected : tie.Need-slice-aggregate-list-expected
 slice-aggregate-list-expected c =
     let at-read-scans = c .before .before .before .before .before in
     let l = scans-listed _ _ _ (sym (at-read-scans .read-scans .ensures .0) ∙ c .before .before .read .given .1) in
-    let e : length (at-read-scans .read-scans .last .1 .0) ≡ 65536 = search needs in
+    let e : length (at-read-scans .read-scans .last .1 .0) ≡ 10922 = search needs in
     sym (length-take-le _ (at-read-scans .read-scans .last .1 .0) (omega (arith, l .fits, e)))
 
 list-expected-requires : tie.Need-list-expected-requires

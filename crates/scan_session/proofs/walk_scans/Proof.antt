@@ -29,7 +29,7 @@ slice-aggregate-run-session : tie.Need-slice-aggregate-run-session
 slice-aggregate-run-session c =
     let at-read-scans = c .before .before .before .before .before in
     let l = scans-listed _ _ _ (sym (at-read-scans .read-scans .ensures .0) ∙ c .before .before .read .given .1) in
-    let e : length (at-read-scans .read-scans .last .1 .0) ≡ 65536 = search needs in
+    let e : length (at-read-scans .read-scans .last .1 .0) ≡ 10922 = search needs in
     sym (length-take-le _ (at-read-scans .read-scans .last .1 .0) (omega (arith, l .fits, e)))
 
 run-session-requires : tie.Need-run-session-requires
