@@ -14,7 +14,7 @@ use Rattle.text.specs.declared.Field.{Field}
 use Rattle.text.specs.declared.Field.the-variants as field
 use Rattle.text.specs.Field.{classOf, endOf, addDigit, closed, onDigit, digitsFrom, byClass, fieldOf, fieldAt}
 use Rattle.text.proofs.ClassLaws.{digit-range}
-use Rattle.text.proofs.NumberLaws.{as-digits, zero-field, OfNumber, of-any, of-closed}
+use Rattle.text.proofs.NumberLaws.{as-digits, zero-field, Any, OfNumber, of-any, of-closed}
 use Rattle.digits.specs.Exact.{exactFrom, exactAt}
 use Rattle.digits.specs.Compare.{digitOf, digitAt, Leads}
 
@@ -31,7 +31,7 @@ digits-are (b ∷ l) at v w q = go (classOf b) (digits-are l (at + 1) (v * 10 + 
     more = exactFrom (v * 10 + (b - 48)) l
 
     over : OfNumber (Is v) (closed (field.Number w) (endOf (b ∷ l) at))
-    over = of-closed (Is v) (field.Number w) (endOf (b ∷ l) at) (λ d e. q)
+    over = of-closed (Is v) Any (field.Number w) (endOf (b ∷ l) at) (λ d e. q)
 
     go : (k : Class) → OfNumber (Is more) (digitsFrom l (at + 1) (addDigit w b))
         → OfNumber (Is (onDigit k more v)) (onDigit k (digitsFrom l (at + 1) (addDigit w b)) (closed (field.Number w) (endOf (b ∷ l) at)))
@@ -46,8 +46,8 @@ field-is (b ∷ l) at = go (classOf b)
   where
     go : (k : Class) → OfNumber (Is (exactFrom 0 (b ∷ l))) (byClass k b l at)
     go class.Digit = as-digits (OfNumber (Is (exactFrom 0 (b ∷ l)))) tt at b l (digits-are (b ∷ l) at 0 0 refl)
-    go class.Letter = of-closed (Is (exactFrom 0 (b ∷ l))) (field.Letter b) (endOf l (at + 1)) (λ d e. tt)
-    go class.Mark = of-closed (Is (exactFrom 0 (b ∷ l))) (field.Mark b) (endOf l (at + 1)) (λ d e. tt)
+    go class.Letter = of-closed (Is (exactFrom 0 (b ∷ l))) Any (field.Letter b) (endOf l (at + 1)) (λ d e. tt)
+    go class.Mark = of-closed (Is (exactFrom 0 (b ∷ l))) Any (field.Mark b) (endOf l (at + 1)) (λ d e. tt)
     go class.Other = tt
 
 -- ---- its first digit
@@ -62,8 +62,8 @@ field-first (b ∷ l) at = by (eqb b 48) refl
     go class.Digit e n =
         let r = digit-range b e in
         as-digits (OfNumber (First (b ∷ l))) tt at b l (of-any (First (b ∷ l)) (λ v d h. simp e (omega (arith, r .0, n))) (digitsFrom (b ∷ l) at 0))
-    go class.Letter e n = of-closed (First (b ∷ l)) (field.Letter b) (endOf l (at + 1)) (λ d q. tt)
-    go class.Mark e n = of-closed (First (b ∷ l)) (field.Mark b) (endOf l (at + 1)) (λ d q. tt)
+    go class.Letter e n = of-closed (First (b ∷ l)) Any (field.Letter b) (endOf l (at + 1)) (λ d q. tt)
+    go class.Mark e n = of-closed (First (b ∷ l)) Any (field.Mark b) (endOf l (at + 1)) (λ d q. tt)
     go class.Other e n = tt
 
     by : (t : Bool) → eqb b 48 ≡ t → OfNumber (First (b ∷ l)) (fieldOf (b ∷ l) at)

@@ -16,8 +16,7 @@ use Rattle.text.specs.Digits.{lead, digits}
 use Rattle.text.specs.Field.{fieldAt}
 use Rattle.text.specs.Promise.{ending}
 use Rattle.text.proofs.ElseLaws.{all-number, all-letter}
-use Rattle.text.proofs.LetterLaws.{letter-written, written-letter}
-use Rattle.text.proofs.Promise.{number-written, written-number}
+use Rattle.text.proofs.Promise.{number-written, written-number, letter-written, written-letter}
 use Rattle.text.proofs.SpellLaws.{drop-past, spelled}
 use Rattle.scans.specs.declared.Line.{Line}
 use Rattle.scans.specs.declared.Text.{Text}

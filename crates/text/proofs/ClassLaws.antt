@@ -1,6 +1,6 @@
 -- The bytes of each class.
 use Prim.Native.Nat.{ℕ, _≤_}
-use mathlib.Core.Path.{_≡_, refl, sym, _∙_}
+use mathlib.Core.Path.{_≡_, refl, sym, subst, _∙_}
 use mathlib.Core.Bool.{Bool, true, false, cond, _||_}
 use mathlib.Core.List.{[], _∷_}
 use mathlib.Core.Logic.{inl, inr, ⊎-elim}
@@ -10,6 +10,7 @@ use lib.Dec.{eqb}
 use types.Run.{OneOf}
 use Rattle.range.specs.Range.{within}
 use Rattle.range.proofs.RangeLaws.{within-true, true-within, false-within}
+use Rattle.text.specs.declared.Class.{Class}
 use Rattle.text.specs.declared.Class.the-variants as class
 use Rattle.text.specs.Field.{classOf, onDigit}
 
@@ -39,26 +40,6 @@ module _ (b : ℕ) where
   unfolding classOf
   class-other f g m = simp (false-within 48 b 57 f, false-within 65 b 90 g, ne-eqb b 47 (λ e. m (inl e)), ne-eqb b 94 (λ e. m (inr e)))
 
-  pub digit-range : classOf b ≡ class.Digit → (48 ≤ b) × (b ≤ 57)
-  unfolding classOf
-  digit-range e = go (within 48 b 57) (within 65 b 90) (eqb b 47 || eqb b 94) refl e
-    where
-      go : (t u v : Bool) → within 48 b 57 ≡ t → cond t class.Digit (cond u class.Letter (cond v class.Mark class.Other)) ≡ class.Digit → (48 ≤ b) × (b ≤ 57)
-      go true u v p e = within-true 48 b 57 p
-      go false true v p e = let z : _≡_ {A = ℕ} 0 1 = cc in absurd (omega arith)
-      go false false true p e = let z : _≡_ {A = ℕ} 0 1 = cc in absurd (omega arith)
-      go false false false p e = let z : _≡_ {A = ℕ} 0 1 = cc in absurd (omega arith)
-
-  pub letter-range : classOf b ≡ class.Letter → (65 ≤ b) × (b ≤ 90)
-  unfolding classOf
-  letter-range e = go (within 48 b 57) (within 65 b 90) (eqb b 47 || eqb b 94) refl e
-    where
-      go : (t u v : Bool) → within 65 b 90 ≡ u → cond t class.Digit (cond u class.Letter (cond v class.Mark class.Other)) ≡ class.Letter → (65 ≤ b) × (b ≤ 90)
-      go true u v p e = let z : _≡_ {A = ℕ} 0 1 = cc in absurd (omega arith)
-      go false true v p e = within-true 65 b 90 p
-      go false false true p e = let z : _≡_ {A = ℕ} 0 1 = cc in absurd (omega arith)
-      go false false false p e = let z : _≡_ {A = ℕ} 0 1 = cc in absurd (omega arith)
-
   pub no-digit : (48 ≤ b → b ≤ 57 → ⊥) → {A : Type 0} (x y : A) → onDigit (classOf b) x y ≡ y
   unfolding classOf
   no-digit f x y = rw (false-within 48 b 57 f) (go (within 65 b 90) (eqb b 47 || eqb b 94))
@@ -67,6 +48,30 @@ module _ (b : ℕ) where
       go true u = refl
       go false true = refl
       go false false = refl
+
+-- the bytes of digits and letters
+abbrev InClass : Class → ℕ → Type 0
+InClass class.Digit b = (48 ≤ b) × (b ≤ 57)
+InClass class.Letter b = (65 ≤ b) × (b ≤ 90)
+InClass class.Mark b = Unit {0}
+InClass class.Other b = Unit {0}
+
+in-class : (b : ℕ) → InClass (classOf b) b
+unfolding classOf
+in-class b = go (within 48 b 57) refl (within 65 b 90) refl (eqb b 47 || eqb b 94)
+  where
+    go : (t : Bool) → within 48 b 57 ≡ t → (u : Bool) → within 65 b 90 ≡ u → (v : Bool)
+        → InClass (cond t class.Digit (cond u class.Letter (cond v class.Mark class.Other))) b
+    go true p u q v = within-true 48 b 57 p
+    go false p true q v = within-true 65 b 90 q
+    go false p false q true = tt
+    go false p false q false = tt
+
+pub digit-range : (b : ℕ) → classOf b ≡ class.Digit → (48 ≤ b) × (b ≤ 57)
+digit-range b e = subst (λ (k : Class). InClass k b) e (in-class b)
+
+pub letter-range : (b : ℕ) → classOf b ≡ class.Letter → (65 ≤ b) × (b ≤ 90)
+letter-range b e = subst (λ (k : Class). InClass k b) e (in-class b)
 
 -- the test of a digit, where it fails
 pub outside : (b : ℕ) → within 48 b 57 ≡ false → 48 ≤ b → b ≤ 57 → ⊥

@@ -7,6 +7,5 @@ pub mod SignLaws
 pub mod OnwardLaws
 pub mod DigitsLaws
 pub mod SpellLaws
-pub mod LetterLaws
 pub mod Promise
 pub mod Examples

@@ -1,4 +1,4 @@
--- How a number goes on at the next byte, and what holds of a field where it is a number.
+-- How a number goes on at the next byte, and what holds of a field where it is a number or a letter.
 use Prim.Native.Nat.{ℕ, _+_, _<_, _≤_}
 use mathlib.Core.Path.{_≡_, refl, sym, subst}
 use mathlib.Core.Bool.{Bool, true, false, cond}
@@ -57,12 +57,18 @@ module _ (P : Field → Type 0) (torn : P field.Broken) (at : ℕ) where
       go true e = torn
       go false e = subst P (sym (no-digit x (outside x e) _ _)) (ends (endOf (x ∷ l) (at + 1)) refl)
 
--- ---- P of a field where it is a number, nothing where it is none
+-- ---- N of a field where it is a number, L where it is a letter, nothing where it is neither
+abbrev pub Of : (ℕ → Cursor → Type 0) → (ℕ → Cursor → Type 0) → Field → Type 0
+Of N L (field.Number v d) = N v d
+Of N L (field.Letter b d) = L b d
+Of N L (field.Mark b d) = Unit {0}
+Of N L field.Broken = Unit {0}
+
+abbrev pub Any : ℕ → Cursor → Type 0
+Any v d = Unit {0}
+
 abbrev pub OfNumber : (ℕ → Cursor → Type 0) → Field → Type 0
-OfNumber P (field.Number v d) = P v d
-OfNumber P (field.Mark b d) = Unit {0}
-OfNumber P (field.Letter b d) = Unit {0}
-OfNumber P field.Broken = Unit {0}
+OfNumber P f = Of P Any f
 
 pub of-any : (P : ℕ → Cursor → Type 0) → ((v : ℕ) (d : Cursor) → P v d) → (f : Field) → OfNumber P f
 of-any P h (field.Number v d) = h v d
@@ -70,12 +76,13 @@ of-any P h (field.Mark b d) = tt
 of-any P h (field.Letter b d) = tt
 of-any P h field.Broken = tt
 
-pub of-number : {P Q : ℕ → Cursor → Type 0} → ((v : ℕ) (d : Cursor) → P v d → Q v d) → (f : Field) → OfNumber P f → OfNumber Q f
-of-number h (field.Number v d) p = h v d p
-of-number h (field.Mark b d) p = tt
-of-number h (field.Letter b d) p = tt
-of-number h field.Broken p = tt
+pub of-each : {N M L K : ℕ → Cursor → Type 0} → ((v : ℕ) (d : Cursor) → N v d → M v d) → ((b : ℕ) (d : Cursor) → L b d → K b d)
+    → (f : Field) → Of N L f → Of M K f
+of-each h g (field.Number v d) p = h v d p
+of-each h g (field.Letter b d) p = g b d p
+of-each h g (field.Mark b d) p = tt
+of-each h g field.Broken p = tt
 
-pub of-closed : (P : ℕ → Cursor → Type 0) (f : Cursor → Field) (e : End) → ((d : Cursor) → e ≡ Past d → OfNumber P (f d)) → OfNumber P (closed f e)
-of-closed P f (Past d) h = h d refl
-of-closed P f Missing h = tt
+pub of-closed : (N L : ℕ → Cursor → Type 0) (f : Cursor → Field) (e : End) → ((d : Cursor) → e ≡ Past d → Of N L (f d)) → Of N L (closed f e)
+of-closed N L f (Past d) h = h d refl
+of-closed N L f Missing h = tt
