@@ -10,6 +10,7 @@ use lib.Dec.{ltb, eqb}
 use lib.ListN.{length, drop, length-append, length-drop, drop-of-length-le}
 use lib.Seq.{drop-drop, drop-append-seam, drop-at}
 use Rattle.fixpoint.specs.Each.{Each}
+use Rattle.reply.specs.declared.Kind.{Kind}
 use Rattle.reply.specs.declared.Kind.the-variants as kind
 use Rattle.scans.specs.declared.Judged.{Judged}
 use Rattle.scans.specs.declared.Judged.the-variants as judged
@@ -19,7 +20,7 @@ use Rattle.scans.specs.declared.Parsed.the-variants as parsed
 use Rattle.scans.specs.Line.{lineAt, onLine}
 use Rattle.scans.specs.Tokens.{Scan, Row, scan, broken, Scanned, tokens, refused, refusedAt, join, codeOf, sameBytes, repeats, differs, judge, onJudged, tokensOf}
 use Rattle.scans.specs.File.{scanOf, rowsFrom, allLines, scanned}
-use Rattle.scans.specs.Promise.{lineText, written, InForm, ruled, SameLabel, Agrees, Sound, Promise, ScansPromise}
+use Rattle.scans.specs.Promise.{lineText, written, InForm, ruled, SameLabel, Agrees, Sound, lastOf, Promise, ScansPromise}
 use Rattle.scans.proofs.RepeatLaws.{same-equal, equal-same}
 use Rattle.scans.proofs.LineLaws.{line-in}
 use Rattle.scans.proofs.FormLaws.{line-long, six-bytes, line-written, Read, written-line}
@@ -68,9 +69,10 @@ conflict-judged : (letters : List ℕ) (a x : Scan) → InForm x → a .sequence
 unfolding judge
 conflict-judged letters a x F e f = simp (le-ltb _ _ (F .numbered), conflict-told a x e f)
 
-each-snoc : (P : Scan → Type 0) (l : List Scan) (x : Scan) → Each P l → P x → Each P (l ++ x ∷ [])
-each-snoc P [] x h p = (p, tt)
-each-snoc P (y ∷ l) x h p = (h .0, each-snoc P l x (h .1) p)
+undeclared-judged : (letters : List ℕ) (before : Option Scan) (x : Scan) → InForm x → Agrees before x → codeOf letters (x .letter) ≡ 0
+    → judge letters before x ≡ judged.Refused kind.Undeclared
+unfolding judge
+undeclared-judged letters before x F a z = simp (le-ltb _ _ (F .numbered), no-conflict before x a, z)
 
 module _ (letters : List ℕ) (first : ℕ) (s : List ℕ) where
   -- ---- a file that gives tokens
@@ -122,15 +124,6 @@ module _ (letters : List ℕ) (first : ℕ) (s : List ℕ) where
       go false p x q f e = nothing-left before at l (ltb-false _ _ p) e
 
   -- ---- lines that are written in a file
-  -- the line before what comes after lines
-  abbrev lastOf : Option Scan → List Scan → Option Scan
-  lastOf before [] = before
-  lastOf before (x ∷ l) = lastOf (some x) l
-
-  last-snoc : (before : Option Scan) (l : List Scan) (x : Scan) → lastOf before (l ++ x ∷ []) ≡ some x
-  last-snoc before [] x = refl
-  last-snoc before (y ∷ l) x = last-snoc (some y) l x
-
   sound-token : (before : Option Scan) (x : Scan) → InForm x → Agrees before x → (codeOf letters (x .letter) ≡ 0 → ⊥)
       → judge letters before x ≡ judged.Token (cond (repeats before x) 4 (codeOf letters (x .letter)))
   unfolding judge
@@ -214,27 +207,36 @@ module _ (letters : List ℕ) (first : ℕ) where
       let s = written lines in
       let A = after letters first s lines none 0 (length s) [] F S (sym (append-nil s)) (omega arith) in
       A .gives
-      ∙ ap (λ (rows : List Row). join (ruled letters none lines) (tokensOf letters (lastOf letters first s none lines) rows)) (rows-end first s (0 + length s) (omega arith) (A .fuel))
+      ∙ ap (λ (rows : List Row). join (ruled letters none lines) (tokensOf letters (lastOf none lines) rows)) (rows-end first s (0 + length s) (omega arith) (A .fuel))
       ∙ ap tokens (append-nil _)
 
-  conflicting : (lines : List Scan) (before x : Scan) (rest : List ℕ) → Each InForm lines → InForm before → InForm x
-      → Sound letters none (lines ++ before ∷ []) → before .sequence ≡ x .sequence → (SameLabel before x → ⊥)
-      → allLines letters first (written (lines ++ before ∷ []) ++ lineText x ++ rest)
-      ≡ refusedAt kind.ConflictingRepeat (first + length (written (lines ++ before ∷ [])))
-  conflicting lines before x rest F B X S e f =
-      let front = lines ++ before ∷ [] in
-      let s = written front ++ lineText x ++ rest in
-      let A = after letters first s front none 0 (length s) (lineText x ++ rest) (each-snoc InForm lines before F B) S (append-assoc (written front) (lineText x) rest) (omega arith) in
-      let at = 0 + length (written front) in
-      let d : drop at s ≡ lineText x ++ rest = ap (drop at) (append-assoc (written front) (lineText x) rest) ∙ drop-at (written front) (lineText x ++ rest) at (omega arith) in
-      let N = next letters first s at (A .fuel) x rest X d (A .enough) in
+  -- a line in form that is refused, after sound lines
+  refused-after : (lines : List Scan) (x : Scan) (rest : List ℕ) → Each InForm lines → InForm x → Sound letters none lines
+      → {k : Kind} → judge letters (lastOf none lines) x ≡ judged.Refused k
+      → allLines letters first (written lines ++ (lineText x ++ rest)) ≡ refusedAt k (first + length (written lines))
+  refused-after lines x rest F X S {k} j =
+      let s = written lines ++ (lineText x ++ rest) in
+      let A = after letters first s lines none 0 (length s) (lineText x ++ rest) F S refl (omega arith) in
+      let at = 0 + length (written lines) in
+      let N = next letters first s at (A .fuel) x rest X (drop-at (written lines) (lineText x ++ rest) at (omega arith)) (A .enough) in
       A .gives
-      ∙ ap₂ (λ (b : Option Scan) (rows : List Row). join (ruled letters none front) (tokensOf letters b rows)) (last-snoc letters first s none lines before) (N .rows)
-      ∙ ap (join (ruled letters none front)) (line-refused letters (some before) (first + at) x _ (conflict-judged letters before x X e f))
-      ∙ ap (refusedAt kind.ConflictingRepeat) (omega arith)
+      ∙ ap (λ (rows : List Row). join (ruled letters none lines) (tokensOf letters (lastOf none lines) rows)) (N .rows)
+      ∙ ap (join (ruled letters none lines)) (line-refused letters (lastOf none lines) (first + at) x _ j)
+      ∙ ap (refusedAt k) (omega arith)
+
+  conflicting : (lines : List Scan) (before x : Scan) (rest : List ℕ) → Each InForm lines → InForm x → Sound letters none lines
+      → lastOf none lines ≡ some before → before .sequence ≡ x .sequence → (SameLabel before x → ⊥)
+      → allLines letters first (written lines ++ (lineText x ++ rest)) ≡ refusedAt kind.ConflictingRepeat (first + length (written lines))
+  conflicting lines before x rest F X S l e f =
+      refused-after lines x rest F X S (ap (λ (b : Option Scan). judge letters b x) l ∙ conflict-judged letters before x X e f)
+
+  undeclared : (lines : List Scan) (x : Scan) (rest : List ℕ) → Each InForm lines → InForm x → Sound letters none lines
+      → Agrees (lastOf none lines) x → codeOf letters (x .letter) ≡ 0
+      → allLines letters first (written lines ++ (lineText x ++ rest)) ≡ refusedAt kind.Undeclared (first + length (written lines))
+  undeclared lines x rest F X S a z = refused-after lines x rest F X S (undeclared-judged letters (lastOf none lines) x X a z)
 
   promise : Promise letters first
-  promise = record { read = read; few = few; whole = whole; conflicting = conflicting }
+  promise = record { read = read; few = few; whole = whole; conflicting = conflicting; undeclared = undeclared }
 
 pub scans-promise : ScansPromise
 scans-promise = (promise, no-four)

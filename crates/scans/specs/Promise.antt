@@ -49,20 +49,28 @@ abbrev pub Sound : List ℕ → Option Scan → List Scan → Type 0
 Sound letters before [] = Unit {0}
 Sound letters before (x ∷ l) = (Agrees before x × (codeOf letters (x .letter) ≡ 0 → ⊥)) × Sound letters (some x) l
 
+-- the last of some lines, or else the one before them
+abbrev pub lastOf : Option Scan → List Scan → Option Scan
+lastOf before [] = before
+lastOf before (x ∷ l) = lastOf (some x) l
+
 -- whatever the codes of the letters, and wherever the first byte stands
 pub record Promise (letters : List ℕ) (first : ℕ) : Type 0 where
   -- a file that gives tokens is written so, in sound lines, and the tokens are those of the rule
   pub read : (s l : List ℕ) → allLines letters first s ≡ tokens l
       → (lines : List Scan) × Each InForm lines × Sound letters none lines × (s ≡ written lines) × (l ≡ ruled letters none lines)
-  -- a line has 6 bytes at least: a file of 65,536 bytes has at most 10,922 tokens
-  pub few : (s l : List ℕ) → allLines letters first s ≡ tokens l → length l * 6 ≤ length s
   -- and every file that is written so gives them
   pub whole : (lines : List Scan) → Each InForm lines → Sound letters none lines → allLines letters first (written lines) ≡ tokens (ruled letters none lines)
-  -- "equal sequence, other letter or text; the line's first byte": after sound lines, whatever its letter, and whatever comes after it
-  pub conflicting : (lines : List Scan) (before x : Scan) (rest : List ℕ) → Each InForm lines → InForm before → InForm x
-      → Sound letters none (lines ++ before ∷ []) → before .sequence ≡ x .sequence → (SameLabel before x → ⊥)
-      → allLines letters first (written (lines ++ before ∷ []) ++ lineText x ++ rest)
-      ≡ refusedAt kind.ConflictingRepeat (first + length (written (lines ++ before ∷ [])))
+  -- a line has 6 bytes at least: a file of 65,536 bytes has at most 10,922 tokens
+  pub few : (s l : List ℕ) → allLines letters first s ≡ tokens l → length l * 6 ≤ length s
+  -- after sound lines, whatever comes after it: "13 crossed (equal sequence, other letter or text; the line's first byte)", whatever its letter,
+  pub conflicting : (lines : List Scan) (before x : Scan) (rest : List ℕ) → Each InForm lines → InForm x → Sound letters none lines
+      → lastOf none lines ≡ some before → before .sequence ≡ x .sequence → (SameLabel before x → ⊥)
+      → allLines letters first (written lines ++ (lineText x ++ rest)) ≡ refusedAt kind.ConflictingRepeat (first + length (written lines))
+  -- and then stray
+  pub undeclared : (lines : List Scan) (x : Scan) (rest : List ℕ) → Each InForm lines → InForm x → Sound letters none lines
+      → Agrees (lastOf none lines) x → codeOf letters (x .letter) ≡ 0
+      → allLines letters first (written lines ++ (lineText x ++ rest)) ≡ refusedAt kind.Undeclared (first + length (written lines))
 
 -- and with the house letters a token is 4 for a repeat alone
 abbrev pub ScansPromise : Type 0
