@@ -64,7 +64,7 @@ uint64_t buraigue_run_session(const uint8_t *grammar, size_t grammar_length, con
                               const uint8_t *tokens, size_t tokens_length, uint8_t *stack, size_t stack_length, uint8_t *listing,
                               size_t listing_length, uint64_t *place, uint64_t *rules, uint64_t *units);
 
-/* The same over a scan file with the house letters. Machine stack: 1,792 KiB. */
+/* The same over a scan file with the house letters. Machine stack: 1,664 KiB. */
 uint64_t buraigue_run_scans(const uint8_t *grammar, size_t grammar_length, const uint8_t *tables, size_t tables_length,
                             const uint8_t *file, size_t file_length, uint8_t *stack, size_t stack_length, uint8_t *listing,
                             size_t listing_length, uint64_t *place, uint64_t *rules, uint64_t *units);
