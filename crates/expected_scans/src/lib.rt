@@ -4,6 +4,7 @@ use expected_trials::ExpectedReply;
 use reply::Kind;
 use reply::Refusal;
 use reply::Reply;
+use scans::TOKENS;
 ghost use mathlib.Core.Path.{_≡_};
 ghost use Prim.Native.Nat.{_≤_};
 ghost use lib.ListN.{length, replicate};
@@ -23,7 +24,7 @@ fn list_scans(
     requires { ⌜ length (now file) ≤ 65536 ⌝ }
     ensures { λ r. ⌜ Tells (length (now (stack .entry))) (length (now (listing .entry))) (afterScans (length (now (stack .entry))) (length (now (listing .entry))) (length (now (codes .entry))) (now (grammar .entry)) (now (tables .entry)) (scanned house (now (file .entry)))) r (now (stack .exit)) (now (listing .exit)) (now (codes .exit)) ⌝ }
 {
-    let mut tokens = [0u8; 10922];
+    let mut tokens = [0u8; TOKENS];
     let read = scans::read_scans(file, &mut tokens);
     match read {
         Reply::Accepted(n) => {

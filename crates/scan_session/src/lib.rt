@@ -3,6 +3,7 @@
 use reply::Kind;
 use reply::Refusal;
 use reply::Reply;
+use scans::TOKENS;
 use session::SessionReply;
 ghost use mathlib.Core.Path.{_≡_};
 ghost use Prim.Native.Nat.{_≤_};
@@ -23,7 +24,7 @@ pub fn first_refusal(grammar: &[u8], tables: &[u8], why: Refusal) -> Refusal
     }
 }
 
-// Reads a scan file that is not too long, and walks its tokens: 10,922 at most, since a line has 6 bytes at least.
+// Reads a scan file that is not too long, and walks its tokens.
 fn walk_scans(
     grammar: &[u8],
     tables: &[u8],
@@ -34,7 +35,7 @@ fn walk_scans(
     requires { ⌜ length (now file) ≤ 65536 ⌝ }
     ensures { λ r. ⌜ Tells (afterScans (length (now (stack .entry))) (length (now (listing .entry))) (now (grammar .entry)) (now (tables .entry)) (scanned house (now (file .entry)))) r (now (stack .exit)) (now (listing .exit)) ⌝ }
 {
-    let mut tokens = [0u8; 10922];
+    let mut tokens = [0u8; TOKENS];
     let read = scans::read_scans(file, &mut tokens);
     match read {
         Reply::Accepted(n) => session::run_session(grammar, tables, &tokens[..n], stack, listing),

@@ -1,53 +1,59 @@
--- What a line gives, by the tests that it meets.
+-- What a line gives, by the tests that it meets; and what a token tells of its line.
 use Prim.Native.Nat.{ℕ, _<_, _≤_}
-use mathlib.Core.Path.{_≡_, _∙_}
+use mathlib.Core.Path.{_≡_, refl, sym, ap}
 use mathlib.Core.List.{List}
-use mathlib.Core.Bool.{true, false, _&&_}
-use borrow.Author.Tests.{lt-ltb, le-ltb, ne-eqb}
+use mathlib.Core.Option.{Option}
+use mathlib.Core.Bool.{Bool, true, false, cond, _&&_}
+use native.Mathlib.Omega.{arith}
+use borrow.Author.Tests.{lt-ltb, le-ltb, ltb-false, ne-eqb, eqb-false}
+use lib.Dec.{ltb, eqb}
 use Rattle.reply.specs.declared.Kind.the-variants as kind
 use Rattle.scans.specs.declared.Judged.the-variants as judged
-use Rattle.scans.specs.declared.Line.{Line}
-use Rattle.scans.specs.declared.Previous.{Previous}
-use Rattle.scans.specs.Tokens.{codeOf, repeats, differs, judge}
-use Rattle.scans.specs.File.{scanOf}
-use Rattle.scans.specs.Read.{beforeOf, repeatsLine}
-use Rattle.scans.proofs.RepeatLaws.{repeats-is}
+use Rattle.scans.specs.Tokens.{Scan, codeOf, repeats, differs, judge}
 
--- it is no repeat, or has the label of the line before
-abbrev pub Agrees : List ℕ → Previous → Line → Type 0
-Agrees s before line = repeats (beforeOf s before) (scanOf s line) && differs (beforeOf s before) (scanOf s line) ≡ false
-
-module _ (s : List ℕ) (before : Previous) (line : Line) where
-  pub agrees-new : repeatsLine before line ≡ false → Agrees s before line
-  agrees-new r = simp (repeats-is s before line ∙ r)
-
-  pub agrees-same : repeatsLine before line ≡ true → differs (beforeOf s before) (scanOf s line) ≡ false → Agrees s before line
-  agrees-same r d = simp (repeats-is s before line ∙ r, d)
-
-module _ (letters s : List ℕ) (before : Previous) (line : Line) where
-  pub too-high : 65535 < line .sequence → judge letters (beforeOf s before) (scanOf s line) ≡ judged.Refused kind.LimitExceeded
+-- ---- by the tests
+module _ (letters : List ℕ) (before : Option Scan) (x : Scan) where
+  pub too-high : 65535 < x .sequence → judge letters before x ≡ judged.Refused kind.LimitExceeded
   unfolding judge
   too-high h = simp (lt-ltb _ _ h)
 
-  module _ (low : line .sequence ≤ 65535) where
-    pub conflicting : repeatsLine before line ≡ true → differs (beforeOf s before) (scanOf s line) ≡ true
-        → judge letters (beforeOf s before) (scanOf s line) ≡ judged.Refused kind.ConflictingRepeat
+  module _ (low : x .sequence ≤ 65535) where
+    pub conflicting : repeats before x && differs before x ≡ true → judge letters before x ≡ judged.Refused kind.ConflictingRepeat
     unfolding judge
-    conflicting r d = simp (le-ltb _ _ low, repeats-is s before line ∙ r, d)
+    conflicting c = simp (le-ltb _ _ low, c)
 
-    module _ (a : Agrees s before line) where
-      pub no-code : codeOf letters (line .letter) ≡ 0 → judge letters (beforeOf s before) (scanOf s line) ≡ judged.Refused kind.Undeclared
+    module _ (agrees : repeats before x && differs before x ≡ false) where
+      pub undeclared : codeOf letters (x .letter) ≡ 0 → judge letters before x ≡ judged.Refused kind.Undeclared
       unfolding judge
-      no-code z = simp (le-ltb _ _ low, a, z)
+      undeclared z = simp (le-ltb _ _ low, agrees, z)
 
-      module _ (f : codeOf letters (line .letter) ≡ 0 → ⊥) where
-        pub repeated : repeatsLine before line ≡ true → judge letters (beforeOf s before) (scanOf s line) ≡ judged.Token 4
-        unfolding judge
-        repeated r =
-            let e = repeats-is s before line ∙ r in
-            let d = rw e at a in
-            simp (le-ltb _ _ low, e, d, ne-eqb _ _ f)
+      pub taken : (codeOf letters (x .letter) ≡ 0 → ⊥) → {t : Bool} → repeats before x ≡ t
+          → judge letters before x ≡ judged.Token (cond t 4 (codeOf letters (x .letter)))
+      unfolding judge
+      taken f e = simp (le-ltb _ _ low, agrees, ne-eqb _ _ f) (ap (λ (t : Bool). judged.Token (cond t 4 (codeOf letters (x .letter)))) e)
 
-        pub fresh : repeatsLine before line ≡ false → judge letters (beforeOf s before) (scanOf s line) ≡ judged.Token (codeOf letters (line .letter))
-        unfolding judge
-        fresh r = simp (le-ltb _ _ low, repeats-is s before line ∙ r, ne-eqb _ _ f)
+-- ---- by the token
+pub record Taken (letters : List ℕ) (before : Option Scan) (x : Scan) (t : ℕ) : Type 0 where
+  pub numbered : x .sequence ≤ 65535
+  pub agrees : repeats before x && differs before x ≡ false
+  pub coded : codeOf letters (x .letter) ≡ 0 → ⊥
+  pub token : t ≡ cond (repeats before x) 4 (codeOf letters (x .letter))
+
+pub token-tells : (letters : List ℕ) (before : Option Scan) (x : Scan) {t : ℕ} → judge letters before x ≡ judged.Token t → Taken letters before x t
+unfolding judge
+token-tells letters before x {t} e =
+    go (ltb 65535 (x .sequence)) refl (repeats before x && differs before x) refl (eqb (codeOf letters (x .letter)) 0) refl e
+  where
+    go : (a : Bool) → ltb 65535 (x .sequence) ≡ a → (b : Bool) → repeats before x && differs before x ≡ b → (c : Bool) → eqb (codeOf letters (x .letter)) 0 ≡ c
+        → cond a (judged.Refused kind.LimitExceeded) (cond b (judged.Refused kind.ConflictingRepeat)
+        (cond c (judged.Refused kind.Undeclared) (judged.Token (cond (repeats before x) 4 (codeOf letters (x .letter)))))) ≡ judged.Token t
+        → Taken letters before x t
+    go true p b q c r e = let z : _≡_ {A = ℕ} 0 1 = cc in absurd (omega arith)
+    go false p true q c r e = let z : _≡_ {A = ℕ} 0 1 = cc in absurd (omega arith)
+    go false p false q true r e = let z : _≡_ {A = ℕ} 0 1 = cc in absurd (omega arith)
+    go false p false q false r e = record {
+      numbered = omega (arith, ltb-false 65535 (x .sequence) p);
+      agrees = q;
+      coded = eqb-false _ _ r;
+      token = let f : cond (repeats before x) 4 (codeOf letters (x .letter)) ≡ t = cc in sym f;
+    }

@@ -5,7 +5,7 @@ use mathlib.Core.List.{List, [], _∷_, _++_, append-assoc, append-nil}
 use mathlib.Core.Option.{Option, some, none}
 use mathlib.Core.Bool.{Bool, true, false, cond, not, _&&_}
 use native.Mathlib.Omega.{arith}
-use borrow.Author.Tests.{le-ltb, ltb-false, eq-eqb, eqb-true, ne-eqb}
+use borrow.Author.Tests.{ltb-false, eq-eqb, eqb-true}
 use lib.Dec.{ltb, eqb}
 use lib.ListN.{length, drop, length-append, length-drop, drop-of-length-le}
 use lib.Seq.{drop-drop, drop-append-seam, drop-at}
@@ -25,7 +25,9 @@ use Rattle.scans.proofs.RepeatLaws.{same-equal, equal-same}
 use Rattle.scans.proofs.LineLaws.{line-in}
 use Rattle.scans.proofs.FormLaws.{line-long, six-bytes, line-written, Read, written-line}
 use Rattle.scans.proofs.RowLaws.{join-none, join-join, rows-end, rows-line, line-refused, line-taken}
-use Rattle.scans.proofs.TokenLaws.{Taken, taken, scanned-lines, no-four}
+use Rattle.scans.proofs.JudgeLaws.{Taken}
+use Rattle.scans.proofs.JudgeLaws as laws
+use Rattle.scans.proofs.TokenLaws.{scanned-lines, no-four}
 
 -- ---- a label
 label-same : (a x : Scan) → eqb (a .letter) (x .letter) && sameBytes (a .text) (x .text) ≡ true → SameLabel a x
@@ -42,7 +44,9 @@ same-label a x h = simp (eq-eqb _ _ (h .0), equal-same _ _ (h .1))
 -- where a line is not crossed
 agrees : (before : Option Scan) (x : Scan) → repeats before x && differs before x ≡ false → Agrees before x
 agrees none x e = tt
-agrees (some a) x e = λ q. go (eqb (a .letter) (x .letter) && sameBytes (a .text) (x .text)) refl (simp (eq-eqb _ _ q) at e)
+agrees (some a) x e = λ q.
+    let label = eqb (a .letter) (x .letter) && sameBytes (a .text) (x .text) in
+    go label refl (ap (λ (t : Bool). t && not label) (sym (eq-eqb (a .sequence) (x .sequence) q)) ∙ e)
   where
     go : (t : Bool) → eqb (a .letter) (x .letter) && sameBytes (a .text) (x .text) ≡ t → not t ≡ false → SameLabel a x
     go true p e = label-same a x p
@@ -63,16 +67,6 @@ conflict-told a x e f = simp (eq-eqb _ _ e) (go (eqb (a .letter) (x .letter) && 
     go : (t : Bool) → eqb (a .letter) (x .letter) && sameBytes (a .text) (x .text) ≡ t → not t ≡ true
     go true p = absurd (f (label-same a x p))
     go false p = refl
-
-conflict-judged : (letters : List ℕ) (a x : Scan) → InForm x → a .sequence ≡ x .sequence → (SameLabel a x → ⊥)
-    → judge letters (some a) x ≡ judged.Refused kind.ConflictingRepeat
-unfolding judge
-conflict-judged letters a x F e f = simp (le-ltb _ _ (F .numbered), conflict-told a x e f)
-
-undeclared-judged : (letters : List ℕ) (before : Option Scan) (x : Scan) → InForm x → Agrees before x → codeOf letters (x .letter) ≡ 0
-    → judge letters before x ≡ judged.Refused kind.Undeclared
-unfolding judge
-undeclared-judged letters before x F a z = simp (le-ltb _ _ (F .numbered), no-conflict before x a, z)
 
 module _ (letters : List ℕ) (first : ℕ) (s : List ℕ) where
   -- ---- a file that gives tokens
@@ -111,7 +105,7 @@ module _ (letters : List ℕ) (first : ℕ) (s : List ℕ) where
           → Whole before at l
       judged-line line q f (judged.Token t) j e =
           let w = line-in s at q in
-          one-more before at line t _ l q (taken letters before (scanOf s line) j) e (λ m g. f m (omega (arith, w .0, w .1 .some-text, h)) g)
+          one-more before at line t _ l q (laws.token-tells letters before (scanOf s line) j) e (λ m g. f m (omega (arith, w .0, w .1 .some-text, h)) g)
       judged-line line q f (judged.Refused w) j e = let z : _≡_ {A = ℕ} 0 1 = cc in absurd (omega arith)
 
       go : (t : Bool) → ltb at (length s) ≡ t → (x : Parsed) → lineAt s at ≡ x
@@ -124,11 +118,6 @@ module _ (letters : List ℕ) (first : ℕ) (s : List ℕ) where
       go false p x q f e = nothing-left before at l (ltb-false _ _ p) e
 
   -- ---- lines that are written in a file
-  sound-token : (before : Option Scan) (x : Scan) → InForm x → Agrees before x → (codeOf letters (x .letter) ≡ 0 → ⊥)
-      → judge letters before x ≡ judged.Token (cond (repeats before x) 4 (codeOf letters (x .letter)))
-  unfolding judge
-  sound-token before x F a f = simp (le-ltb _ _ (F .numbered), no-conflict before x a, ne-eqb _ _ f)
-
   -- one line
   record Next (at k : ℕ) (x : Scan) : Type 0 where
     fuel : ℕ
@@ -181,7 +170,7 @@ module _ (letters : List ℕ) (first : ℕ) (s : List ℕ) where
         enough = omega (arith, A .enough, m);
         gives =
             ap (tokensOf letters before) (N .rows)
-            ∙ line-taken letters before (first + at) x _ (sound-token before x (F .0) (S .0 .0) (S .0 .1))
+            ∙ line-taken letters before (first + at) x _ (laws.taken letters before x (F .0 .numbered) (no-conflict before x (S .0 .0)) (S .0 .1) refl)
             ∙ ap (join (t ∷ [])) (A .gives)
             ∙ join-join (t ∷ []) (ruled letters (some x) l) (tokensOf letters (lastOf (some x) l) (rowsFrom first s (A .fuel) (n + length (written l))))
             ∙ ap (λ (n : ℕ). join (t ∷ ruled letters (some x) l) (tokensOf letters (lastOf (some x) l) (rowsFrom first s (A .fuel) n))) m;
@@ -228,12 +217,12 @@ module _ (letters : List ℕ) (first : ℕ) where
       → lastOf none lines ≡ some before → before .sequence ≡ x .sequence → (SameLabel before x → ⊥)
       → allLines letters first (written lines ++ (lineText x ++ rest)) ≡ refusedAt kind.ConflictingRepeat (first + length (written lines))
   conflicting lines before x rest F X S l e f =
-      refused-after lines x rest F X S (ap (λ (b : Option Scan). judge letters b x) l ∙ conflict-judged letters before x X e f)
+      refused-after lines x rest F X S (ap (λ (b : Option Scan). judge letters b x) l ∙ laws.conflicting letters (some before) x (X .numbered) (conflict-told before x e f))
 
   undeclared : (lines : List Scan) (x : Scan) (rest : List ℕ) → Each InForm lines → InForm x → Sound letters none lines
       → Agrees (lastOf none lines) x → codeOf letters (x .letter) ≡ 0
       → allLines letters first (written lines ++ (lineText x ++ rest)) ≡ refusedAt kind.Undeclared (first + length (written lines))
-  undeclared lines x rest F X S a z = refused-after lines x rest F X S (undeclared-judged letters (lastOf none lines) x X a z)
+  undeclared lines x rest F X S a z = refused-after lines x rest F X S (laws.undeclared letters (lastOf none lines) x (X .numbered) (no-conflict (lastOf none lines) x a) z)
 
   promise : Promise letters first
   promise = record { read = read; few = few; whole = whole; conflicting = conflicting; undeclared = undeclared }

@@ -1,4 +1,4 @@
--- What the tests of two lines tell.
+-- What the test of two texts tells.
 use Prim.Native.Nat.{ℕ}
 use mathlib.Core.Path.{_≡_, refl, sym, _∙_}
 use mathlib.Core.List.{List, [], _∷_}
@@ -6,12 +6,7 @@ use mathlib.Core.Bool.{Bool, true, false, _&&_}
 use native.Mathlib.Omega.{arith}
 use borrow.Author.Tests.{eqb-true, eq-eqb}
 use lib.Dec.{eqb}
-use Rattle.scans.specs.declared.Line.{Line}
-use Rattle.scans.specs.declared.Previous.{Previous}
-use Rattle.scans.specs.declared.Previous.the-variants as previous
-use Rattle.scans.specs.Tokens.{sameBytes, repeats}
-use Rattle.scans.specs.File.{scanOf}
-use Rattle.scans.specs.Read.{beforeOf, repeatsLine}
+use Rattle.scans.specs.Tokens.{sameBytes}
 
 pub same-equal : (a b : List ℕ) → sameBytes a b ≡ true → a ≡ b
 unfolding sameBytes
@@ -40,8 +35,3 @@ same-told false a b f g = go (sameBytes a b) refl
     go : (u : Bool) → sameBytes a b ≡ u → false ≡ sameBytes a b
     go true q = g (same-equal a b q) ∙ sym q
     go false q = sym q
-
--- the sequences alone tell a repeat
-pub repeats-is : (s : List ℕ) (before : Previous) (line : Line) → repeats (beforeOf s before) (scanOf s line) ≡ repeatsLine before line
-repeats-is s previous.Nothing line = refl
-repeats-is s (previous.Line before) line = refl

@@ -1,46 +1,18 @@
 -- What is known of the tokens of a file that was read.
 use Prim.Native.Nat.{ℕ, zero, suc, _+_, _-_, _≤_}
-use mathlib.Core.Path.{_≡_, refl, sym, ap, _∙_}
+use mathlib.Core.Path.{_≡_, refl, ap, _∙_}
 use mathlib.Core.List.{List, [], _∷_, _++_, map}
-use mathlib.Core.Option.{Option}
 use mathlib.Core.Bool.{Bool, true, false, cond, _&&_}
 use native.Mathlib.Omega.{arith}
 use borrow.Author.Needs.{needs}
-use borrow.Author.Tests.{leb-true, eqb-false, ltb-false}
-use lib.Dec.{leb, ltb, eqb}
+use borrow.Author.Tests.{leb-true}
+use lib.Dec.{leb}
 use lib.ListN.{length, getD, replicate}
 use Rattle.fixpoint.specs.Each.{Each}
 use Rattle.reply.specs.declared.Reply.the-variants as reply
 use Rattle.reply.specs.declared.Kind.the-variants as kind
-use Rattle.scans.specs.declared.Judged.the-variants as judged
-use Rattle.scans.specs.Tokens.{Scan, Scanned, tokens, refused, refusedAt, codeOf, repeats, differs, judge}
+use Rattle.scans.specs.Tokens.{Scanned, tokens, refused, refusedAt, codeOf}
 use Rattle.scans.specs.File.{house, allLines, scanned, outcomeOf, scansOf}
-
--- ---- what a token tells of its line
-pub record Taken (letters : List ℕ) (before : Option Scan) (x : Scan) (t : ℕ) : Type 0 where
-  pub numbered : x .sequence ≤ 65535
-  pub agrees : repeats before x && differs before x ≡ false
-  pub coded : codeOf letters (x .letter) ≡ 0 → ⊥
-  pub token : t ≡ cond (repeats before x) 4 (codeOf letters (x .letter))
-
-pub taken : (letters : List ℕ) (before : Option Scan) (x : Scan) {t : ℕ} → judge letters before x ≡ judged.Token t → Taken letters before x t
-unfolding judge
-taken letters before x {t} e =
-    go (ltb 65535 (x .sequence)) refl (repeats before x && differs before x) refl (eqb (codeOf letters (x .letter)) 0) refl e
-  where
-    go : (a : Bool) → ltb 65535 (x .sequence) ≡ a → (b : Bool) → repeats before x && differs before x ≡ b → (c : Bool) → eqb (codeOf letters (x .letter)) 0 ≡ c
-        → cond a (judged.Refused kind.LimitExceeded) (cond b (judged.Refused kind.ConflictingRepeat)
-        (cond c (judged.Refused kind.Undeclared) (judged.Token (cond (repeats before x) 4 (codeOf letters (x .letter)))))) ≡ judged.Token t
-        → Taken letters before x t
-    go true p b q c r e = let z : _≡_ {A = ℕ} 0 1 = cc in absurd (omega arith)
-    go false p true q c r e = let z : _≡_ {A = ℕ} 0 1 = cc in absurd (omega arith)
-    go false p false q true r e = let z : _≡_ {A = ℕ} 0 1 = cc in absurd (omega arith)
-    go false p false q false r e = record {
-      numbered = omega (arith, ltb-false 65535 (x .sequence) p);
-      agrees = q;
-      coded = eqb-false _ _ r;
-      token = let f : cond (repeats before x) 4 (codeOf letters (x .letter)) ≡ t = cc in sym f;
-    }
 
 -- what is read at all is what the lines give
 pub scanned-lines : (letters s l : List ℕ) → scanned letters s ≡ tokens l → allLines letters 0 s ≡ tokens l

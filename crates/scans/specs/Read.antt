@@ -3,8 +3,6 @@ use Prim.Native.Nat.{ℕ, _<_, _≤_}
 use mathlib.Core.Path.{_≡_}
 use mathlib.Core.List.{List}
 use mathlib.Core.Option.{Option, some, none}
-use mathlib.Core.Bool.{Bool, false}
-use lib.Dec.{eqb}
 use lib.ListN.{length}
 use lib.Seq.{sets}
 use Rattle.reply.specs.declared.Reply.{Reply}
@@ -18,11 +16,6 @@ use Rattle.scans.specs.File.{scanOf, replyOf}
 abbrev pub beforeOf : List ℕ → Previous → Option Scan
 beforeOf s previous.Nothing = none
 beforeOf s (previous.Line line) = some (scanOf s line)
-
--- whether a line repeats the line before it: a matter of their sequences alone
-abbrev pub repeatsLine : Previous → Line → Bool
-repeatsLine previous.Nothing line = false
-repeatsLine (previous.Line before) line = eqb (before .sequence) (line .sequence)
 
 abbrev pub textOf : List ℕ → Line → List ℕ
 textOf s line = scanOf s line .text

@@ -7,12 +7,13 @@ use text::Cursor;
 use text::Field;
 ghost use mathlib.Core.Path.{_≡_};
 ghost use mathlib.Core.Bool.{true};
-ghost use Prim.Native.Nat.{_<_};
+ghost use mathlib.Core.List.{List};
+ghost use Prim.Native.Nat.{ℕ, _<_};
 ghost use lib.ListN.{length, drop, set, replicate};
 ghost use Rattle.scans.specs.Line.{textByte, textEnd, textFrom, lineAt};
-ghost use Rattle.scans.specs.Tokens.{codeOf, differs, judge};
+ghost use Rattle.scans.specs.Tokens.{codeOf, repeats, differs, judge};
 ghost use Rattle.scans.specs.File.{allLines, outcomeOf, scanned, scansOf, scanOf};
-ghost use Rattle.scans.specs.Read.{beforeOf, repeatsLine, textOf, Within, WithinFile, Stored};
+ghost use Rattle.scans.specs.Read.{beforeOf, textOf, Within, WithinFile, Stored};
 
 // A line: its sequence number, its letter, and its text from the first byte to the LF.
 pub struct Line {
@@ -81,6 +82,9 @@ const REPEAT: u8 = 4;
 
 // The highest sequence number.
 const LAST: usize = 65535;
+
+// The most tokens that a scan file gives: a line has 6 bytes at least.
+pub const TOKENS: usize = 10922;
 
 // The most bytes that a scan file has.
 const LONGEST: usize = 65536;
@@ -205,9 +209,9 @@ fn differs_from(file: &[u8], previous: Previous, line: Line) -> bool
     !same_text(file, before, line)
 }
 
-// Whether a line has the sequence of the line before it.
+// Whether a line has the sequence of the line before it; in whatever file they stand.
 fn repeats_line(previous: Previous, line: Line) -> bool
-    ensures { λ r. ⌜ r ≡ repeatsLine previous line ⌝ }
+    ensures { λ r. ⌜ ((s : List ℕ) → r ≡ repeats (beforeOf s previous) (scanOf s line)) ⌝ }
 {
     let Previous::Line(before) = previous else {
         return false;

@@ -10,10 +10,10 @@ enum-told : tie.Need-enum-told
 enum-told c = search needs
 
 returns : tie.Need-returns
-returns c = simp (c .enum-told .given .1)
+returns c = λ s. simp (c .enum-told .given .1)
 
 returns-2 : tie.Need-returns-2
-returns-2 c = simp (c .before .before .before .previous .given .1)
+returns-2 c = λ s. simp (c .before .before .before .previous .given .1)
 
 pub repeats-line-spec : {M : Type 1} → statement M
 repeats-line-spec = tie.close (tie.spec enum-known-previous enum-told returns returns-2)
