@@ -1,22 +1,15 @@
--- The grammar that was read, its entries, and what is past the limits.
+-- The entries of the grammar that was read, and what is past the limits.
 use Prim.Native.Nat.{ℕ, _+_, _≤_, _<_}
 use native.Mathlib.Omega.{arith}
-use mathlib.Core.Path.{_≡_, refl, sym, ap, subst, _∙_}
-use mathlib.Core.Bool.{Bool, cond}
+use mathlib.Core.Path.{_≡_, sym, ap, subst}
 use mathlib.Core.List.{List}
-use borrow.Author.Tests.{le-ltb}
 use lib.ListN.{length}
 use Rattle.language.specs.Grammar.{Grammar}
-use Rattle.leftcorner.proofs.ReadOff.{clash}
-use Rattle.items.specs.Layout.{layout, Shaped}
-use Rattle.reply.specs.declared.Refusal.{Refusal}
-use Rattle.reply.specs.declared.Kind.the-variants as kind
+use Rattle.items.specs.Layout.{Shaped}
 use Rattle.grammar_header.specs.declared.Heading.{Heading}
-use Rattle.grammar.specs.declared.GrammarReply.{GrammarReply}
-use Rattle.grammar.specs.declared.GrammarReply.the-variants as reply
-use Rattle.grammar.specs.Book.{Book, accepted, rejected, rejectedAt, grammarOf}
-use Rattle.grammar.specs.Memory.{headingOf, replyOf, fitted, readOf, memoryOf}
+use Rattle.grammar.specs.Book.{accepted, grammarOf}
 use Rattle.grammar.proofs.GrammarLaws.{accepted-reduced}
+use Rattle.grammar.proofs.ReadLaws.{ReadAs}
 use Rattle.build_states.specs.Strings.{entryStrings}
 use Rattle.build_states.specs.States.{states}
 use Rattle.build_states.proofs.Discovery.{Fits}
@@ -26,56 +19,16 @@ use Rattle.build_entries.proofs.HoldsLaws.{entries-shaped, entries-held}
 use Rattle.build_memory.specs.Stages.{Entered}
 use Rattle.build_memory.specs.Memory.{PastLimits}
 
--- ---- what was read
-
--- a book that gives a grammar with this heading, which is in memory
-pub record ReadAs (gs : List ℕ) (h : Heading) (m : List ℕ) : Type 0 where
-  pub grammar : Grammar
-  pub book-is : grammarOf gs ≡ accepted grammar
-  pub heading-is : h ≡ headingOf grammar
-  pub laid : m ≡ layout grammar (length m)
-
-module _ (gs : List ℕ) (size : ℕ) (room : 8192 ≤ size) where
-  enough : readOf gs size ≡ grammarOf gs
-  enough = go (grammarOf gs)
-    where
-      go : (b : Book) → fitted size b ≡ b
-      go (accepted g) = ap (λ (t : Bool). cond t (rejectedAt kind.BufferTooSmall 0) (accepted g)) (le-ltb size 8192 room)
-      go (rejected x) = refl
-
-  pub read-as : {r : GrammarReply} {h : Heading} {m : List ℕ} → r ≡ replyOf (readOf gs size) → length m ≡ size → m ≡ memoryOf (readOf gs size) size → r ≡ reply.Read h → ReadAs gs h m
-  read-as {r} {h} {m} answered long stored e = go (grammarOf gs) refl
-    where
-      go : (b : Book) → grammarOf gs ≡ b → ReadAs gs h m
-      go (rejected x) f = let z : reply.Refused x ≡ reply.Read h = sym (answered ∙ ap replyOf (enough ∙ f)) ∙ e in clash cc
-      go (accepted g) f =
-          let z : reply.Read (headingOf g) ≡ reply.Read h = sym (answered ∙ ap replyOf (enough ∙ f)) ∙ e in
-          record {
-            grammar = g;
-            book-is = f;
-            heading-is = let y : h ≡ headingOf g = cc in y;
-            laid = stored ∙ ap (λ (b : Book). memoryOf b size) (enough ∙ f) ∙ ap (layout g) (sym long);
-          }
-
-  pub read-refused : {r : GrammarReply} {x : Refusal} → r ≡ replyOf (readOf gs size) → r ≡ reply.Refused x → grammarOf gs ≡ rejected x
-  read-refused {r} {x} answered e = go (grammarOf gs) refl
-    where
-      go : (b : Book) → grammarOf gs ≡ b → b ≡ rejected x
-      go (rejected y) f =
-          let z : reply.Refused y ≡ reply.Refused x = sym (answered ∙ ap replyOf (enough ∙ f)) ∙ e in
-          let w : y ≡ x = cc in ap rejected w
-      go (accepted g) f = let z : reply.Read (headingOf g) ≡ reply.Refused x = sym (answered ∙ ap replyOf (enough ∙ f)) ∙ e in clash cc
-
 -- ---- its entries
 
 module _ {gs m : List ℕ} {h : Heading} (R : ReadAs gs h m) (room : 16640 ≤ length m) where
   pub blank-of : RulesOnly (R .grammar) m (h .rules) (h .goal)
   blank-of = record {
-    formed = accepted-reduced gs (R .grammar) (R .book-is) .formed;
+    formed = R .holds .formed;
     room = room;
-    items-are = R .laid;
-    rule-count = sym (ap (λ (k : Heading). k .rules) (R .heading-is));
-    goal-is = sym (ap (λ (k : Heading). k .goal) (R .heading-is));
+    items-are = R .holds .laid;
+    rule-count = sym (ap (λ (k : Heading). k .rules) (R .holds .heading));
+    goal-is = sym (ap (λ (k : Heading). k .goal) (R .holds .heading));
   }
 
   pub entered-of : {items : List ℕ} {strings : ℕ} → Listed (R .grammar) (length m) items strings → strings ≤ 127 → Entered (R .grammar) items (h .terminals) (h .goal) (h .rules) strings
@@ -91,7 +44,7 @@ module _ {gs m : List ℕ} {h : Heading} (R : ReadAs gs h m) (room : 16640 ≤ l
         productive = D .productive;
         reached = D .reachable;
         few-entries = n;
-        terminal-count = sym (ap (λ (k : Heading). k .terminals) (R .heading-is));
+        terminal-count = sym (ap (λ (k : Heading). k .terminals) (R .holds .heading));
         goal-is = B .goal-is;
         rule-count = B .rule-count;
         entry-count = c;

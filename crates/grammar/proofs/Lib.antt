@@ -4,4 +4,5 @@ pub mod FormLaws
 pub mod ReducedLaws
 pub mod IntoLaws
 pub mod GrammarLaws
+pub mod ReadLaws
 pub mod Examples

@@ -24,7 +24,7 @@ listed-++ [] τ = refl
 listed-++ (e ∷ σ) τ = ap (λ (l : List ℕ). rulesOf e ++ l) (listed-++ σ τ) ∙ sym (append-assoc (rulesOf e) (listed σ) (listed τ))
 
 module _ (g : Grammar) where
-  listings-⧺ : (F G : Forest) → listings g (F ⧺ G) ≡ listings g F ++ listings g G
+  pub listings-⧺ : (F G : Forest) → listings g (F ⧺ G) ≡ listings g F ++ listings g G
   listings-⧺ nil G = refl
   listings-⧺ (cons T F) G = ap (λ (l : List (List ℕ)). listing g T ∷ l) (listings-⧺ F G)
 

@@ -10,13 +10,9 @@ use lib.ListN.{length, replicate}
 use Rattle.language.specs.Grammar.{Grammar}
 use Rattle.reply.specs.declared.Kind.the-variants as kind
 use Rattle.reply.specs.declared.Refusal.{Refusal}
-use Rattle.grammar_header.specs.declared.Heading.{Heading}
 use Rattle.items.specs.Layout.{layout}
-use Rattle.grammar.specs.declared.GrammarReply.{GrammarReply}
-use Rattle.grammar.specs.declared.GrammarReply.the-variants as grammar-reply
 use Rattle.grammar.specs.Book as grammar
-use Rattle.grammar.specs.Memory as grammar-memory
-use Rattle.grammar.proofs.IntoLaws.{is-accepted, is-rejected, long-enough, cleared-length, zeros-again}
+use Rattle.grammar.proofs.IntoLaws.{cleared-length, zeros-again}
 use Rattle.grammar.proofs.GrammarLaws.{accepted-reduced}
 use Rattle.table_lines.proofs.ListLaws.{both-true}
 use Rattle.table.specs.declared.TableReply.{TableReply}
@@ -39,22 +35,6 @@ module _ (gs s : List ℕ) where
     pub with-grammar : {g : Grammar} → grammar.grammarOf gs ≡ grammar.accepted g → tablesOf gs s ≡ tableOf g s
     unfolding tablesOf
     with-grammar e = simp (le-ltb 65536 (length s) h, e)
-
--- ---- the grammar reader's answer, for a slice with room
-module _ (gs : List ℕ) (size : ℕ) (room : 16640 ≤ size) {r : GrammarReply} (e : r ≡ grammar-memory.replyOf (grammar-memory.readOf gs size)) where
-  enough : grammar-memory.readOf gs size ≡ grammar.grammarOf gs
-  enough = long-enough gs size (omega arith)
-
-  pub grammar-refused : {why : Refusal} → r ≡ grammar-reply.Refused why → grammar.grammarOf gs ≡ grammar.rejected why
-  grammar-refused q = sym enough ∙ is-rejected (grammar-memory.readOf gs size) (sym e ∙ q)
-
-  pub grammar-read : {h : Heading} → r ≡ grammar-reply.Read h → (g : Grammar) × (grammar.grammarOf gs ≡ grammar.accepted g) × (h ≡ grammar-memory.headingOf g)
-  grammar-read q = let a = is-accepted (grammar-memory.readOf gs size) (sym e ∙ q) in (a .0, sym enough ∙ a .1, a .2)
-
-  -- the rules are then in memory
-  pub rules-laid : {g : Grammar} {m : List ℕ} → grammar.grammarOf gs ≡ grammar.accepted g → m ≡ grammar-memory.memoryOf (grammar-memory.readOf gs size) size → length m ≡ size
-      → m ≡ layout g (length m)
-  rules-laid {g} {m} a i l = i ∙ (ap (λ (b : grammar.Book). grammar-memory.memoryOf b size) (enough ∙ a) ∙ ap (layout g) (sym l))
 
 pub blank-now : (gs : List ℕ) {g : Grammar} {i j st ks ls c v o n : List ℕ} → grammar.grammarOf gs ≡ grammar.accepted g → ZeroSlices (slices i st ks ls c v o n)
     → j ≡ layout g (length j) → length j ≡ length i → GrammarOnly g (slices j st ks ls c v o n)

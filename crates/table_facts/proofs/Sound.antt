@@ -117,22 +117,24 @@ module _ (g : Grammar) (t : Table) where
     }
 
 -- ---- both books, by what comes of each part
-data Told : Reading → Type 0 where
-  sound : {g : Grammar} {t : Table} → Sound g t → Told (whole g t)
-  turned : {why : Refusal} → Told (rejected why)
+data Told (gs : List ℕ) : Reading → Type 0 where
+  sound : {g : Grammar} {t : Table} → grammarOf gs ≡ accepted g → Sound g t → Told gs (whole g t)
+  turned : {why : Refusal} → Told gs (rejected why)
 
-is-sound : {g : Grammar} {t : Table} → Told (whole g t) → Sound g t
-is-sound (sound h) = h
+is-sound : {gs : List ℕ} {g : Grammar} {t : Table} → Told gs (whole g t) → (grammarOf gs ≡ accepted g) × Sound g t
+is-sound (sound e h) = (e, h)
 
-told-lines : {A : Type 0} (o : Lines A) {f : List A → ℕ → Reading} → ((l : List A) (next : ℕ) → o ≡ read l next → Told (f l next)) → Told (onLines o f rejected)
+told-lines : {gs : List ℕ} {A : Type 0} (o : Lines A) {f : List A → ℕ → Reading} → ((l : List A) (next : ℕ) → o ≡ read l next → Told gs (f l next))
+    → Told gs (onLines o f rejected)
 told-lines (read l next) h = h l next refl
 told-lines (refused why) h = turned
 
-told-head : (o : Head) {f : ℕ → ℕ → ℕ → Reading} → ((states count next : ℕ) → o ≡ head.Read states count next → Told (f states count next)) → Told (onHead o f rejected)
+told-head : {gs : List ℕ} (o : Head) {f : ℕ → ℕ → ℕ → Reading} → ((states count next : ℕ) → o ≡ head.Read states count next → Told gs (f states count next))
+    → Told gs (onHead o f rejected)
 told-head (head.Read states count next) h = h states count next refl
 told-head (head.Refused why) h = turned
 
-told-grammar : (o : Book) {f : Grammar → Reading} → ((g : Grammar) → o ≡ accepted g → Told (f g)) → Told (onAccepted o f rejected)
+told-grammar : {gs : List ℕ} (o : Book) {f : Grammar → Reading} → ((g : Grammar) → o ≡ accepted g → Told gs (f g)) → Told gs (onAccepted o f rejected)
 told-grammar (accepted g) h = h g refl
 told-grammar (grammar-book.rejected why) h = turned
 
@@ -166,16 +168,23 @@ module _ (gs s : List ℕ) {g : Grammar} (a : grammarOf gs ≡ accepted g) {stat
       lens : ℕ → ℕ
       lens = lengthsOf g es
 
-  blocks-told : Told (entriesOf g s states count first)
+  blocks-told : Told gs (entriesOf g s states count first)
   unfolding entriesOf kernelsOf actionsOf
   blocks-told =
       told-lines (entriesFrom count s (g .terminals) (g .nonterminals) states first)
       (λ es second i. told-lines (kernelsFrom s (g .terminals) states (length (g .rules) + length es) (lengthsOf g es) second)
-      (λ ks third j. told-lines (actionsFrom s (g .terminals) (g .nonterminals) (length (g .rules)) states third) (λ xs end k. sound (blocks-sound i j k))))
+      (λ ks third j. told-lines (actionsFrom s (g .terminals) (g .nonterminals) (length (g .rules)) states third) (λ xs end k. sound a (blocks-sound i j k))))
+
+tables-told : (gs s : List ℕ) {g : Grammar} {t : Table} → tablesOf gs s ≡ whole g t → (grammarOf gs ≡ accepted g) × Sound g t
+unfolding tablesOf tableOf
+tables-told gs s e =
+    is-sound (subst (Told gs) e
+    (all-cond (Told gs) (ltb 65536 (length s)) (λ p. turned)
+    (λ p. told-grammar (grammarOf gs) (λ g a. told-head (headOf s) (λ states count first h. blocks-told gs s a h)))))
 
 pub tables-sound : (gs s : List ℕ) {g : Grammar} {t : Table} → tablesOf gs s ≡ whole g t → Sound g t
-unfolding tablesOf tableOf
-tables-sound gs s e =
-    is-sound (subst Told e
-    (all-cond Told (ltb 65536 (length s)) (λ p. turned)
-    (λ p. told-grammar (grammarOf gs) (λ g a. told-head (headOf s) (λ states count first h. blocks-told gs s a h)))))
+tables-sound gs s e = tables-told gs s e .1
+
+-- the grammar is that of its book
+pub tables-grammar : (gs s : List ℕ) {g : Grammar} {t : Table} → tablesOf gs s ≡ whole g t → grammarOf gs ≡ accepted g
+tables-grammar gs s e = tables-told gs s e .0

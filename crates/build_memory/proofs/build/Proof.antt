@@ -1,6 +1,7 @@
 use native.Mathlib.Omega.{arith}
 use mathlib.Core.Path.{_∙_}
-use Rattle.build_memory.proofs.ReadLaws.{read-as, read-refused, blank-of, entered-of, too-large, listed-many}
+use Rattle.grammar.proofs.ReadLaws.{read-as, read-refused}
+use Rattle.build_memory.proofs.ReadLaws.{blank-of, entered-of, too-large, listed-many}
 use borrow.Author.Needs.{needs}
 use Rattle.build_memory.proofs.build.Statement.{statement}
 use Rattle.build_memory.proofs.build.Tie as tie

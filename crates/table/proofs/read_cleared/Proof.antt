@@ -1,5 +1,6 @@
 -- `table::read_cleared` meets its contract. Assumes nothing.
-use Rattle.table.proofs.IntoLaws.{too-long, no-grammar, with-grammar, grammar-refused, grammar-read, rules-laid, blank-now, fills-alike}
+use Rattle.grammar.proofs.ReadLaws.{read-as, read-refused}
+use Rattle.table.proofs.IntoLaws.{too-long, no-grammar, with-grammar, blank-now, fills-alike}
 use Rattle.table.specs.Memory.{denied}
 use mathlib.Core.Path.{refl, _∙_}
 use native.Mathlib.Omega.{arith}
@@ -23,12 +24,12 @@ read-book-requires : tie.Need-read-book-requires
 read-book-requires c κs = let d = c .before .before .before .before .before .before .before .before in
     let r = d .before .before .before .before .before in
     let p = r .before .before .before .before .before .before .before .before .before .before .before .before .before .pre in
-    let g = grammar-read _ _ (p .room .items-room) (r .read-grammar .ensures .0) (d .before .h .given .1) in (
+    let g = read-as _ _ (omega (arith, p .room .items-room)) (r .read-grammar .ensures .0) (r .read-grammar .kept .1 .0) (r .read-grammar .ensures .1) (d .before .h .given .1) in (
       omega (arith, r .before .before .if1 .left),
       record {
-        grammar = g .0;
-        blank = blank-now _ (g .1) p (rules-laid _ _ (p .room .items-room) (r .read-grammar .ensures .0) (g .1) (r .read-grammar .ensures .1) (r .read-grammar .kept .1 .0)) (r .read-grammar .kept .1 .0);
-        heading = g .2;
+        grammar = g .grammar;
+        blank = blank-now _ (g .book-is) p (g .holds .laid) (r .read-grammar .kept .1 .0);
+        heading = g .holds .heading;
       },
     )
 
@@ -38,7 +39,7 @@ same-length c = c .before .before .before .before .before .read-grammar .kept .1
 returns-2 : tie.Need-returns-2
 returns-2 c = let r = c .before .before .before .before .before in
     let p = r .before .before .before .before .before .before .before .before .before .before .before .before .before .pre in
-    rw (no-grammar _ _ (r .before .before .if1 .left) (grammar-refused _ _ (p .room .items-room) (r .read-grammar .ensures .0) (c .before .why .given .1))) denied
+    rw (no-grammar _ _ (r .before .before .if1 .left) (read-refused _ _ (omega (arith, p .room .items-room)) (r .read-grammar .ensures .0) (c .before .why .given .1))) denied
 
 same-length-2 : tie.Need-same-length-2
 same-length-2 c = let b = c .before .before .before .before .before .before .before .before .before .before .before .before .before .before .before .before in b .read-book .kept .1 .1 .0 ∙ b .before .before .before .before .before .before .before .before .before .before .before .before .before .before .read-grammar .kept .1 .0
@@ -68,11 +69,11 @@ returns-3 : tie.Need-returns-3
 returns-3 c = let d = c .before .before .before .before .before .before .before .before .before .before .before .before .before .before .before .before .before .before .before .before .before .before .before .before .before in
     let r = d .before .before .before .before .before in
     let p = r .before .before .before .before .before .before .before .before .before .before .before .before .before .pre in
-    let g = grammar-read _ _ (p .room .items-room) (r .read-grammar .ensures .0) (d .before .h .given .1) in
-    let k = blank-now _ (g .1) p (rules-laid _ _ (p .room .items-room) (r .read-grammar .ensures .0) (g .1) (r .read-grammar .ensures .1) (r .read-grammar .kept .1 .0)) (r .read-grammar .kept .1 .0) in
-    rw (with-grammar _ _ (r .before .before .if1 .left) (g .1))
+    let g = read-as _ _ (omega (arith, p .room .items-room)) (r .read-grammar .ensures .0) (r .read-grammar .kept .1 .0) (r .read-grammar .ensures .1) (d .before .h .given .1) in
+    let k = blank-now _ (g .book-is) p (g .holds .laid) (r .read-grammar .kept .1 .0) in
+    rw (with-grammar _ _ (r .before .before .if1 .left) (g .book-is))
     (fills-alike (record { items-same = r .read-grammar .kept .1 .0; states-same = refl; kernels-same = refl; lookaheads-same = refl; kinds-same = refl; values-same = refl; gotos-same = refl; named-same = refl })
-    (c .before .before .before .before .before .before .before .before .before .before .before .before .before .before .before .before .read-book .ensures (g .0) k (g .2)))
+    (c .before .before .before .before .before .before .before .before .before .before .before .before .before .before .before .before .read-book .ensures (g .grammar) k (g .holds .heading)))
 
 pub read-cleared-spec : {M : Type 1} → statement M
 read-cleared-spec =
