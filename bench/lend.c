@@ -152,6 +152,23 @@ static void lists(void) {
     done("buraigue_list_expected");
 }
 
+static void make(size_t length, size_t depth, size_t n, size_t l, enum buraigue_reply reply, uint64_t at) {
+    uint8_t *slice = lend(&one, n), *list = lend(&other, l);
+    uint64_t number = buraigue_make_load(grammar, length, 17, depth, slice, n, list, l, &place, &count, &rules);
+    expect(number, reply, at, count == (reply ? 0 : 4) && rules == (reply ? 0 : 5) && holds(&one, tokens, count) && holds(&other, listing, rules));
+}
+
+/* seed 17 makes the session 1423 of D: 4 tokens and 5 rules */
+static void loads(void) {
+    make(g, 15, 4, 5, BURAIGUE_ACCEPTED, 0);
+    make(g, 15, BURAIGUE_LOAD, BURAIGUE_BOOK, BURAIGUE_ACCEPTED, 0);
+    make(g, 15, FEW, 5, BURAIGUE_BUFFER_TOO_SMALL, 0);
+    make(g, 15, 4, FEW, BURAIGUE_BUFFER_TOO_SMALL, 0);
+    make(g, 16, 4, 5, BURAIGUE_LIMIT_EXCEEDED, 0);
+    make(g - 1, 15, 4, 5, BURAIGUE_MALFORMED, g - 12);
+    done("buraigue_make_load");
+}
+
 int main(void) {
     g = load("examples/d.grammar", grammar), t = load("examples/d.tables", tables), a = load("examples/ambiguous.grammar", ambiguous);
     read_grammars();
@@ -168,6 +185,7 @@ int main(void) {
     run(buraigue_run_scans, t, scans, SCANS - 1, 9, 5, BURAIGUE_MALFORMED, 26);
     done("buraigue_run_scans");
     lists();
+    loads();
     printf("%u cases, %u wrong\n", all, all_wrong);
     return all_wrong != 0;
 }

@@ -1,6 +1,6 @@
 #!/bin/sh
-# Builds and runs what the arguments name of read, check, session, expected, build, lend and stack; all of them where nothing is named. From the
-# repository's root, after
+# Builds and runs what the arguments name of read, check, session, expected, load, build, lend and stack; all of them where nothing is named. From
+# the repository's root, after
 #     rt staticlib buraigue_c && rt check build_tables
 set -e
 out=target/bench
@@ -20,9 +20,9 @@ pairs() {
     for book in $books; do echo $out/$book.grammar $out/$book.tables; done
 }
 
-for what in ${*:-lend stack read check session expected build}; do
+for what in ${*:-lend stack read check session expected load build}; do
     case $what in
-    read | lend | expected)
+    read | lend | expected | load)
         make $what
         $out/$what
         ;;

@@ -1,6 +1,6 @@
-/* How long a session takes, beside the parser that bison generates for the same grammar: 65,535 tokens of D and a long day of the hospital's grammar,
-   each in one order over and over and in random order, best of many runs. The walk alone is the whole call less the same call with no token: that one
-   reads and checks both books.
+/* How long a session takes, beside the parser that bison generates for the same grammar: 65,535 tokens of D, a long day of the hospital's grammar with
+   the same works over and over, and a month of it, a test load; best of many runs. The walk alone is the whole call less the same call with no token:
+   that one reads and checks both books.
    sh bench/run.sh session */
 #include "bench.h"
 #include "bison.h"
@@ -14,35 +14,29 @@ static uint8_t grammar[65537], tables[65537], tokens[65535], stack[65536], listi
 /* works of a day: an intake, an issue, a return, a discard, a temperature, a pooling, a transfer, a control, a remark, a quarantine */
 static const uint8_t works[] = {11, 13, 1, 4, 2, 3, 5, 6, 22, 6, 21, 19, 7, 1, 2, 3, 12, 20, 10, 15, 14, 1, 3, 26, 27, 19, 20, 10, 16, 1, 13, 18, 10, 17, 1, 10, 10,
                                 18, 10, 28, 1, 1, 1, 29, 1, 5, 30, 10, 11, 13, 1, 1, 12, 31, 18, 10, 32, 19, 6, 7, 6, 20, 10, 23, 25, 25, 25, 24, 33, 1, 1, 34, 20, 10};
-/* where each of them begins, and the end */
-static const uint8_t begins[] = {0, 19, 28, 33, 37, 39, 46, 56, 63, 68, sizeof works};
+/* they come round and round, between the day's opening and its end */
+static size_t day(void) {
+    size_t n = 2;
+    tokens[0] = 8, tokens[1] = 10;
+    for (; n + sizeof works + 2 <= sizeof tokens; n += sizeof works) memcpy(tokens + n, works, sizeof works);
+    tokens[n++] = 9;
+    tokens[n++] = 10;
+    return n;
+}
+
+/* a test load: four weeks of works in random order; what month.grammar allows, the hospital's does */
+static size_t month(void) {
+    uint64_t place, count = 0, rules;
+    size_t g = load("examples/month.grammar", other);
+    buraigue_make_load(other, g, 5, 15, tokens, sizeof tokens, listing, sizeof listing, &place, &count, &rules);
+    return count;
+}
 
 /* random numbers, the same in every run: what a branch did before does not tell what it will do */
 static uint32_t seed;
 static uint32_t below(uint32_t n) {
     seed = seed * 1103515245 + 12345;
     return (seed >> 16) % n;
-}
-
-/* the works from one place to another, where there is room for them and for the end of the day */
-static size_t add(size_t n, size_t from, size_t to) {
-    if (n + (to - from) + 2 > sizeof tokens) return 0;
-    memcpy(tokens + n, works + from, to - from);
-    return n + (to - from);
-}
-
-static size_t day(int mixed) {
-    size_t n = 2, more;
-    tokens[0] = 8, tokens[1] = 10;
-    for (;;) {
-        uint32_t i = below(sizeof begins - 1);
-        more = mixed ? add(n, begins[i], begins[i + 1]) : add(n, 0, sizeof works);
-        if (!more) break;
-        n = more;
-    }
-    tokens[n++] = 9;
-    tokens[n++] = 10;
-    return n;
 }
 
 /* bags of 1, 2 and 3; in random order some have 4s after the 1 */
@@ -85,7 +79,7 @@ int main(void) {
     measure("d", g, t, bags(0), d_session);
     measure("d, mixed", g, t, bags(1), d_session);
     g = load("examples/hospital.grammar", grammar), t = load("examples/hospital.tables", tables);
-    measure("hospital", g, t, day(0), hospital_session);
-    measure("hospital, mixed", g, t, day(1), hospital_session);
+    measure("hospital", g, t, day(), hospital_session);
+    measure("hospital, mixed", g, t, month(), hospital_session);
     return 0;
 }

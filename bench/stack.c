@@ -8,8 +8,8 @@
 
 enum { SIZE = 8 << 20, PAINT = 0xa5 };
 
-static uint8_t grammar[65537], tables[65537], items[BURAIGUE_ITEMS], tokens[65535], read[BURAIGUE_TOKENS], book[BURAIGUE_BOOK], states[1 << 20], listing[1 << 20], codes[BURAIGUE_CODES];
-static size_t g, t;
+static uint8_t grammar[65537], tables[65537], items[BURAIGUE_ITEMS], tokens[65535], read[BURAIGUE_TOKENS], book[BURAIGUE_BOOK], states[1 << 20], listing[1 << 20], codes[BURAIGUE_CODES], deep[4096];
+static size_t g, t, deep_length;
 static const uint8_t scans[] = "1,D,W0001\n1,D,W0001\n2,G,O\n3,P,E4532\n";
 static uint64_t place, size, rules, units;
 
@@ -28,6 +28,20 @@ static void run_scans(void) {
 static void list_expected(void) {
     for (uint64_t k = 0; k <= sizeof tokens; k = 2 * k + 1)
         buraigue_list_expected(grammar, g, tables, t, tokens, k, states, sizeof states, listing, sizeof listing, codes, sizeof codes, &place, &size);
+}
+
+/* nonterminals each below the one before, and any may go back to the first: some of these loads nest 79 deep, which is the most */
+static void make_deep(void) {
+    size_t n = (size_t)sprintf((char *)deep, "G,1,64,126,64\n");
+    for (int x = 64; x < 127; x++) n += (size_t)sprintf((char *)deep + n, "R,%d,^,%d\n", x, x + 1);
+    for (int x = 65; x < 127; x++) n += (size_t)sprintf((char *)deep + n, "R,%d,64,^\n", x);
+    deep_length = n + (size_t)sprintf((char *)deep + n, "R,127,^,1\n");
+}
+static void make_load(void) {
+    for (uint32_t seed = 0; seed < 100; seed++) {
+        buraigue_make_load(grammar, g, seed, 15, states, sizeof states, listing, sizeof listing, &place, &size, &rules);
+        buraigue_make_load(deep, deep_length, seed, 15, states, sizeof states, listing, sizeof listing, &place, &size, &rules);
+    }
 }
 
 static void *run(void *call) {
@@ -54,8 +68,10 @@ static size_t depth(void (*call)(void)) {
 int main(int argc, char **argv) {
     static const struct { const char *name; void (*call)(void); } calls[] = {
         {"read_grammar", read_grammar}, {"read_scans", read_scans}, {"check_tables", check_tables},
-        {"build_tables", build_tables}, {"run_session", run_session}, {"run_scans", run_scans}, {"list_expected", list_expected}};
+        {"build_tables", build_tables}, {"run_session", run_session}, {"run_scans", run_scans}, {"list_expected", list_expected},
+        {"make_load", make_load}};
     memset(tokens, 1, sizeof tokens);
+    make_deep();
     size_t base = depth(nothing);
     for (size_t k = 0; k < sizeof calls / sizeof *calls; k++) {
         size_t most = 0;

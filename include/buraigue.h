@@ -39,8 +39,9 @@ enum buraigue_reply {
     BURAIGUE_CONFLICTING_REPEAT = 13
 };
 
-/* what is always enough to lend: for an item table, for the tokens of a scan file, for a table book, for the codes that could come */
-enum { BURAIGUE_ITEMS = 8192, BURAIGUE_TOKENS = 10922, BURAIGUE_BOOK = 65536, BURAIGUE_CODES = 64 };
+/* what is always enough to lend: for an item table, for the tokens of a scan file, for a table book, for the codes that could come, for the
+   tokens of a load */
+enum { BURAIGUE_ITEMS = 8192, BURAIGUE_TOKENS = 10922, BURAIGUE_BOOK = 65536, BURAIGUE_CODES = 64, BURAIGUE_LOAD = 65535 };
 
 /* Reads a grammar book into the item table: rule i in the 64 bytes from items[64 * i] on, its left side, length, recognition point and
    unit flag (1 for U), symbol k at 16 + k, and at 32 + k a 1 where symbol k begins a group. Less than BURAIGUE_ITEMS bytes are too few.
@@ -77,6 +78,14 @@ uint64_t buraigue_run_scans(const uint8_t *grammar, size_t grammar_length, const
 uint64_t buraigue_list_expected(const uint8_t *grammar, size_t grammar_length, const uint8_t *tables, size_t tables_length,
                                 const uint8_t *tokens, size_t tokens_length, uint8_t *stack, size_t stack_length, uint8_t *listing,
                                 size_t listing_length, uint8_t *codes, size_t codes_length, uint64_t *place, uint64_t *count);
+
+/* Writes a test load: the sentence that a grammar book, a seed and a depth of 0 to 15 settle, the same wherever it is made, and its listing.
+   *count tokens stand in tokens and *rules rules in listing; buraigue_run_session with tables that are accepted for the grammar walks these
+   tokens whole and lists these rules. *place is 0. BURAIGUE_LOAD tokens are always enough: a longer load is refused. Where a slice is too
+   short for the load the reply is BURAIGUE_BUFFER_TOO_SMALL, and a depth above 15 is BURAIGUE_LIMIT_EXCEEDED; every other reply is that of
+   buraigue_read_grammar with enough lent. Machine stack: 48 KiB. */
+uint64_t buraigue_make_load(const uint8_t *grammar, size_t grammar_length, uint32_t seed, size_t depth, uint8_t *tokens, size_t tokens_length,
+                            uint8_t *listing, size_t listing_length, uint64_t *place, uint64_t *count, uint64_t *rules);
 
 #ifdef __cplusplus
 }

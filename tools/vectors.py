@@ -3,26 +3,27 @@
 
     tools/vectors.py                 works out every case
     tools/vectors.py KIND FOLDER     adds the cases of FOLDER first, or replaces those of the same name; KIND is grammar, check,
-                                     build, scan, session or expected
+                                     build, scan, session, expected or load
 
 FOLDER has a folder for each case: `grammar`, `table`, `tokens` (one a line), `scans`, as its kind asks; `out_len` (the length of the slice
 lent) or `lens` (`STACK,LISTING`) where they are not 65,536 and 65,535 each; and `expected`. A session with `scans` is run both ways. Or a
-case has `arg1`, `arg2` and so on, the arguments of a program, and `program`, its name, where it is another than KIND's.
-What a case must write is worked out by tables.py and sessions.py, from the documents' text and not from the proved code; where a case comes
-with `expected`, the two must agree.
+case has `arg1`, `arg2` and so on, the arguments of a program, and `program`, its name, where it is another than KIND's. A load has its
+seed and its depth in `arg2.txt` and `arg3.txt`, and `lens` (`TOKENS,LISTING`) where they are not 65,536 each.
+What a case must write is worked out by tables.py, sessions.py and loads.py, from the documents' text and not from the proved code; where a
+case comes with `expected`, the two must agree.
 """
-import os, sys
-import sessions, tables
+import itertools, os, sys
+import loads, sessions, tables
 
 CRATE = os.path.join(os.path.dirname(os.path.abspath(__file__)), '..', 'crates', 'vectors')
-WORDS = {'1,': 1, '2,': 2, '3,': 2, '4,': 2, '5,': 5, '6,': 5, '7,': 6, '8,': 6}
+WORDS = {'1,': 1, '2,': 2, '3,': 2, '4,': 2, '5,': 5, '6,': 5, '7,': 6, '8,': 6, '9,': 5}
 # the kind that a program's cases are of, and what its arguments are
 PROGRAMS = {
     'read_grammar': ('grammar', ['grammar']), 'check_tables': ('check', ['grammar', 'table']), 'build_tables': ('build', ['grammar']),
     'read_scans': ('scan', ['scans']), 'run_session': ('session', ['grammar', 'table', 'scans']),
-    'list_expected': ('expected', ['grammar', 'table', 'scans']),
+    'list_expected': ('expected', ['grammar', 'table', 'scans']), 'make_load': ('load', ['grammar']),
 }
-# what the program lends of stack and listing for a list, where a case says 65,536
+# what the program lends of stack and listing for a list, and of listing for a load, where a case says 65,536
 LENT = 1048576
 
 
@@ -82,13 +83,19 @@ def listed(run, grammar, table, content, stack, listing, room):
     return lines(f'{number},{place}', *codes)
 
 
+def make_load(grammar, seed, depth, room, listing):
+    number, place, tokens, rules = loads.make_load(data(grammar), seed, depth, room, LENT if listing == 65536 else listing)
+    runs = [(x, len(list(run))) for part in (tokens, rules) for x, run in itertools.groupby(part)]
+    return lines(f'{number},{place},{len(tokens)},{len(rules)}', *(f'{x},{n}' if n > 1 else x for x, n in runs))
+
+
 def written(call, words):
     words = [int(w[:-1]) if w.endswith(',') else w for w in words]
     if call in ('7,', '8,'):
         return listed(sessions.list_expected if call == '7,' else sessions.list_expected_scans, *words)
     if call in ('5,', '6,'):
         return session(sessions.run_session if call == '5,' else sessions.run_scans, *words)
-    return {'1,': read_grammar, '2,': check_tables, '3,': build_tables, '4,': read_scans}[call](*words)
+    return {'1,': read_grammar, '2,': check_tables, '3,': build_tables, '4,': read_scans, '9,': make_load}[call](*words)
 
 
 # ---- cases
@@ -134,24 +141,40 @@ def of_kind(kind, at, name):
         save(content, 'data', kind, name + ending)
         return f'{kind}/{name}{ending}'
 
-    room = option(os.path.join(at, 'out_len'), '65536') + ','
+    def numbers(file, otherwise):
+        return [n + ',' for n in option(os.path.join(at, file), otherwise).split(',')]
+
+    room = numbers('out_len', '65536')
     if kind == 'grammar':
         return [('1,', [put('grammar')])]
     if kind == 'check':
         return [('2,', [put('grammar', '.grammar'), put('table')])]
     if kind == 'build':
-        return [('3,', [put('grammar'), room])]
+        return [('3,', [put('grammar'), *room])]
     if kind == 'scan':
-        return [('4,', [put('scans'), room])]
+        return [('4,', [put('scans'), *room])]
+    if kind == 'load':
+        return [('9,', [put('grammar'), *numbers('arg2.txt', ''), *numbers('arg3.txt', ''), *numbers('lens', '65536,65536')])]
     books = [put('grammar', '.grammar'), put('table', '.tables')]
     if kind == 'expected':
         return [('8,', [*books, put('scans', '.scans'), '65536,', '65536,', '64,'])]
-    lent = [n + ',' for n in option(os.path.join(at, 'lens'), '65535,65535').split(',')]
+    lent = numbers('lens', '65535,65535')
     return [(call, [*books, put(file, '.' + file), *lent]) for call, file in (('5,', 'tokens'), ('6,', 'scans')) if file in files]
 
 
+def spread(answer):
+    """A load with every byte of a run on its line."""
+    out = answer.split()[:1]
+    for run in answer.split()[1:]:
+        x, _, n = run.partition(',')
+        out += [x] * int(n or 1)
+    return lines(*out)
+
+
 def agrees(call, answer, expected):
-    """The program build_tables writes the book alone."""
+    """The program build_tables writes the book alone, and make_load each byte on a line."""
+    if call == '9,':
+        return spread(answer) == expected
     if call == '3,' and answer.startswith('0,0\n'):
         return answer.split('\n', 2)[2] == expected
     return answer == expected or (call == '3,' and answer == expected + '0,0\n')

@@ -10,7 +10,10 @@ use Rattle.expected_trials.specs.declared.ExpectedReply.{ExpectedReply}
 use Rattle.expected_trials.specs.Trials.{Expected}
 use Rattle.expected.specs.Expected.{codeCount}
 use Rattle.expected.specs.Expected as expected
-use Rattle.buraigue_c.specs.Told.{ReplyGiven, SessionGiven, ExpectedTold}
+use Rattle.generator.specs.declared.GeneratorReply.{GeneratorReply}
+use Rattle.generator.specs.Generated.{Answer, Tells, tokenCount}
+use Rattle.generator.specs.Generated as generator
+use Rattle.buraigue_c.specs.Told.{ReplyGiven, SessionGiven, ExpectedTold, LoadTold}
 
 pub told : {r x : Reply} {number place : ℕ} → r ≡ x → ReplyGiven r number place → ReplyGiven x number place
 told {number = n} {place = p} e t = subst (λ (y : Reply). ReplyGiven y n p) e t
@@ -29,3 +32,14 @@ session-told e t = record {
 pub expected-told : {x : Expected} {a : ExpectedReply} {y : Reply} {number place count : ℕ} {codes : List ℕ} → a ≡ x .reply → codes ≡ x .codes
     → y ≡ expected.asReply a → count ≡ codeCount a → ReplyGiven y number place → ExpectedTold x number place count codes
 expected-told e c r n t = record { reply-told = told (r ∙ ap expected.asReply e) t; count-is = n ∙ ap codeCount e; codes-are = c }
+
+pub load-told : {x : Answer} {a : GeneratorReply} {y : Reply} {number place count rules : ℕ} {tokens listing : List ℕ}
+    → Tells x a tokens listing → y ≡ generator.asReply a → count ≡ tokenCount a → rules ≡ generator.ruleCount a
+    → ReplyGiven y number place → LoadTold x number place count rules tokens listing
+load-told e r n k t = record {
+  reply-told = told (r ∙ ap generator.asReply (e .reply-is)) t;
+  count-is = n ∙ ap tokenCount (e .reply-is);
+  rules-are = k ∙ ap generator.ruleCount (e .reply-is);
+  tokens-are = e .tokens-are;
+  listing-is = e .listing-is;
+}

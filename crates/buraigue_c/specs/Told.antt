@@ -9,6 +9,8 @@ use Rattle.session.specs.Session.{Session}
 use Rattle.expected_trials.specs.Trials.{Expected}
 use Rattle.expected.specs.Expected.{codeCount}
 use Rattle.expected.specs.Expected as expected
+use Rattle.generator.specs.Generated.{Answer, tokenCount}
+use Rattle.generator.specs.Generated as generator
 
 -- a reply's number and place
 pub record ReplyGiven (r : Reply) (number place : ℕ) : Type 0 where
@@ -28,3 +30,11 @@ pub record ExpectedTold (x : Expected) (number place count : ℕ) (codes : List 
   pub reply-told : ReplyGiven (expected.asReply (x .reply)) number place
   pub count-is : count ≡ codeCount (x .reply)
   pub codes-are : codes ≡ x .codes
+
+-- a test load: the reply, the counts and both slices
+pub record LoadTold (x : Answer) (number place count rules : ℕ) (tokens listing : List ℕ) : Type 0 where
+  pub reply-told : ReplyGiven (generator.asReply (x .reply)) number place
+  pub count-is : count ≡ tokenCount (x .reply)
+  pub rules-are : rules ≡ generator.ruleCount (x .reply)
+  pub tokens-are : tokens ≡ x .tokens
+  pub listing-is : listing ≡ x .listing

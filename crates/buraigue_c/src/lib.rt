@@ -13,7 +13,8 @@ ghost use Rattle.walker.specs.Walked as walker;
 ghost use Rattle.session.specs.Session.{session};
 ghost use Rattle.scan_session.specs.ScanSession.{scanSession};
 ghost use Rattle.expected.specs.Expected.{expected};
-ghost use Rattle.buraigue_c.specs.Told.{ReplyGiven, SessionGiven, ExpectedTold};
+ghost use Rattle.generator.specs.Generated.{generated};
+ghost use Rattle.buraigue_c.specs.Told.{ReplyGiven, SessionGiven, ExpectedTold, LoadTold};
 
 fn tell_reply(reply: Reply, place: &mut u64) -> u64
     ensures { λ r. ⌜ ReplyGiven reply r (now (place .exit)) ⌝ }
@@ -132,4 +133,24 @@ pub extern "C" fn buraigue_list_expected(
     let answer = expected::list_expected(grammar, tables, tokens, stack, listing, codes);
     *count = expected::code_count(answer) as u64;
     tell_reply(expected::as_reply(answer), place)
+}
+
+// A test load, as generator::make_load.
+#[no_mangle]
+pub extern "C" fn buraigue_make_load(
+    grammar: &[u8],
+    seed: u32,
+    depth: usize,
+    tokens: &mut [u8],
+    listing: &mut [u8],
+    place: &mut u64,
+    count: &mut u64,
+    rules: &mut u64,
+) -> u64
+    ensures { λ r. ⌜ LoadTold (generated (length (now (tokens .entry))) (length (now (listing .entry))) (now (grammar .entry)) seed depth) r (now (place .exit)) (now (count .exit)) (now (rules .exit)) (now (tokens .exit)) (now (listing .exit)) ⌝ }
+{
+    let answer = generator::make_load(grammar, seed, depth, tokens, listing);
+    *count = generator::token_count(answer) as u64;
+    *rules = generator::rule_count(answer) as u64;
+    tell_reply(generator::as_reply(answer), place)
 }

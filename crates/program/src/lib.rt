@@ -2,8 +2,6 @@
 // Inner: for the programs.
 use libc::STDERR_FILENO;
 use libc::STDOUT_FILENO;
-use text::Cursor;
-use text::Field;
 ghost use mathlib.Core.Path.{_≡_};
 ghost use Prim.Native.Nat.{_≤_, _<_};
 ghost use lib.ListN.{length};
@@ -23,6 +21,27 @@ pub struct Input {
     pub size: usize,
     pub failed: bool,
 }
+
+// The least number of more than 32 bits, which stands for every greater one too.
+const BEYOND: u64 = 4294967296;
+
+// The digits that a word begins with: the number that they are, at most BEYOND, and how many there are.
+struct Digits {
+    value: u64,
+    count: usize,
+}
+
+// The number that a word is, at most BEYOND, and whether it is none.
+pub struct Word {
+    pub value: u64,
+    pub failed: bool,
+}
+
+// What a word is that is no number.
+const NO_NUMBER: Word = Word {
+    value: 0,
+    failed: true,
+};
 
 // Whether reading failed: where it did, the next read fails too.
 fn fails(fd: i32) -> bool {
@@ -65,11 +84,16 @@ fn read_path(path: &[u8], buf: &mut [u8]) -> Input
     input
 }
 
+// Says on standard error what is wrong with an argument, and how the program is used.
+fn tell_wrong(what: &[u8], why: &[u8], usage: &[u8]) {
+    io::write_all(STDERR_FILENO, what);
+    io::write_all(STDERR_FILENO, why);
+    io::write_all(STDERR_FILENO, usage);
+}
+
 // Says on standard error that an argument is missing, and how the program is used.
 pub fn tell_missing(what: &[u8], usage: &[u8]) {
-    io::write_all(STDERR_FILENO, what);
-    io::write_all(STDERR_FILENO, b" is missing\n");
-    io::write_all(STDERR_FILENO, usage);
+    tell_wrong(what, b" is missing\n", usage);
 }
 
 // Argument i, a path, at the start of a buffer. Where it is missing or too long, standard error says so, and how the program is
@@ -115,31 +139,94 @@ pub fn read_argument(i: usize, what: &[u8], usage: &[u8], buf: &mut [u8]) -> Inp
     input
 }
 
-// The number that argument i is, with a comma after it; at most 65,536.
-pub fn argument_number(i: usize) -> usize
-    ensures { λ r. ⌜ r ≤ 65536 ⌝ }
-{
-    let mut word = io::buffer();
-    let n = os::arg(i, &mut word);
-    let Field::Number(v, _) = text::read_field(
-        &word[..n],
-        Cursor {
-            at: 0,
-            ended: false,
-        },
-    ) else {
-        return 0;
-    };
-    if v < 65536 {
-        return v;
-    }
-    65536
-}
-
 fn wide(b: u8) -> usize
     ensures { λ r. ⌜ r < 256 ⌝ }
 {
     b as usize
+}
+
+// A number of which v is read, with one digit more.
+fn add_digit(v: u64, digit: usize) -> u64
+    requires { ⌜ (v ≤ 4294967296) × (digit < 256) ⌝ }
+    ensures { λ r. ⌜ r ≤ 4294967296 ⌝ }
+{
+    let w = v * 10 + digit as u64;
+    if w < BEYOND {
+        return w;
+    }
+    BEYOND
+}
+
+// The digits that a word begins with.
+fn read_digits(word: &[u8]) -> Digits
+    ensures { λ r. ⌜ r .value ≤ 4294967296 ⌝ }
+{
+    let mut value = 0;
+    let mut i = 0;
+    while i < word.len() {
+        let b = wide(word[i]);
+        if b < 48 {
+            return Digits { value, count: i };
+        }
+        if 57 < b {
+            return Digits { value, count: i };
+        }
+        value = add_digit(value, b - 48);
+        i += 1;
+    }
+    Digits { value, count: i }
+}
+
+// The number that argument i begins with, as `Digits` has it; 0 where there is none.
+pub fn argument_number(i: usize) -> u64
+    ensures { λ r. ⌜ r ≤ 4294967296 ⌝ }
+{
+    let mut word = io::buffer();
+    let n = os::arg(i, &mut word);
+    let digits = read_digits(&word[..n]);
+    digits.value
+}
+
+// The number that a word is, as `Digits` has it, unless it has other bytes or none.
+fn number_of(word: &[u8]) -> Word {
+    let digits = read_digits(word);
+    if digits.count == 0 {
+        return NO_NUMBER;
+    }
+    if digits.count != word.len() {
+        return NO_NUMBER;
+    }
+    Word {
+        value: digits.value,
+        failed: false,
+    }
+}
+
+// The number that argument i is; leading zeros play no part. Where it is none, standard error says so, and how the program is used.
+pub fn read_number(i: usize, what: &[u8], usage: &[u8]) -> Word {
+    let mut word = io::buffer();
+    let n = os::arg(i, &mut word);
+    if os::errno() == libc::EINVAL {
+        tell_missing(what, usage);
+        return NO_NUMBER;
+    }
+    let number = number_of(&word[..n]);
+    if number.failed {
+        tell_wrong(what, b" is no number\n", usage);
+    }
+    number
+}
+
+// The same for a number of 32 bits: a greater one is refused as well.
+pub fn read_u32(i: usize, what: &[u8], usage: &[u8]) -> Word
+    ensures { λ r. ⌜ r .value < 4294967296 ⌝ }
+{
+    let number = read_number(i, what, usage);
+    if number.value < BEYOND {
+        return number;
+    }
+    tell_wrong(what, b" is above 4294967295\n", usage);
+    NO_NUMBER
 }
 
 // An output of which nothing waits.
@@ -263,6 +350,13 @@ pub fn print_list(out: &mut [u8; OUTPUT], bytes: &[u8], n: usize) {
     }
 }
 
+// Prints `a,b,c,d` and an LF.
+pub fn print_figures(out: &mut [u8; OUTPUT], a: u64, b: u64, c: u64, d: u64) {
+    print_field(out, a);
+    print_field(out, b);
+    print_pair(out, c, d);
+}
+
 // Prints what a session answers: `number,place,rules,units`, then each listed rule on a line.
 pub fn print_session(
     out: &mut [u8; OUTPUT],
@@ -272,9 +366,7 @@ pub fn print_session(
     units: u64,
     listing: &[u8],
 ) {
-    print_field(out, number);
-    print_field(out, place);
-    print_pair(out, rules, units);
+    print_figures(out, number, place, rules, units);
     print_bytes(out, listing);
 }
 

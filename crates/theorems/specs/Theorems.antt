@@ -1,6 +1,6 @@
 -- The theorems that a customer relies on. Each is stated here in full over names that can be looked up; docs/ARCHITECTURE.md, 'What to believe',
 -- lists the files that define them, in reading order. What the calls answer is said by their contracts (crates/NAME/src/lib.rt), as equations with
--- the definitions `verdictOf`, `session` and `buildOf`, for all bytes and lengths.
+-- the definitions `verdictOf`, `session`, `buildOf` and so on, for all bytes and lengths.
 use Prim.Native.Nat.{ℕ, _≤_}
 use mathlib.Core.Path.{_≡_}
 use mathlib.Core.List.{List, [], _∷_}
@@ -22,13 +22,17 @@ use Rattle.session.specs.Demand3.{Demanded}
 use Rattle.session.proofs.Demand3 as session
 use Rattle.expected_promise.specs.Promise as expected
 use Rattle.expected_promise.proofs.Promise as listed
+use Rattle.generate_promise.specs.Promise.{GeneratorPromise}
+use Rattle.generate_promise.proofs.Promise as loads
 use Rattle.build_promise.specs.Promise.{Promise}
 use Rattle.build_promise.proofs.Promise as builder
 use Rattle.worked_examples.specs.Books.{smallest, g1, g1-cut, d}
 use Rattle.worked_examples.specs.Built.{Built}
 use Rattle.worked_examples.specs.Starred.{Proved, sessions}
+use Rattle.worked_examples.specs.Loads.{Loads}
 use Rattle.worked_examples.proofs.Built as books
 use Rattle.worked_examples.proofs.Starred as examples
+use Rattle.worked_examples.proofs.Loads as made
 
 -- Demand 2: "Tables are accepted if and only if their items, contexts and cells meet the left-corner construction of document 01."
 pub accepted-exactly : (gs s : List ℕ) → (verdictOf gs s ≡ Accepted 0) ↔ ((g : Grammar) × (t : Table) × Accepts gs s g t)
@@ -56,9 +60,17 @@ number-promise = text.number-promise
 pub scans-promise : ScansPromise
 scans-promise = scans.scans-promise
 
+-- Document 02, S-4, of every load that is made from a number: `Promise` has its sentences, one by one
+pub generator-promise : GeneratorPromise
+generator-promise = loads.generator-promise
+
 -- None of them speaks of nothing: the books of document 01 are built and accepted, and its starred sessions answer what is told
 pub built : Each Built (smallest ∷ g1 ∷ g1-cut ∷ d ∷ [])
 built = books.built
 
 pub starred : Each Proved sessions
 starred = examples.starred
+
+-- and loads of these books are what the documents' text makes them
+pub loads-made : Loads
+loads-made = made.loads-made

@@ -7,7 +7,9 @@
 //     6, GRAMMAR TABLES SCANS STACK, LISTING,    run_scans
 //     7, GRAMMAR TABLES TOKENS STACK, LISTING, CODES,   list_expected; 65,536 stands for all that the program can lend
 //     8, GRAMMAR TABLES SCANS STACK, LISTING, CODES,    list_expected_scans
-// Prints for each the name of its last file, what the call answers, and what is not 0 in each slice that was lent, which held 7s.
+//     9, GRAMMAR SEED, DEPTH, TOKENS, LISTING,   make_load; 65,536 rules stand for all that the program can lend
+// Prints for each the name of its last file, what the call answers, and what is not 0 in each slice that was lent, which held 7s; of a load
+// a line stands for a run of equal bytes.
 use expected_trials::ExpectedReply;
 use program::Input;
 use program::OUTPUT;
@@ -19,6 +21,17 @@ ghost use mathlib.Core.Path.{_≡_};
 ghost use Prim.Native.Nat.{_+_, _<_, _≤_};
 ghost use lib.ListN.{length};
 ghost use Rattle.io.specs.Counts.{Counts};
+
+// The number that argument i begins with, at most 65,536.
+fn figure(i: usize) -> usize
+    ensures { λ r. ⌜ r ≤ 65536 ⌝ }
+{
+    let n = argument_number(i);
+    if n < 65536 {
+        return n as usize;
+    }
+    65536
+}
 
 // The file that argument i names.
 fn read(i: usize, buf: &mut [u8]) -> Input
@@ -272,7 +285,7 @@ fn show_expected_in(
     );
 }
 
-// The most states, and rules, that are lent for a list.
+// The most states that are lent for a list, and rules for a list or a load.
 const LENT: usize = 1048576;
 
 fn lend() -> [u8; LENT]
@@ -350,12 +363,109 @@ fn run_session(call: usize, i: usize, n: usize, k: usize, m: usize)
     );
 }
 
+// Prints so many equal bytes as a line: the byte, and how many where it is not one alone; of zeros nothing.
+fn print_run(out: &mut [u8; OUTPUT], byte: u8, count: usize) {
+    if byte == 0 {
+        return;
+    }
+    if count == 1 {
+        program::print_number(out, byte as u64);
+        return;
+    }
+    program::print_pair(out, byte as u64, count as u64);
+}
+
+// Prints the runs of equal bytes: loads are long, and what a program may write under the gate is 1 MiB.
+fn print_runs(out: &mut [u8; OUTPUT], bytes: &[u8]) {
+    let mut byte = 0u8;
+    let mut count = 0;
+    let mut i = 0;
+    while i < bytes.len() {
+        if bytes[i] == byte {
+            count += 1;
+            i += 1;
+            continue;
+        }
+        print_run(out, byte, count);
+        byte = bytes[i];
+        count = 1;
+        i += 1;
+    }
+    print_run(out, byte, count);
+}
+
+fn show_load(
+    out: &mut [u8; OUTPUT],
+    grammar: &[u8],
+    seed: u32,
+    depth: usize,
+    tokens: &mut [u8],
+    listing: &mut [u8],
+) {
+    let answer = generator::make_load(grammar, seed, depth, tokens, listing);
+    let reply = generator::as_reply(answer);
+    program::print_figures(
+        out,
+        reply::number(reply),
+        reply::place(reply) as u64,
+        generator::token_count(answer) as u64,
+        generator::rule_count(answer) as u64,
+    );
+    print_runs(out, tokens);
+    print_runs(out, listing);
+}
+
+// Lends the first n and k bytes of both slices.
+fn show_load_in(
+    out: &mut [u8; OUTPUT],
+    grammar: &[u8],
+    seed: u32,
+    depth: usize,
+    tokens: &mut [u8],
+    n: usize,
+    listing: &mut [u8],
+    k: usize,
+)
+    requires { ⌜ (n ≤ length (now tokens)) × (k ≤ length (now listing)) ⌝ }
+{
+    show_load(
+        out,
+        grammar,
+        seed,
+        depth,
+        &mut tokens[..n],
+        &mut listing[..k],
+    );
+}
+
+fn run_load(i: usize, n: usize, k: usize)
+    requires { ⌜ (i + 2 < 18446744073709551616) × (n ≤ 65536) ⌝ }
+{
+    let mut grammar = [0u8; 65537];
+    let mut tokens = [7u8; 65536];
+    let mut listing = lend();
+    let input = read(i, &mut grammar);
+    let size = input.size;
+    let mut out = named(i);
+    show_load_in(
+        &mut out,
+        &grammar[..size],
+        (argument_number(i + 1) % 4294967296) as u32,
+        argument_number(i + 2) as usize,
+        &mut tokens,
+        n,
+        &mut listing,
+        lent(k),
+    );
+    program::flush(&mut out);
+}
+
 // Runs the case that begins at argument i, and answers where the next begins.
 fn run_case(i: usize) -> usize
     requires { ⌜ i + 7 < 18446744073709551616 ⌝ }
     ensures { λ r. ⌜ (i < r) × (r ≤ i + 7) ⌝ }
 {
-    let call = argument_number(i);
+    let call = figure(i);
     match call {
         1 => {
             run_grammar(i + 1);
@@ -366,27 +476,19 @@ fn run_case(i: usize) -> usize
             i + 3
         }
         3 | 4 => {
-            run_one(call, i + 1, argument_number(i + 2));
+            run_one(call, i + 1, figure(i + 2));
             i + 3
         }
         5 | 6 => {
-            run_session(
-                call,
-                i + 1,
-                argument_number(i + 4),
-                argument_number(i + 5),
-                0,
-            );
+            run_session(call, i + 1, figure(i + 4), figure(i + 5), 0);
+            i + 6
+        }
+        9 => {
+            run_load(i + 1, figure(i + 4), figure(i + 5));
             i + 6
         }
         _ => {
-            run_session(
-                call,
-                i + 1,
-                argument_number(i + 4),
-                argument_number(i + 5),
-                argument_number(i + 6),
-            );
+            run_session(call, i + 1, figure(i + 4), figure(i + 5), figure(i + 6));
             i + 7
         }
     }

@@ -3,3 +3,4 @@ pub mod Starred
 pub mod Computing
 pub mod Laws
 pub mod Expected
+pub mod Loads

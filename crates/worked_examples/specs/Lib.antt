@@ -2,3 +2,4 @@ pub mod Books
 pub mod Built
 pub mod Starred
 pub mod Expected
+pub mod Loads

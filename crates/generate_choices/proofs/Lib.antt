@@ -1,0 +1,3 @@
+pub mod ProductLaws
+pub mod ChoiceLaws
+pub mod StoredLaws

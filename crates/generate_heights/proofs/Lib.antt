@@ -1,0 +1,4 @@
+pub mod RowLaws
+pub mod SymbolLaws
+pub mod ShortestLaws
+pub mod RoundLaws

@@ -1,0 +1,4 @@
+pub mod RuleLaws
+pub mod HeightLaws
+pub mod GrownLaws
+pub mod Lowest

@@ -1,0 +1,6 @@
+pub mod AnswerLaws
+pub mod PutLaws
+pub mod ForestLaws
+pub mod NodeLaws
+pub mod RowLaws
+pub mod LoadLaws
