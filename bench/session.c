@@ -1,5 +1,5 @@
-/* How long a session takes, beside the parser that bison generates for the same grammar: 65,535 tokens of D, a long day of the hospital's grammar with
-   the same works over and over, and a month of it, a test load; best of many runs. The walk alone is the whole call less the same call with no token:
+/* How long a session takes, beside the parser that bison generates for the same grammar: 65,535 tokens of D and a long day of the hospital's grammar,
+   where the same comes over and over, and test loads of both; best of many runs. The walk alone is the whole call less the same call with no token:
    that one reads and checks both books.
    sh bench/run.sh session */
 #include "bench.h"
@@ -32,22 +32,18 @@ static size_t month(void) {
     return count;
 }
 
-/* random numbers, the same in every run: what a branch did before does not tell what it will do */
-static uint32_t seed;
-static uint32_t below(uint32_t n) {
-    seed = seed * 1103515245 + 12345;
-    return (seed >> 16) % n;
+/* bags of 1, 2 and 3, all alike */
+static size_t bags(void) {
+    size_t n = 0;
+    for (; n + 3 <= sizeof tokens; n += 3) tokens[n] = 1, tokens[n + 1] = 2, tokens[n + 2] = 3;
+    return n;
 }
 
-/* bags of 1, 2 and 3; in random order some have 4s after the 1 */
-static size_t bags(int mixed) {
+/* the test loads of all seeds one behind the other, while there is room: bags in a row are a session of D, so sessions in a row are one */
+static size_t mixed_bags(size_t g) {
+    uint64_t place, count, rules;
     size_t n = 0;
-    while (n + 3 <= sizeof tokens) {
-        tokens[n++] = 1;
-        while (mixed && below(3) == 0 && n + 3 <= sizeof tokens) tokens[n++] = 4;
-        tokens[n++] = 2;
-        tokens[n++] = 3;
-    }
+    for (uint32_t seed = 0; !buraigue_make_load(grammar, g, seed, 15, tokens + n, sizeof tokens - n, listing, 1024, &place, &count, &rules); seed++) n += count;
     return n;
 }
 
@@ -76,8 +72,8 @@ static void measure(const char *what, size_t g, size_t t, size_t n, int (*parse)
 
 int main(void) {
     size_t g = load("examples/d.grammar", grammar), t = load("examples/d.tables", tables);
-    measure("d", g, t, bags(0), d_session);
-    measure("d, mixed", g, t, bags(1), d_session);
+    measure("d", g, t, bags(), d_session);
+    measure("d, mixed", g, t, mixed_bags(g), d_session);
     g = load("examples/hospital.grammar", grammar), t = load("examples/hospital.tables", tables);
     measure("hospital", g, t, day(), hospital_session);
     measure("hospital, mixed", g, t, month(), hospital_session);

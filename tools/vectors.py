@@ -3,12 +3,13 @@
 
     tools/vectors.py                 works out every case
     tools/vectors.py KIND FOLDER     adds the cases of FOLDER first, or replaces those of the same name; KIND is grammar, check,
-                                     build, scan, session, expected or load
+                                     build, scan, session, expected, load or walk
 
 FOLDER has a folder for each case: `grammar`, `table`, `tokens` (one a line), `scans`, as its kind asks; `out_len` (the length of the slice
 lent) or `lens` (`STACK,LISTING`) where they are not 65,536 and 65,535 each; and `expected`. A session with `scans` is run both ways. Or a
 case has `arg1`, `arg2` and so on, the arguments of a program, and `program`, its name, where it is another than KIND's. A load has its
-seed and its depth in `arg2.txt` and `arg3.txt`, and `lens` (`TOKENS,LISTING`) where they are not 65,536 each.
+seed and its depth in `arg2.txt` and `arg3.txt`, and `lens` (`TOKENS,LISTING`) where they are not 65,536 each. A walk has `grammar`,
+`table`, `loaded` (the grammar whose loads are walked) and `loads`, a line `SEED,DEPTH` for each.
 What a case must write is worked out by tables.py, sessions.py and loads.py, from the documents' text and not from the proved code; where a
 case comes with `expected`, the two must agree.
 """
@@ -16,7 +17,7 @@ import itertools, os, sys
 import loads, sessions, tables
 
 CRATE = os.path.join(os.path.dirname(os.path.abspath(__file__)), '..', 'crates', 'vectors')
-WORDS = {'1,': 1, '2,': 2, '3,': 2, '4,': 2, '5,': 5, '6,': 5, '7,': 6, '8,': 6, '9,': 5}
+WORDS = {'1,': 1, '2,': 2, '3,': 2, '4,': 2, '5,': 5, '6,': 5, '7,': 6, '8,': 6, '9,': 5, '10,': 5}
 # the kind that a program's cases are of, and what its arguments are
 PROGRAMS = {
     'read_grammar': ('grammar', ['grammar']), 'check_tables': ('check', ['grammar', 'table']), 'build_tables': ('build', ['grammar']),
@@ -89,13 +90,19 @@ def make_load(grammar, seed, depth, room, listing):
     return lines(f'{number},{place},{len(tokens)},{len(rules)}', *(f'{x},{n}' if n > 1 else x for x, n in runs))
 
 
+def walk_load(grammar, table, loaded, seed, depth):
+    number, place, tokens, rules = loads.make_load(data(loaded), seed, depth, 65535, LENT)
+    reply, taken, units, listing = sessions.run_session(data(grammar), data(table), tokens, LENT, LENT)
+    return lines(f'{number},{place},{len(tokens)},{len(rules)}', f'{reply},{taken},{len(listing)},{units}', int(listing == rules))
+
+
 def written(call, words):
     words = [int(w[:-1]) if w.endswith(',') else w for w in words]
     if call in ('7,', '8,'):
         return listed(sessions.list_expected if call == '7,' else sessions.list_expected_scans, *words)
     if call in ('5,', '6,'):
         return session(sessions.run_session if call == '5,' else sessions.run_scans, *words)
-    return {'1,': read_grammar, '2,': check_tables, '3,': build_tables, '4,': read_scans, '9,': make_load}[call](*words)
+    return {'1,': read_grammar, '2,': check_tables, '3,': build_tables, '4,': read_scans, '9,': make_load, '10,': walk_load}[call](*words)
 
 
 # ---- cases
@@ -129,7 +136,7 @@ def given(kind, root):
 
 def of_kind(kind, at, name):
     """The calls of one case."""
-    args = next(args for k, args in PROGRAMS.values() if k == kind)
+    args = next((args for k, args in PROGRAMS.values() if k == kind), [])
     files = {f: f for f in os.listdir(at)}
     if 'arg1' in files:
         files = {file: f'arg{i + 1}' for i, file in enumerate(args)}
@@ -158,6 +165,9 @@ def of_kind(kind, at, name):
     books = [put('grammar', '.grammar'), put('table', '.tables')]
     if kind == 'expected':
         return [('8,', [*books, put('scans', '.scans'), '65536,', '65536,', '64,'])]
+    if kind == 'walk':
+        words = [*books, put('loaded')]
+        return [('10,', [*words, *(n + ',' for n in line.split(','))]) for line in load(at, 'loads').decode().split()]
     lent = numbers('lens', '65535,65535')
     return [(call, [*books, put(file, '.' + file), *lent]) for call, file in (('5,', 'tokens'), ('6,', 'scans')) if file in files]
 

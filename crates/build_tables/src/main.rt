@@ -20,7 +20,7 @@ fn show(grammar: &[u8]) {
 
 fn main() {
     // One byte more than a book may have.
-    let mut grammar = [0u8; 65537];
+    let mut grammar = [0u8; program::FILE];
     let input = program::read_argument(
         1,
         b"GRAMMAR",

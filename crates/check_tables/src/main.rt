@@ -10,12 +10,12 @@ fn show(grammar: &[u8], book: &[u8]) {
 fn main() {
     let usage = b"usage: check_tables GRAMMAR TABLES\n";
     // One byte more than a book may have.
-    let mut grammar = [0u8; 65537];
+    let mut grammar = [0u8; program::FILE];
     let first = program::read_argument(1, b"GRAMMAR", usage, &mut grammar);
     if first.failed {
         return;
     }
-    let mut book = [0u8; 65537];
+    let mut book = [0u8; program::FILE];
     let second = program::read_argument(2, b"TABLES", usage, &mut book);
     if second.failed {
         return;

@@ -307,7 +307,7 @@ fn show(grammar: &[u8]) {
 // Reads the grammar book that argument i names.
 fn run(i: usize) {
     // One byte more than a book may have.
-    let mut grammar = [0u8; 65537];
+    let mut grammar = [0u8; program::FILE];
     let input = program::read_argument(
         i,
         b"GRAMMAR",

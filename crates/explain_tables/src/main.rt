@@ -125,12 +125,12 @@ fn show(grammar: &[u8], book: &[u8]) {
 // Reads both books, which the arguments i and `next` name.
 fn run(i: usize, next: usize, usage: &[u8]) {
     // One byte more than a book may have.
-    let mut grammar = [0u8; 65537];
+    let mut grammar = [0u8; program::FILE];
     let first = program::read_argument(i, b"GRAMMAR", usage, &mut grammar);
     if first.failed {
         return;
     }
-    let mut book = [0u8; 65537];
+    let mut book = [0u8; program::FILE];
     let second = program::read_argument(next, b"TABLES", usage, &mut book);
     if second.failed {
         return;

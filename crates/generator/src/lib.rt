@@ -21,6 +21,9 @@ ghost use Rattle.generate_loads.specs.Load.{load};
 ghost use Rattle.generator.specs.Generated.{Tells, loadOf, generated, asReply, tokenCount, ruleCount};
 ghost use Rattle.generator.specs.Written.{PutsToken, PutsRule, atMark, Inside, StaysIn, Expandable, Expands};
 
+// The most tokens that a load may have.
+pub const TOKENS: usize = 65535;
+
 // How far the expansion is: the state, and how many tokens and rules are written.
 pub struct Point {
     pub state: u32,
@@ -138,14 +141,14 @@ fn expand(
     put_rule(listing, i, n, mark, at)
 }
 
-// The lesser of a slice's length and the most tokens that a load may have.
+// The lesser of a slice's length and TOKENS.
 fn capped(n: usize) -> usize
     ensures { λ r. ⌜ (r ≤ n) × (r ≤ 65535) × ((r ≡ n) ⊎ (r ≡ 65535)) ⌝ }
 {
-    if n <= 65535 {
+    if n <= TOKENS {
         return n;
     }
-    65535
+    TOKENS
 }
 
 fn refuse(kind: Kind, place: usize) -> GeneratorReply

@@ -1,24 +1,9 @@
 // make_load GRAMMAR SEED DEPTH: writes a test load, a sentence of the grammar that the seed and the depth settle, and its listing. Prints
 // the reply's number and place, how many tokens and rules there are, then each token on a line, then each rule on a line.
-ghost use mathlib.Core.Path.{_≡_};
-ghost use lib.ListN.{length};
-
-// The bytes of a file that are read: one more than the most that a file may have.
-const LONGEST: usize = 65537;
-// The most tokens that a load may have.
-const TOKENS: usize = 65535;
-// The rules that a listing may come to.
-const LENT: usize = 1048576;
-
-fn lend() -> [u8; LENT]
-    ensures { λ r. ⌜ 1048576 ≡ length r ⌝ }
-{
-    [0; LENT]
-}
 
 fn show(grammar: &[u8], seed: u32, depth: usize) {
-    let mut tokens = [0u8; TOKENS];
-    let mut listing = lend();
+    let mut tokens = [0u8; generator::TOKENS];
+    let mut listing = program::lend(0);
     let mut out = program::output();
     let answer = generator::make_load(grammar, seed, depth, &mut tokens, &mut listing);
     let reply = generator::as_reply(answer);
@@ -36,7 +21,7 @@ fn show(grammar: &[u8], seed: u32, depth: usize) {
 
 fn main() {
     let usage = b"usage: make_load GRAMMAR SEED DEPTH\n";
-    let mut grammar = [0u8; LONGEST];
+    let mut grammar = [0u8; program::FILE];
     let book = program::read_argument(1, b"GRAMMAR", usage, &mut grammar);
     if book.failed {
         return;

@@ -22,6 +22,19 @@ pub struct Input {
     pub failed: bool,
 }
 
+// The bytes of a file that are read: one more than the most that a file may have.
+pub const FILE: usize = 65537;
+
+// The states, and the rules, that a walk or a load may come to.
+pub const LENT: usize = 1048576;
+
+// A slice of so many bytes, all alike.
+pub fn lend(byte: u8) -> [u8; LENT]
+    ensures { λ r. ⌜ 1048576 ≡ length r ⌝ }
+{
+    [byte; LENT]
+}
+
 // The least number of more than 32 bits, which stands for every greater one too.
 const BEYOND: u64 = 4294967296;
 
@@ -355,19 +368,6 @@ pub fn print_figures(out: &mut [u8; OUTPUT], a: u64, b: u64, c: u64, d: u64) {
     print_field(out, a);
     print_field(out, b);
     print_pair(out, c, d);
-}
-
-// Prints what a session answers: `number,place,rules,units`, then each listed rule on a line.
-pub fn print_session(
-    out: &mut [u8; OUTPUT],
-    number: u64,
-    place: u64,
-    rules: u64,
-    units: u64,
-    listing: &[u8],
-) {
-    print_figures(out, number, place, rules, units);
-    print_bytes(out, listing);
 }
 
 // Prints a text and a number.

@@ -10,7 +10,7 @@ fn show(book: &[u8]) {
 
 fn main() {
     // One byte more than a book may have.
-    let mut book = [0u8; 65537];
+    let mut book = [0u8; program::FILE];
     let input = program::read_argument(1, b"GRAMMAR", b"usage: read_grammar GRAMMAR\n", &mut book);
     if input.failed {
         return;

@@ -11,7 +11,7 @@ fn show(file: &[u8]) {
 }
 
 fn main() {
-    let mut file = [0u8; 65537];
+    let mut file = [0u8; program::FILE];
     let input = program::read_argument(1, b"SCANS", b"usage: read_scans SCANS\n", &mut file);
     if input.failed {
         return;

@@ -8,12 +8,16 @@
 //     7, GRAMMAR TABLES TOKENS STACK, LISTING, CODES,   list_expected; 65,536 stands for all that the program can lend
 //     8, GRAMMAR TABLES SCANS STACK, LISTING, CODES,    list_expected_scans
 //     9, GRAMMAR SEED, DEPTH, TOKENS, LISTING,   make_load; 65,536 rules stand for all that the program can lend
+//     10, GRAMMAR TABLES LOADED SEED, DEPTH,     run_session over the load that make_load writes of the grammar LOADED
 // Prints for each the name of its last file, what the call answers, and what is not 0 in each slice that was lent, which held 7s; of a load
-// a line stands for a run of equal bytes.
+// a line stands for a run of equal bytes, and of one that is walked 1 for the same listing from both calls, 0 for another.
 use expected_trials::ExpectedReply;
+use generator::GeneratorReply;
 use program::Input;
 use program::OUTPUT;
+use program::LENT;
 use program::argument_number;
+use program::lend;
 use program::print_text;
 use reply::Reply;
 use session::SessionReply;
@@ -64,7 +68,7 @@ fn show_grammar(out: &mut [u8; OUTPUT], book: &[u8]) {
 }
 
 fn run_grammar(i: usize) {
-    let mut book = [0u8; 65537];
+    let mut book = [0u8; program::FILE];
     let input = read(i, &mut book);
     let n = input.size;
     let mut out = named(i);
@@ -80,8 +84,8 @@ fn show_check(out: &mut [u8; OUTPUT], grammar: &[u8], tables: &[u8]) {
 fn run_check(i: usize)
     requires { ⌜ i + 1 < 18446744073709551616 ⌝ }
 {
-    let mut grammar = [0u8; 65537];
-    let mut tables = [0u8; 65537];
+    let mut grammar = [0u8; program::FILE];
+    let mut tables = [0u8; program::FILE];
     let first = read(i, &mut grammar);
     let second = read(i + 1, &mut tables);
     let n = first.size;
@@ -134,7 +138,7 @@ fn show_in(out: &mut [u8; OUTPUT], call: usize, input: &[u8], slice: &mut [u8], 
 fn run_one(call: usize, i: usize, room: usize)
     requires { ⌜ room ≤ 65536 ⌝ }
 {
-    let mut file = [0u8; 65537];
+    let mut file = [0u8; program::FILE];
     let mut slice = [7u8; 65536];
     let input = read(i, &mut file);
     let n = input.size;
@@ -157,6 +161,18 @@ fn walk(
     scan_session::run_scans(grammar, tables, input, stack, listing)
 }
 
+// Prints the reply of a session and its counts.
+fn print_walked(out: &mut [u8; OUTPUT], answer: SessionReply) {
+    let reply = walker::as_reply(answer);
+    program::print_figures(
+        out,
+        reply::number(reply),
+        reply::place(reply) as u64,
+        walker::rule_count(answer) as u64,
+        walker::unit_count(answer) as u64,
+    );
+}
+
 fn show_session(
     out: &mut [u8; OUTPUT],
     call: usize,
@@ -166,16 +182,8 @@ fn show_session(
     stack: &mut [u8],
     listing: &mut [u8],
 ) {
-    let answer = walk(call, grammar, tables, input, stack, listing);
-    let reply = walker::as_reply(answer);
-    program::print_session(
-        out,
-        reply::number(reply),
-        reply::place(reply) as u64,
-        walker::rule_count(answer) as u64,
-        walker::unit_count(answer) as u64,
-        listing,
-    );
+    print_walked(out, walk(call, grammar, tables, input, stack, listing));
+    program::print_bytes(out, listing);
     program::print_bytes(out, stack);
 }
 
@@ -285,15 +293,6 @@ fn show_expected_in(
     );
 }
 
-// The most states that are lent for a list, and rules for a list or a load.
-const LENT: usize = 1048576;
-
-fn lend() -> [u8; LENT]
-    ensures { λ r. ⌜ 1048576 ≡ length r ⌝ }
-{
-    [7; LENT]
-}
-
 fn lent(n: usize) -> usize
     ensures { λ r. ⌜ r ≤ 1048576 ⌝ }
 {
@@ -315,8 +314,8 @@ fn show_expected_lent(
 )
     requires { ⌜ m ≤ 65536 ⌝ }
 {
-    let mut stack = lend();
-    let mut listing = lend();
+    let mut stack = lend(7);
+    let mut listing = lend(7);
     let mut codes = [7u8; 65536];
     let mut out = named(i);
     show_expected_in(
@@ -335,12 +334,60 @@ fn show_expected_lent(
     program::flush(&mut out);
 }
 
+// Prints the reply of a load and its counts.
+fn print_written(out: &mut [u8; OUTPUT], answer: GeneratorReply) {
+    let reply = generator::as_reply(answer);
+    program::print_figures(
+        out,
+        reply::number(reply),
+        reply::place(reply) as u64,
+        generator::token_count(answer) as u64,
+        generator::rule_count(answer) as u64,
+    );
+}
+
+// Walks a load, and compares the listings.
+fn show_walk(
+    out: &mut [u8; OUTPUT],
+    grammar: &[u8],
+    tables: &[u8],
+    tokens: &[u8],
+    listing: &[u8],
+) {
+    let mut stack = lend(7);
+    let mut walked = lend(7);
+    let answer = session::run_session(grammar, tables, tokens, &mut stack, &mut walked);
+    print_walked(out, answer);
+    program::print_number(out, check::same(listing, &walked) as u64);
+}
+
+fn show_walked_load(
+    i: usize,
+    grammar: &[u8],
+    tables: &[u8],
+    loaded: &[u8],
+    seed: usize,
+    depth: usize,
+)
+    requires { ⌜ seed ≤ 65536 ⌝ }
+{
+    let mut tokens = [7u8; generator::TOKENS];
+    let mut listing = lend(7);
+    let mut out = named(i);
+    let answer = generator::make_load(loaded, seed as u32, depth, &mut tokens, &mut listing);
+    print_written(&mut out, answer);
+    let n = generator::token_count(answer);
+    show_walk(&mut out, grammar, tables, &tokens[..n], &listing);
+    program::flush(&mut out);
+}
+
+// A session over a file; for a load that is walked n and k are its seed and its depth.
 fn run_session(call: usize, i: usize, n: usize, k: usize, m: usize)
     requires { ⌜ (i + 2 < 18446744073709551616) × (n ≤ 65536) × (k ≤ 65536) × (m ≤ 65536) ⌝ }
 {
-    let mut grammar = [0u8; 65537];
-    let mut tables = [0u8; 65537];
-    let mut input = [0u8; 65537];
+    let mut grammar = [0u8; program::FILE];
+    let mut tables = [0u8; program::FILE];
+    let mut input = [0u8; program::FILE];
     let first = read(i, &mut grammar);
     let second = read(i + 1, &mut tables);
     let third = read(i + 2, &mut input);
@@ -349,6 +396,10 @@ fn run_session(call: usize, i: usize, n: usize, k: usize, m: usize)
     let c = third.size;
     if call < 7 {
         show_lent(call, i + 2, &grammar[..a], &tables[..b], &input[..c], n, k);
+        return;
+    }
+    if call == 10 {
+        show_walked_load(i + 2, &grammar[..a], &tables[..b], &input[..c], n, k);
         return;
     }
     show_expected_lent(
@@ -402,14 +453,9 @@ fn show_load(
     tokens: &mut [u8],
     listing: &mut [u8],
 ) {
-    let answer = generator::make_load(grammar, seed, depth, tokens, listing);
-    let reply = generator::as_reply(answer);
-    program::print_figures(
+    print_written(
         out,
-        reply::number(reply),
-        reply::place(reply) as u64,
-        generator::token_count(answer) as u64,
-        generator::rule_count(answer) as u64,
+        generator::make_load(grammar, seed, depth, tokens, listing),
     );
     print_runs(out, tokens);
     print_runs(out, listing);
@@ -441,9 +487,9 @@ fn show_load_in(
 fn run_load(i: usize, n: usize, k: usize)
     requires { ⌜ (i + 2 < 18446744073709551616) × (n ≤ 65536) ⌝ }
 {
-    let mut grammar = [0u8; 65537];
+    let mut grammar = [0u8; program::FILE];
     let mut tokens = [7u8; 65536];
-    let mut listing = lend();
+    let mut listing = lend(7);
     let input = read(i, &mut grammar);
     let size = input.size;
     let mut out = named(i);
@@ -479,7 +525,7 @@ fn run_case(i: usize) -> usize
             run_one(call, i + 1, figure(i + 2));
             i + 3
         }
-        5 | 6 => {
+        5 | 6 | 10 => {
             run_session(call, i + 1, figure(i + 4), figure(i + 5), 0);
             i + 6
         }
