@@ -1,7 +1,6 @@
 // run_session GRAMMAR TABLES SCANS: walks the scans of a file, with the house letters, by the tables of a book that is checked
 // against the grammar's. Prints the reply's number and place, the number of rules and that of units, then each listed rule on a line.
 
-
 fn show(grammar: &[u8], tables: &[u8], scans: &[u8]) {
     let mut stack = program::lend(0);
     let mut listing = program::lend(0);

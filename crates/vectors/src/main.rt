@@ -14,8 +14,8 @@
 use expected_trials::ExpectedReply;
 use generator::GeneratorReply;
 use program::Input;
-use program::OUTPUT;
 use program::LENT;
+use program::OUTPUT;
 use program::argument_number;
 use program::lend;
 use program::print_text;
@@ -347,13 +347,7 @@ fn print_written(out: &mut [u8; OUTPUT], answer: GeneratorReply) {
 }
 
 // Walks a load, and compares the listings.
-fn show_walk(
-    out: &mut [u8; OUTPUT],
-    grammar: &[u8],
-    tables: &[u8],
-    tokens: &[u8],
-    listing: &[u8],
-) {
+fn show_walk(out: &mut [u8; OUTPUT], grammar: &[u8], tables: &[u8], tokens: &[u8], listing: &[u8]) {
     let mut stack = lend(7);
     let mut walked = lend(7);
     let answer = session::run_session(grammar, tables, tokens, &mut stack, &mut walked);
