@@ -8,6 +8,7 @@ use borrow.Author.Tests.{leb-true}
 use lib.Dec.{leb}
 use lib.ListN.{length, drop, length-append}
 use lib.Seq.{drop-length, append-snoc, drop-drop, drop-append-seam}
+use Rattle.language.proofs.TestLaws.{both-true}
 use Rattle.text.specs.declared.End.the-variants.{Past}
 use Rattle.text.specs.declared.Field.the-variants as field
 use Rattle.text.specs.Digits.{digits}
@@ -18,7 +19,6 @@ use Rattle.text.proofs.Promise.{written-number}
 use Rattle.digits.specs.Exact.{exactAt}
 use Rattle.digits.proofs.CapLaws.{field-exact}
 use Rattle.table_lines.specs.Line.{whole, broken, numbersFrom, lineAt, allAtMost}
-use Rattle.table_lines.proofs.ListLaws.{both-true}
 use Rattle.build_book.specs.Text.{fields, line}
 
 -- w is what s has from `at` on; so w and s give the place

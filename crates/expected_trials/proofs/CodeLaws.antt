@@ -12,9 +12,10 @@ use Rattle.leftcorner.specs.Machine.{Verdict, whole-at, wrong-at, short-at}
 use Rattle.leftcorner.proofs.ReadOff.{clash}
 use Rattle.reply.specs.Reply.{kindNumber}
 use Rattle.reply.specs.declared.Refusal.{Refusal}
+use Rattle.reply.specs.Reply.{padded}
 use Rattle.walker.specs.declared.Walked.{Walked}
 use Rattle.walker.specs.declared.Walked.the-variants as walked
-use Rattle.walker.specs.Walked.{memoryWalk, answer, padded}
+use Rattle.walker.specs.Walked.{memoryWalk, answer}
 use Rattle.machine.specs.declared.Machine.{Machine}
 use Rattle.expected_trials.specs.declared.Trial.{Trial}
 use Rattle.expected_trials.specs.declared.Trial.the-variants.{Fits, Misfit, Outgrown}

@@ -8,7 +8,7 @@ use lib.ListN.{length, replicate}
 use Rattle.leftcorner.specs.Machine.{Verdict, whole-at, wrong-at, short-at}
 use Rattle.reply.specs.declared.Kind.the-variants.{BufferTooSmall}
 use Rattle.reply.specs.declared.Refusal.{Refusal}
-use Rattle.walker.specs.Walked.{padded}
+use Rattle.reply.specs.Reply.{padded}
 use Rattle.expected_trials.specs.declared.Trial.{Trial}
 use Rattle.expected_trials.specs.declared.Trial.the-variants.{Fits, Misfit, Outgrown}
 use Rattle.expected_trials.specs.declared.ExpectedReply.{ExpectedReply}

@@ -13,11 +13,12 @@ use lib.Dec.{leb}
 use borrow.Author.Tests.{lt-ltb, le-ltb, le-leb, lt-leb}
 use Rattle.language.specs.Grammar.{Grammar, Rule, right, ruleAt}
 use Rattle.language.specs.Sentence.{In}
+use Rattle.language.specs.Tests.{all}
 use Rattle.language.proofs.GrammarLaws.{range-rule, rule-range}
 use Rattle.symbol.specs.Symbol.{isTerminal}
 use Rattle.symbol.proofs.KindLaws.{terminal-is}
 use Rattle.items.specs.Layout.{leftAt}
-use Rattle.generate_loads.specs.Load.{rightIn, rightOf, rulesOf, IsSymbol, all, first, derivesWithin, heightOf}
+use Rattle.generate_loads.specs.Load.{rightIn, rightOf, rulesOf, IsSymbol, first, derivesWithin, heightOf}
 use Rattle.generate_loads.proofs.RuleLaws.{clash, nonterminal-false, all-in, in-all, rules-in}
 use Rattle.generate_loads.proofs.HeightLaws.{within-zero, within-terminal, within-suc, within-le, within-rule, rule-within, height-is, height-terminal, Stable, closed}
 use Rattle.generate_heights.specs.Heights.{Source, HoldsHeights, isLower, lowerIn, Started, Reached}

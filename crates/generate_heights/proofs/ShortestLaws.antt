@@ -12,7 +12,8 @@ use lib.Dec.{ltb}
 use borrow.Author.Tests.{lt-ltb, le-ltb}
 use Rattle.language.specs.Grammar.{Grammar, Rule, IsNonterminal}
 use Rattle.language.specs.Sentence.{In, here, there}
-use Rattle.generate_loads.specs.Load.{rulesOf, rightIn, rightOf, IsSymbol, all, first, derivesWithin, heightOf, shortest}
+use Rattle.language.specs.Tests.{all}
+use Rattle.generate_loads.specs.Load.{rulesOf, rightIn, rightOf, IsSymbol, first, derivesWithin, heightOf, shortest}
 use Rattle.generate_loads.proofs.RuleLaws.{clash, rules-in}
 use Rattle.generate_loads.proofs.HeightLaws.{within-le, height-is, height-nonterminal}
 use Rattle.generate_heights.specs.Heights.{Source, HoldsHeights, isLower, lowerIn}

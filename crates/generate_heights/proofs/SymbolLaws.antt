@@ -9,8 +9,8 @@ use lib.Seq.{ext-getD}
 use borrow.Author.Tests.{lt-ltb, le-ltb}
 use Rattle.language.specs.Grammar.{Rule, right}
 use Rattle.language.specs.Sentence.{In, here, there}
+use Rattle.language.specs.Tests.{all}
 use Rattle.items.specs.Layout.{lengthAt, symbolAt, RuleIn}
-use Rattle.generate_loads.specs.Load.{all}
 use Rattle.generate_heights.specs.Heights.{symbolsFrom, isLower, lowerIn}
 
 -- of n symbols of rule i those from place k on

@@ -8,8 +8,9 @@ use lib.Dec.{leb, ltb}
 use Rattle.language.specs.Grammar.{Grammar}
 use Rattle.language.specs.Sentence.{AllProductive}
 use Rattle.language.specs.WellFormed.{WellFormed}
+use Rattle.language.specs.Tests.{all}
 use Rattle.items.specs.Layout.{Holds, lengthAt, symbolAt}
-use Rattle.generate_loads.specs.Load.{IsSymbol, all, derivesWithin, heightOf}
+use Rattle.generate_loads.specs.Load.{IsSymbol, derivesWithin, heightOf}
 
 -- memory holds the rules of g, whose symbols all have a height
 pub record Source (items : List ℕ) (rules : ℕ) (g : Grammar) : Type 0 where

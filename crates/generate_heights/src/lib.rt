@@ -10,7 +10,7 @@ ghost use Rattle.generate_loads.specs.Load.{shortest};
 ghost use Rattle.generate_heights.specs.Heights.{Source, lowerIn, Started, Reached, HoldsHeights};
 
 // So many bytes hold the heights, by symbol.
-pub const HEIGHTS: usize = 128;
+const HEIGHTS: usize = 128;
 
 // The height of a symbol that has none yet.
 const UNSET: u8 = 255;

@@ -10,10 +10,11 @@ use native.Mathlib.Decide.{ℕ-discrete}
 use Rattle.language.specs.Grammar.{Grammar, Rule, right, ruleAt, IsTerminal, IsNonterminal}
 use Rattle.language.specs.Sentence.{In, Productive, AllProductive}
 use Rattle.language.specs.WellFormed.{WellFormed}
+use Rattle.language.specs.Tests.{all, any}
 use Rattle.grammar_reduction.specs.Derives.{derive-every, productive-rules}
 use Rattle.symbol.specs.Symbol.{isTerminal}
 use Rattle.symbol.proofs.KindLaws.{terminal-is}
-use Rattle.generate_loads.specs.Load.{rightIn, rightOf, rulesOf, IsSymbol, all, any, first, derivesWithin, heightFrom, heightOf, shortest}
+use Rattle.generate_loads.specs.Load.{rightIn, rightOf, rulesOf, IsSymbol, first, derivesWithin, heightFrom, heightOf, shortest}
 use Rattle.generate_loads.proofs.RuleLaws.{clash, nonterminal-false, all-in, in-all, in-any, any-first, rules-in, in-rules}
 
 -- ---- counting what passes a test among k numbers from x on

@@ -11,10 +11,11 @@ use Rattle.language.specs.Grammar.{Grammar, Rule, right, IsNonterminal}
 use Rattle.language.specs.Derivation.{Tree, Forest, leaf, node, nil, cons, IsTree, IsForest}
 use Rattle.language.specs.Sentence.{In, here, there, AllProductive}
 use Rattle.language.specs.WellFormed.{WellFormed}
+use Rattle.language.specs.Tests.{all}
 use Rattle.language.proofs.Forests.{All, tree-ind, all-ind}
 use Rattle.symbol.specs.Symbol.{isTerminal}
 use Rattle.symbol.proofs.KindLaws.{terminal-is}
-use Rattle.generate_loads.specs.Load.{rightIn, rightOf, IsSymbol, all, derivesWithin, heightOf, shortest, choice, Grown, growAll, nodeOver, grow, grown}
+use Rattle.generate_loads.specs.Load.{rightIn, rightOf, IsSymbol, derivesWithin, heightOf, shortest, choice, Grown, growAll, nodeOver, grow, grown}
 use Rattle.generate_loads.specs.Lowest.{height, heights, FirstLowest}
 use Rattle.generate_loads.proofs.RuleLaws.{in-all, in-rules, first-least}
 use Rattle.generate_loads.proofs.HeightLaws.{within-terminal, within-le, within-rule, height-is}

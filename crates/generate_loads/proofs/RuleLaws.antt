@@ -2,7 +2,7 @@
 use Prim.Native.Nat.{ℕ, zero, suc, _+_, _≤_}
 use mathlib.Core.Path.{_≡_, refl, sym, ap, subst, _∙_}
 use mathlib.Core.Logic.{_⊎_, inl, inr}
-use mathlib.Core.Bool.{Bool, true, false, cond, _||_, _&&_}
+use mathlib.Core.Bool.{Bool, true, false, cond, _||_}
 use mathlib.Core.List.{List, [], _∷_}
 use mathlib.Core.Option.{some}
 use native.Mathlib.Omega.{arith}
@@ -10,19 +10,17 @@ use lib.Dec.{eqb}
 use borrow.Author.Tests.{eqb-true, eq-eqb}
 use Rattle.language.specs.Grammar.{Grammar, Rule, at, ruleAt, IsNonterminal}
 use Rattle.language.specs.Sentence.{In, here, there}
+use Rattle.language.specs.Tests.{all, any}
 use Rattle.language.proofs.Member.{in-cons}
+use Rattle.language.proofs.TestLaws.{both-true}
 use Rattle.language.proofs.GrammarLaws.{not-there}
 use Rattle.symbol.specs.Symbol.{isTerminal}
 use Rattle.symbol.proofs.KindLaws.{is-terminal}
-use Rattle.generate_loads.specs.Load.{rulesFrom, rulesOf, all, any, first}
+use Rattle.generate_loads.specs.Load.{rulesFrom, rulesOf, first}
 
 -- a test that comes out both ways
 pub clash : {A : Type 0} {b : Bool} → b ≡ true → b ≡ false → A
 clash t f = let z : _≡_ {A = ℕ} 0 1 = ap (λ (b : Bool). cond b 0 1) (sym t ∙ f) in absurd (omega arith)
-
-pub both-true : (b : Bool) {c : Bool} → b && c ≡ true → (b ≡ true) × (c ≡ true)
-both-true true e = (refl, e)
-both-true false e = clash e refl
 
 pub nonterminal-false : (g : Grammar) (X : ℕ) → g .terminals ≤ 63 → IsNonterminal g X → isTerminal (g .terminals) X ≡ false
 nonterminal-false g X t n = go (isTerminal (g .terminals) X) refl
@@ -33,8 +31,8 @@ nonterminal-false g X t n = go (isTerminal (g .terminals) X) refl
 
 -- ---- all, any, first
 pub all-in : (p : ℕ → Bool) (l : List ℕ) → all p l ≡ true → (a : ℕ) → In a l → p a ≡ true
-all-in p (X ∷ l) e a here = both-true (p X) e .0
-all-in p (X ∷ l) e a (there m) = all-in p l (both-true (p X) e .1) a m
+all-in p (X ∷ l) e a here = both-true (p X) (all p l) e .0
+all-in p (X ∷ l) e a (there m) = all-in p l (both-true (p X) (all p l) e .1) a m
 
 pub in-all : (p : ℕ → Bool) (l : List ℕ) → ((a : ℕ) → In a l → p a ≡ true) → all p l ≡ true
 in-all p [] h = refl

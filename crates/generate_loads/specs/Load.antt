@@ -1,13 +1,14 @@
 -- The load of a grammar, a seed and a depth, as a derivation. Document 02, S-4.
 use Prim.Native.Nat.{ℕ, zero, suc, _+_, _-_, _*_, _/_, _%_}
 use mathlib.Core.Logic.{_⊎_}
-use mathlib.Core.Bool.{Bool, true, false, cond, _||_, _&&_}
+use mathlib.Core.Bool.{Bool, cond, _||_}
 use mathlib.Core.List.{List, [], _∷_}
 use mathlib.Core.Option.{Option, some, none}
 use lib.ListN.{length, getD}
 use lib.Dec.{eqb}
 use Rattle.language.specs.Grammar.{Grammar, Rule, right, ruleAt, IsTerminal, IsNonterminal}
 use Rattle.language.specs.Derivation.{Tree, Forest, leaf, node, nil, cons}
+use Rattle.language.specs.Tests.{all, any}
 use Rattle.symbol.specs.Symbol.{isTerminal}
 
 -- "The state steps to 1103515245 times the state plus 12345, modulo 4294967296."
@@ -18,16 +19,7 @@ stepped s = (1103515245 * s + 12345) % 4294967296
 unfoldable pub drawn : ℕ → ℕ
 drawn s = stepped s / 65536
 
--- ---- tests along a list
-abbrev pub all : (ℕ → Bool) → List ℕ → Bool
-all p [] = true
-all p (X ∷ l) = p X && all p l
-
-abbrev pub any : (ℕ → Bool) → List ℕ → Bool
-any p [] = false
-any p (X ∷ l) = p X || any p l
-
--- the first that passes, 0 where none does
+-- the first that passes a test, 0 where none does
 abbrev pub first : (ℕ → Bool) → List ℕ → ℕ
 first p [] = 0
 first p (X ∷ l) = cond (p X) X (first p l)

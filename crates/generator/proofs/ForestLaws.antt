@@ -69,21 +69,20 @@ progress-more i mark k ls l h = go (ltb mark k) refl
         simp (q, take-append-le mark ls (l ∷ []) le, drop-append-le mark ls (l ∷ []) le, behind, append-assoc)
     go false q = simp (q, behind)
 
--- how long it is
+-- ---- how long they are
+parts-length : (n : ℕ) (ls : List (List ℕ)) → length (concat (take n ls)) + length (concat (drop n ls)) ≡ length (concat ls)
+parts-length n ls = sym (length-append (concat (take n ls)) (concat (drop n ls))) ∙ ap length (sym (concat-++ (take n ls) (drop n ls)) ∙ ap concat (take-append-drop n ls))
+
+-- with i between the parts
+between-length : (n i : ℕ) (ls : List (List ℕ)) → length (concat (take n ls) ++ i ∷ concat (drop n ls)) ≡ length (concat ls) + 1
+between-length n i ls = omega (arith, length-append (concat (take n ls)) (i ∷ concat (drop n ls)), parts-length n ls)
+
 pub progress-short : (i mark k : ℕ) (ls : List (List ℕ)) → length (progress i mark k ls) ≤ length (concat ls) + 1
 progress-short i mark k ls = go (ltb mark k)
   where
-    whole : length (concat (take mark ls)) + length (concat (drop mark ls)) ≡ length (concat ls)
-    whole = sym (length-append (concat (take mark ls)) (concat (drop mark ls))) ∙ ap length (sym (concat-++ (take mark ls) (drop mark ls)) ∙ ap concat (take-append-drop mark ls))
-
     go : (b : Bool) → length (cond b (concat (take mark ls) ++ i ∷ concat (drop mark ls)) (concat ls)) ≤ length (concat ls) + 1
-    go true = omega (arith, whole, length-append (concat (take mark ls)) (i ∷ concat (drop mark ls)))
+    go true = omega (arith, between-length mark i ls)
     go false = omega arith
 
 pub around-length : (r : Rule) (i : ℕ) (ls : List (List ℕ)) → length (around (some r) i ls) ≡ length (concat ls) + 1
-around-length r i ls =
-    length-append (concat (take n ls)) (i ∷ concat (drop n ls))
-    ∙ omega (arith, length-append (concat (take n ls)) (concat (drop n ls)), ap length (sym (concat-++ (take n ls) (drop n ls)) ∙ ap concat (take-append-drop n ls)))
-  where
-    n : ℕ
-    n = length (r .before)
+around-length r i ls = between-length (length (r .before)) i ls

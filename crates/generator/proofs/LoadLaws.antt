@@ -16,11 +16,12 @@ use Rattle.grammar.proofs.ReducedLaws.{ready-holds, goal-is}
 use Rattle.generate_loads.specs.Load.{IsSymbol, grown, load}
 use Rattle.generate_heights.specs.Heights.{Source}
 use Rattle.reply.specs.declared.Kind.the-variants.{BufferTooSmall}
+use Rattle.reply.specs.Reply.{padded}
 use Rattle.generator.specs.declared.Point.{Point}
 use Rattle.generator.specs.declared.Step.{Step}
 use Rattle.generator.specs.declared.GeneratorReply.{GeneratorReply}
 use Rattle.generator.specs.declared.GeneratorReply.the-variants.{Written, Refused}
-use Rattle.generator.specs.Generated.{padded, loadOf, Tells}
+use Rattle.generator.specs.Generated.{loadOf, Tells}
 use Rattle.generator.specs.Written.{Put, Writes}
 use Rattle.generator.proofs.AnswerLaws.{Misfits, fitted-written, fitted-short, tells-as}
 use Rattle.generator.proofs.PutLaws.{outgrown}
@@ -47,6 +48,7 @@ drop-zeros (suc i) (suc n) = drop-zeros i n ∙ ap (λ (k : ℕ). replicate {A =
 
 -- a list written at the start of zeros
 put-zeros : (l : List ℕ) (n : ℕ) → length l ≤ n → sets (replicate n 0) 0 l ≡ padded n l
+unfolding padded
 put-zeros l n h =
     sets-eq l (replicate n 0) 0 (omega (arith, length-replicate {A = ℕ} n 0))
     ∙ ap (λ (z : List ℕ). l ++ z) (ap (λ (k : ℕ). drop k (replicate {A = ℕ} n 0)) (zero-and (length l)) ∙ drop-zeros (length l) n)
@@ -56,6 +58,7 @@ put-zeros l n h =
 
 -- more zeros behind
 pad-more : (l : List ℕ) (e n : ℕ) → length l ≤ e → e ≤ n → padded e l ++ drop e (replicate n 0) ≡ padded n l
+unfolding padded
 pad-more l e n h m =
     ap (λ (z : List ℕ). padded e l ++ z) (drop-zeros e n)
     ∙ (append-assoc l (replicate (e - length l) 0) (replicate (n - e) 0)

@@ -1,9 +1,9 @@
 -- What the generator answers to a grammar book, a seed and a depth. Document 02, S-4: "From an accepted grammar, a 32-bit seed
 -- and a depth of 0 to 15, write a sentence and its listing."
-use Prim.Native.Nat.{ℕ, _-_}
+use Prim.Native.Nat.{ℕ}
 use mathlib.Core.Path.{_≡_}
 use mathlib.Core.Bool.{Bool, cond, _&&_}
-use mathlib.Core.List.{List, _++_}
+use mathlib.Core.List.{List}
 use lib.ListN.{length, replicate}
 use lib.Dec.{leb, ltb}
 use Rattle.language.specs.Grammar.{Grammar}
@@ -14,6 +14,7 @@ use Rattle.reply.specs.declared.Kind.the-variants.{LimitExceeded, BufferTooSmal
 use Rattle.reply.specs.declared.Refusal.{Refusal}
 use Rattle.reply.specs.declared.Reply.{Reply}
 use Rattle.reply.specs.declared.Reply.the-variants as reply
+use Rattle.reply.specs.Reply.{padded}
 use Rattle.grammar.specs.Book.{Book, accepted, rejected, grammarOf}
 use Rattle.generate_loads.specs.Load.{load}
 use Rattle.generator.specs.declared.GeneratorReply.{GeneratorReply}
@@ -24,10 +25,6 @@ pub record Answer : Type 0 where
   pub reply : GeneratorReply
   pub tokens : List ℕ
   pub listing : List ℕ
-
--- a list in a slice of n places, "followed by zeros"
-abbrev pub padded : ℕ → List ℕ → List ℕ
-padded n l = l ++ replicate (n - length l) 0
 
 -- with a token slice of n places and a listing slice of k
 module _ (n k : ℕ) where

@@ -10,6 +10,7 @@ use lib.ListN.{length}
 use Rattle.language.specs.Grammar.{Grammar, Rule, concat}
 use Rattle.language.specs.Sentence.{In, here, there}
 use Rattle.language.specs.WellFormed.{RuleFormed}
+use Rattle.language.specs.Tests.{any}
 use Rattle.range.proofs.TestLaws.{all-cond}
 use Rattle.symbol.specs.Symbol.{isDeclared}
 use Rattle.symbol.proofs.KindLaws.{is-nonterminal, is-declared}
@@ -18,7 +19,7 @@ use Rattle.text.specs.Field.{fieldAt}
 use Rattle.text.proofs.ElseLaws.{all-number, all-letter}
 use Rattle.grammar_rule.specs.Parts.{Part, Rest, parts, broken, symbol, caret, cut, partsAt, symbolsOf}
 use Rattle.grammar_rule.specs.Marks.{Shape, before, at-caret, in-group, at-cut, misplaced, withPart, shapeFrom, shapeOf, onMarked}
-use Rattle.grammar_rule.specs.RuleLine.{Line, read, refused, refusedAt, any, undeclared, overLimits, someUndeclared, ruleOf, isRule, ruleAt}
+use Rattle.grammar_rule.specs.RuleLine.{Line, read, refused, refusedAt, undeclared, overLimits, someUndeclared, ruleOf, isRule, ruleAt}
 use Rattle.grammar_rule.proofs.SeenLaws.{Seen, seen}
 use Rattle.grammar_rule.proofs.KeepLaws.{either-false}
 use Rattle.grammar_rule.proofs.LineLaws.{few, left-declared, all-declared}

@@ -9,6 +9,7 @@ use borrow.Author.Tests.{lt-ltb, not-false}
 use lib.Dec.{eqb}
 use lib.ListN.{length, set, replicate, length-append}
 use Rattle.language.specs.Grammar.{Grammar}
+use Rattle.language.specs.Tests.{any}
 use Rattle.symbol.specs.Symbol.{isDeclared}
 use Rattle.symbol.proofs.KindLaws.{is-declared}
 use Rattle.items.specs.Layout.{groupStarts}
@@ -17,7 +18,7 @@ use Rattle.items.proofs.GrowLaws.{before-starts, group-starts, last-starts, rul
 use Rattle.grammar_rule.specs.declared.Progress.{Progress}
 use Rattle.grammar_rule.specs.Parts.{Part, symbol, caret, cut, markOf, symbolsOf}
 use Rattle.grammar_rule.specs.Marks.{Shape, before, at-caret, in-group, at-cut, misplaced, withPart, shapeOf}
-use Rattle.grammar_rule.specs.RuleLine.{any, undeclared}
+use Rattle.grammar_rule.specs.RuleLine.{undeclared}
 use Rattle.grammar_rule.specs.Progress.{Tracks, stageOf}
 use Rattle.grammar_rule.specs.Memory.{EmptyRow, begins, withSymbol, beforeSeen, groupsSeen, startsSeen, Placed, Kept}
 use Rattle.grammar_rule.proofs.SeenLaws.{Seen, seen, symbols-symbol, symbols-mark, shape-more}

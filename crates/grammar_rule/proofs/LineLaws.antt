@@ -12,6 +12,7 @@ use lib.ListN.{length, replicate, length-append}
 use lib.Seq.{sets}
 use Rattle.language.specs.Grammar.{concat}
 use Rattle.language.specs.Listing.{unitOf}
+use Rattle.language.specs.Tests.{any}
 use Rattle.range.proofs.RangeLaws.{within-true}
 use Rattle.symbol.specs.Symbol.{isNonterminal}
 use Rattle.reply.specs.declared.Kind.the-variants as kind
@@ -31,7 +32,7 @@ use Rattle.grammar_rule.specs.declared.RuleLine.{RuleLine}
 use Rattle.grammar_rule.specs.declared.RuleLine.the-variants as line
 use Rattle.grammar_rule.specs.Parts.{Rest, parts, broken, partsAt, symbolsOf}
 use Rattle.grammar_rule.specs.Marks.{Shape, before, at-caret, in-group, at-cut, misplaced, shapeOf, onMarked}
-use Rattle.grammar_rule.specs.RuleLine.{Line, read, refused, refusedAt, any, large, undeclared, overLimits, someUndeclared, ruleOf, isRule, ruleAt}
+use Rattle.grammar_rule.specs.RuleLine.{Line, read, refused, refusedAt, large, undeclared, overLimits, someUndeclared, ruleOf, isRule, ruleAt}
 use Rattle.grammar_rule.specs.Progress.{Pointed, Answers, stageOf, placed, judged, refusedLine, lineOf}
 use Rattle.grammar_rule.specs.Memory.{withFigures, startsSeen, Placed, Filled, StoredBy, Stored}
 use Rattle.grammar_rule.proofs.SeenLaws.{Seen, seen}

@@ -6,11 +6,12 @@ use mathlib.Core.Bool.{Bool, true, false, cond, _||_}
 use native.Mathlib.Omega.{arith}
 use lib.Dec.{eqb}
 use lib.ListN.{length, length-append}
+use Rattle.language.specs.Tests.{any}
 use Rattle.grammar_rule.specs.declared.Stage.{Stage}
 use Rattle.grammar_rule.specs.declared.Progress.{Progress}
 use Rattle.grammar_rule.specs.Parts.{Part, symbol, caret, cut, markOf, symbolsOf}
 use Rattle.grammar_rule.specs.Marks.{Shape, before, at-caret, in-group, at-cut, misplaced, withPart, shapeOf}
-use Rattle.grammar_rule.specs.RuleLine.{any, large, undeclared}
+use Rattle.grammar_rule.specs.RuleLine.{large, undeclared}
 use Rattle.grammar_rule.specs.Progress.{Tracks, Pointed, stageOf, afterSymbol, afterCaret, afterCut, afterMark, pointAt, addSymbol, addMark}
 use Rattle.grammar_rule.proofs.SeenLaws.{Seen, seen, symbols-symbol, symbols-mark, shape-more}
 

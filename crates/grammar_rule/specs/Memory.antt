@@ -6,12 +6,13 @@ use mathlib.Core.Bool.{Bool, true, false, cond}
 use lib.Dec.{ltb}
 use lib.ListN.{length, getD, set, replicate}
 use lib.Seq.{sets}
+use Rattle.language.specs.Tests.{any}
 use Rattle.items.specs.Layout.{body, groupStarts, rowOf}
 use Rattle.grammar_rule.specs.declared.Stage.{Stage}
 use Rattle.grammar_rule.specs.declared.Stage.the-variants as stage
 use Rattle.grammar_rule.specs.Parts.{Part, Rest, parts, broken, symbolsOf}
 use Rattle.grammar_rule.specs.Marks.{Shape, before, at-caret, in-group, at-cut, misplaced, shapeOf}
-use Rattle.grammar_rule.specs.RuleLine.{Line, read, refused, any, undeclared}
+use Rattle.grammar_rule.specs.RuleLine.{Line, read, refused, undeclared}
 
 -- the row at `base` is zeros
 pub record EmptyRow (m : List ℕ) (base : ℕ) : Type 0 where

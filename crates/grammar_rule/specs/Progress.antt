@@ -5,6 +5,7 @@ use mathlib.Core.List.{List}
 use mathlib.Core.Bool.{Bool, true, false, cond, not, _||_}
 use lib.Dec.{ltb, eqb}
 use lib.ListN.{length}
+use Rattle.language.specs.Tests.{any}
 use Rattle.symbol.specs.Symbol.{isNonterminal}
 use Rattle.reply.specs.declared.Kind.{Kind}
 use Rattle.reply.specs.declared.Kind.the-variants as kind
@@ -17,7 +18,7 @@ use Rattle.grammar_rule.specs.declared.RuleLine.{RuleLine}
 use Rattle.grammar_rule.specs.declared.RuleLine.the-variants as line
 use Rattle.grammar_rule.specs.Parts.{Part, Rest, parts, broken, symbolsOf}
 use Rattle.grammar_rule.specs.Marks.{Shape, before, at-caret, in-group, at-cut, misplaced, shapeOf}
-use Rattle.grammar_rule.specs.RuleLine.{Line, read, refused, any, large, undeclared}
+use Rattle.grammar_rule.specs.RuleLine.{Line, read, refused, large, undeclared}
 
 abbrev pub stageOf : Shape → Stage
 stageOf (before α) = stage.Before

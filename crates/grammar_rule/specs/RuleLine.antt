@@ -1,10 +1,11 @@
 -- A rule line. Document 01, 'Books': "`R,left,...` or `U,left,...`. U marks a unit rule. After `left` come the right side's symbols".
 use Prim.Native.Nat.{ℕ}
-use mathlib.Core.List.{List, [], _∷_}
+use mathlib.Core.List.{List}
 use mathlib.Core.Bool.{Bool, false, cond, not, _||_}
 use lib.Dec.{ltb, eqb}
 use lib.ListN.{length}
 use Rattle.language.specs.Grammar.{Rule}
+use Rattle.language.specs.Tests.{any}
 use Rattle.symbol.specs.Symbol.{isNonterminal, isDeclared}
 use Rattle.reply.specs.declared.Kind.{Kind}
 use Rattle.reply.specs.declared.Kind.the-variants as kind
@@ -20,11 +21,6 @@ pub data Line : Type 0 where
 
 abbrev pub refusedAt : ℕ → Kind → Line
 refusedAt at k = refused (record { kind = k; place = at })
-
--- some symbol passes a test
-abbrev pub any : (ℕ → Bool) → List ℕ → Bool
-any f [] = false
-any f (X ∷ α) = f X || any f α
 
 abbrev pub large : ℕ → Bool
 large v = ltb 65535 v

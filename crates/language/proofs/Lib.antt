@@ -10,3 +10,4 @@ pub mod Member
 pub mod Strings
 pub mod Terminals
 pub mod Rising
+pub mod TestLaws

@@ -7,3 +7,4 @@ pub mod WellFormed
 pub mod Trace
 pub mod Nullable
 pub mod Rising
+pub mod Tests

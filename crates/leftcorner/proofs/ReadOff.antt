@@ -11,6 +11,7 @@ use borrow.Author.Tests.{eqb-true, eq-eqb}
 use Rattle.language.specs.Grammar.{Grammar, at}
 use Rattle.language.specs.Sentence.{In, here, there}
 use Rattle.language.proofs.Member.{in-cons, in-map}
+use Rattle.language.proofs.TestLaws.{both-true}
 use Rattle.leftcorner.specs.Machine.{shift, announce, pop}
 use Rattle.leftcorner.specs.Table.{EntryLine, E, Action, S, N, A, P, ActionLine, L, Table, entryAt, stringOf, sameString, entryFrom, actionFor, groupEntries, cellOf, automaton}
 use Rattle.leftcorner.specs.Construction.{EntryAt, ActionAt, WellFormed}
@@ -24,10 +25,6 @@ abbrev pub stringAt : Table → ℕ → List ℕ
 stringAt t e = stringOf (entryAt t e)
 
 -- ---- the tests
-
-both-true : (a b : Bool) → a && b ≡ true → (a ≡ true) × (b ≡ true)
-both-true true b e = (refl, e)
-both-true false b e = (e, cc)
 
 same-place : (p q Y X : ℕ) → eqb p q && eqb Y X ≡ true → (p ≡ q) × (Y ≡ X)
 same-place p q Y X e = let h = both-true (eqb p q) (eqb Y X) e in (eqb-true p q (h .0), eqb-true Y X (h .1))

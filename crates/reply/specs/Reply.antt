@@ -1,5 +1,7 @@
--- The number and the place of each reply. Document 01, 'Replies'; from 13 on document 02.
-use Prim.Native.Nat.{ℕ}
+-- The number and the place of each reply, and how a slice is filled. Document 01, 'Replies'; from 13 on document 02.
+use Prim.Native.Nat.{ℕ, _-_}
+use mathlib.Core.List.{List, _++_}
+use lib.ListN.{length, replicate}
 use Rattle.reply.specs.declared.Kind.{Kind}
 use Rattle.reply.specs.declared.Kind.the-variants as kind
 use Rattle.reply.specs.declared.Reply.{Reply}
@@ -30,3 +32,7 @@ numberOf (reply.Refused x) = kindNumber (x .kind)
 abbrev pub placeOf : Reply → ℕ
 placeOf (reply.Accepted n) = n
 placeOf (reply.Refused x) = x .place
+
+-- "After success a listing, token list or book is followed by zeros.", in a slice of this size
+unfoldable pub padded : ℕ → List ℕ → List ℕ
+padded size l = l ++ replicate (size - length l) 0

@@ -15,9 +15,10 @@ use Rattle.leftcorner.specs.Claim.{WrongAt, Claim, comesBack}
 use Rattle.leftcorner.proofs.Demand3 as machine
 use Rattle.reply.specs.Reply.{numberOf}
 use Rattle.reply.specs.declared.Kind.the-variants.{SyntaxError}
+use Rattle.reply.specs.Reply.{padded}
 use Rattle.checker.proofs.Exactly.{accepts, accepted-sound, exactly}
 use Rattle.walker.specs.declared.Walked.the-variants.{Accepted}
-use Rattle.walker.specs.Walked.{asReply, padded}
+use Rattle.walker.specs.Walked.{asReply}
 use Rattle.session.specs.Session.{Session, refusedAt, endedBy, session}
 use Rattle.session.proofs.SessionLaws.{session-walks, ended-short, whole-is, wrong-is, whole-number, wrong-number, wrong-place}
 use Rattle.session.specs.Demand3.{wholeWith, Answered, Demanded, Demand3}

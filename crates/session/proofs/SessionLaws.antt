@@ -15,11 +15,12 @@ use Rattle.fixpoint.specs.declared.Found.{Found}
 use Rattle.range.proofs.RangeLaws.{true-within}
 use Rattle.reply.specs.Reply.{numberOf, placeOf}
 use Rattle.reply.specs.declared.Kind.the-variants.{LimitExceeded, Undeclared, BufferTooSmall, SyntaxError}
+use Rattle.reply.specs.Reply.{padded}
 use Rattle.grammar.specs.Book.{onFound}
 use Rattle.table.specs.Book.{Reading, whole}
 use Rattle.checker.specs.Checked.{checkedOf}
 use Rattle.walker.specs.declared.Walked.the-variants.{Refused}
-use Rattle.walker.specs.Walked.{asReply, padded}
+use Rattle.walker.specs.Walked.{asReply}
 use Rattle.stray_tokens.specs.Stray.{strayFrom}
 use Rattle.session.specs.Session.{Session, refusedAt, endedBy, tableSession, afterBooks, session}
 

@@ -17,10 +17,11 @@ use Rattle.fixpoint.specs.declared.Found.{Found}
 use Rattle.range.specs.Range.{within}
 use Rattle.range.proofs.RangeLaws.{within-true}
 use Rattle.reply.specs.declared.Kind.the-variants.{Undeclared}
+use Rattle.reply.specs.Reply.{padded}
 use Rattle.walker.specs.declared.Walked.{Walked}
 use Rattle.walker.specs.declared.Walked.the-variants.{Accepted}
 use Rattle.walk_tables.specs.Memory.{memoryGrammar}
-use Rattle.walker.specs.Walked.{memoryWalk, answer, listed, padded}
+use Rattle.walker.specs.Walked.{memoryWalk, answer, listed}
 use Rattle.machine.specs.declared.Machine.{Machine}
 use Rattle.machine.specs.Machine.{Drives}
 use Rattle.machine.proofs.DriveLaws.{walk-is}

@@ -12,13 +12,14 @@ use Rattle.leftcorner.specs.Machine.{Verdict, walk}
 use Rattle.reply.specs.declared.Kind.{Kind}
 use Rattle.reply.specs.declared.Kind.the-variants.{LimitExceeded, Undeclared}
 use Rattle.reply.specs.declared.Refusal.{Refusal}
+use Rattle.reply.specs.Reply.{padded}
 use Rattle.grammar.specs.Book.{onFound}
 use Rattle.table.specs.Book.{Reading, whole, rejected}
 use Rattle.checker.specs.Checked.{checkedOf}
 use Rattle.stray_tokens.specs.Stray.{strayFrom}
 use Rattle.walker.specs.declared.Walked.{Walked}
 use Rattle.walker.specs.declared.Walked.the-variants.{Refused}
-use Rattle.walker.specs.Walked.{answer, listed, padded}
+use Rattle.walker.specs.Walked.{answer, listed}
 
 -- the reply, which has the counts, and both slices
 pub record Session : Type 0 where

@@ -7,6 +7,7 @@ use native.Mathlib.Omega.{arith}
 use borrow.Author.Tests.{lt-ltb, le-ltb, le-leb, leb-true}
 use lib.Dec.{leb}
 use lib.ListN.{length, replicate}
+use Rattle.language.proofs.TestLaws.{both-true}
 use Rattle.language.specs.Grammar.{Grammar}
 use Rattle.reply.specs.declared.Kind.the-variants as kind
 use Rattle.reply.specs.declared.Refusal.{Refusal}
@@ -14,7 +15,6 @@ use Rattle.items.specs.Layout.{layout}
 use Rattle.grammar.specs.Book as grammar
 use Rattle.grammar.proofs.IntoLaws.{cleared-length, zeros-again}
 use Rattle.grammar.proofs.GrammarLaws.{accepted-reduced}
-use Rattle.table_lines.proofs.ListLaws.{both-true}
 use Rattle.table.specs.declared.TableReply.{TableReply}
 use Rattle.table.specs.declared.TableReply.the-variants as reply
 use Rattle.table.specs.declared.Counts.{Counts}

@@ -8,10 +8,10 @@ use native.Mathlib.Omega.{arith}
 use borrow.Author.Tests.{eq-eqb, eqb-true}
 use lib.Dec.{eqb}
 use lib.ListN.{length, getD}
+use Rattle.language.proofs.TestLaws.{both-true}
 use Rattle.leftcorner.specs.Table.{Action, S, N, A, P, ActionLine, L, actionFor, gotoState}
 use Rattle.memory.specs.Memory.{kindOf}
 use Rattle.table_lines.proofs.ImageLaws.{image-long, image-read}
-use Rattle.table_lines.proofs.ListLaws.{both-true}
 use Rattle.table_actions.specs.Actions.{isNone}
 use Rattle.table_actions.specs.Memory.{cellAt, kindAt, gotoAt, Formed, AllFormed, Cells}
 

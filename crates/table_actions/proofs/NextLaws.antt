@@ -8,6 +8,7 @@ use native.Mathlib.Omega.{arith}
 use borrow.Author.Tests.{leb-true, eqb-true, le-leb, lt-leb}
 use lib.Dec.{leb, eqb}
 use lib.ListN.{length, getD}
+use Rattle.language.proofs.TestLaws.{both-true}
 use Rattle.range.specs.Range.{within}
 use Rattle.range.proofs.RangeLaws.{within-true}
 use Rattle.reply.specs.declared.Kind.{Kind}
@@ -18,7 +19,6 @@ use Rattle.table_lines.specs.declared.Judgement.the-variants.{Fine, Faulty}
 use Rattle.table_lines.specs.Line.{whole, broken, lineAt, allAtMost, capped}
 use Rattle.table_lines.specs.Block.{takes, stops, fault}
 use Rattle.table_lines.proofs.BlockLaws.{judge-fine}
-use Rattle.table_lines.proofs.ListLaws.{both-true}
 use Rattle.table_actions.specs.Actions.{isAction, actionOf, actionDeclared, isNone, judgeAction, actionNext}
 use Rattle.table_actions.specs.Memory.{Formed, AllFormed}
 use Rattle.table_actions.proofs.CapLaws.{action-capped}

@@ -8,6 +8,7 @@ use native.Mathlib.Omega.{arith}
 use borrow.Author.Tests.{le-leb, leb-true}
 use lib.Dec.{leb, eqb}
 use lib.ListN.{length, getD, drop}
+use Rattle.language.proofs.TestLaws.{both-true}
 use Rattle.range.specs.Range.{within}
 use Rattle.reply.specs.declared.Kind.the-variants as kind
 use Rattle.language.specs.Grammar.{at}
@@ -15,7 +16,6 @@ use Rattle.leftcorner.specs.Table.{EntryLine, E, sameString, entryFrom}
 use Rattle.items.specs.Layout.{EntryIn, Shaped}
 use Rattle.table_lines.specs.Line.{lineAt, onLine, allAtMost, caps, capped}
 use Rattle.table_lines.specs.Block.{judged, fault}
-use Rattle.table_lines.proofs.ListLaws.{both-true}
 use Rattle.table_lines.proofs.CapLaws.{caps-length, caps-drop, cap-eqb, judged-caps, line-caps}
 use Rattle.table_entries.specs.Entries.{allDeclared, judgeEntry, entryNext}
 use Rattle.table_entries.specs.Memory.{Rows}

@@ -8,6 +8,7 @@ use native.Mathlib.Omega.{arith}
 use borrow.Author.Tests.{leb-true, eqb-true}
 use lib.Dec.{leb, eqb}
 use lib.ListN.{length, getD, drop, length-drop}
+use Rattle.language.proofs.TestLaws.{both-true}
 use Rattle.range.specs.Range.{within}
 use Rattle.range.proofs.RangeLaws.{within-true}
 use Rattle.reply.specs.declared.Kind.{Kind}
@@ -19,7 +20,6 @@ use Rattle.table_lines.specs.declared.Judgement.the-variants.{Fine, Faulty}
 use Rattle.table_lines.specs.Line.{whole, broken, lineAt, allAtMost, capped}
 use Rattle.table_lines.specs.Block.{takes, fault}
 use Rattle.table_lines.proofs.BlockLaws.{judge-fine}
-use Rattle.table_lines.proofs.ListLaws.{both-true}
 use Rattle.table_entries.specs.Entries.{allDeclared, judgeEntry, entryNext}
 use Rattle.table_entries.proofs.StringLaws.{symbol-at}
 use Rattle.table_entries.proofs.CapLaws.{Small, entry-capped}

@@ -7,6 +7,7 @@ use mathlib.Core.Bool.{true}
 use mathlib.Core.Option.{some}
 use native.Mathlib.Omega.{arith}
 use lib.ListN.{length, getD, drop, length-drop}
+use Rattle.language.proofs.TestLaws.{both-true}
 use Rattle.language.specs.Grammar.{Grammar, at, IsTerminal, IsNonterminal}
 use Rattle.language.specs.Sentence.{In, here, there}
 use Rattle.symbol.specs.Symbol.{isDeclared}
@@ -17,7 +18,6 @@ use Rattle.table_lines.specs.declared.Judgement.{Judgement}
 use Rattle.table_lines.specs.Line.{lineAt}
 use Rattle.table_lines.specs.Block.{Outcome, takes, stops, read}
 use Rattle.table_lines.proofs.BlockLaws.{lines-keep}
-use Rattle.table_lines.proofs.ListLaws.{both-true}
 use Rattle.table_entries.specs.Entries.{allDeclared, judgeEntry, entryNext, entriesFrom}
 use Rattle.table_entries.proofs.NextLaws.{EntryFine, entry-fine}
 use Rattle.table_facts.proofs.Lines.{all-line, judged-goes, Came, judged-came, came-onward}

@@ -7,10 +7,10 @@ use native.Mathlib.Decide.{decLe}
 use native.Mathlib.Omega.{arith}
 use lib.Dec.{eqb}
 use lib.ListN.{length, getD}
+use Rattle.language.proofs.TestLaws.{both-true}
 use Rattle.reply.specs.declared.Kind.the-variants as kind
 use Rattle.table_lines.specs.Line.{TextLine, lineAt, onLine, cap, caps, capped}
 use Rattle.table_lines.specs.Line as line
-use Rattle.table_lines.proofs.ListLaws.{both-true}
 use Rattle.table_lines.proofs.CapLaws.{caps-length, caps-at, line-caps}
 use Rattle.range.specs.Range.{within}
 use Rattle.range.proofs.RangeLaws.{within-true, false-within}

@@ -8,6 +8,7 @@ use borrow.Author.Tests.{leb-true, ltb-true, eq-eqb, ne-eqb, not-true}
 use lib.Dec.{leb, ltb}
 use lib.ListN.{length, getD, drop, length-drop}
 use lib.Seq.{getD-drop}
+use Rattle.language.proofs.TestLaws.{both-true}
 use Rattle.range.specs.Range.{within}
 use Rattle.range.proofs.RangeLaws.{within-true}
 use Rattle.reply.specs.declared.Kind.{Kind}
@@ -20,7 +21,6 @@ use Rattle.table_lines.specs.Line.{whole, broken, lineAt, allAtMost, rising, ca
 use Rattle.table_lines.specs.declared.Block.{Block}
 use Rattle.table_lines.specs.Block.{takes, fault, stepOf, Comes, stopped, turned, Lines, Reads, all-read, turned-away}
 use Rattle.table_lines.proofs.BlockLaws.{judge-fine}
-use Rattle.table_lines.proofs.ListLaws.{both-true}
 use Rattle.table_lines.proofs.TallyLaws.{rising-short}
 use Rattle.table_lines.proofs.HeldLaws.{numbersOf}
 use Rattle.table_kernels.specs.Kernels.{hasTriple, judgeWith, judgeKernel, noKernel, kernelNext}

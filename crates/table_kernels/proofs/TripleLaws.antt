@@ -7,10 +7,10 @@ use native.Mathlib.Omega.{arith}
 use borrow.Author.Tests.{eq-eqb, eqb-true}
 use lib.Dec.{eqb}
 use lib.ListN.{getD, set, replicate}
+use Rattle.language.proofs.TestLaws.{both-true}
 use Rattle.leftcorner.specs.Table.{KernelLine, K}
 use Rattle.table_lines.specs.Image.{flag}
 use Rattle.table_lines.proofs.ImageLaws.{image-at, image-set, image-zeros}
-use Rattle.table_lines.proofs.ListLaws.{both-true}
 use Rattle.table_kernels.specs.Kernels.{hasTriple}
 use Rattle.table_kernels.specs.Memory.{tripleAt, Low, Marked}
 

@@ -8,9 +8,9 @@ use native.Mathlib.Omega.{arith}
 use borrow.Author.Tests.{le-leb, lt-leb, leb-true, leb-false, eq-eqb, ne-eqb}
 use lib.Dec.{leb, eqb}
 use lib.ListN.{length, getD, drop}
+use Rattle.language.proofs.TestLaws.{both-true}
 use Rattle.table_lines.specs.Line.{TextLine, whole, broken, onLine, allAtMost, cap, caps, capped}
 use Rattle.table_lines.specs.Block.{judge, judged}
-use Rattle.table_lines.proofs.ListLaws.{both-true}
 
 pub caps-length : (l : List ℕ) → length (caps l) ≡ length l
 caps-length [] = refl

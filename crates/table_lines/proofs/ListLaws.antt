@@ -1,8 +1,7 @@
--- Lists that grow at their end, by position; and tests of two parts.
+-- Lists that grow at their end, by position.
 use Prim.Native.Nat.{ℕ, zero, suc, _<_}
 use mathlib.Core.Path.{_≡_, refl, ap}
 use mathlib.Core.List.{List, [], _∷_, _++_}
-use mathlib.Core.Bool.{Bool, true, false, _&&_}
 use mathlib.Core.Option.{some, none}
 use native.Mathlib.Omega.{arith}
 use lib.ListN.{length}
@@ -28,7 +27,3 @@ module _ {A : Type 0} where
   at-behind [] k h = refl
   at-behind (y ∷ l) zero h = absurd (omega arith)
   at-behind (y ∷ l) (suc k) h = at-behind l k (omega arith)
-
-pub both-true : (a b : Bool) → a && b ≡ true → (a ≡ true) × (b ≡ true)
-both-true true b e = (refl, e)
-both-true false b e = (e, cc)

@@ -7,11 +7,11 @@ use native.Mathlib.Omega.{arith}
 use borrow.Author.Tests.{le-leb, lt-leb, leb-true, leb-false, le-ltb, ltb-true, ltb-false}
 use lib.Dec.{ltb, leb}
 use lib.ListN.{length, drop, length-append}
+use Rattle.language.proofs.TestLaws.{both-true}
 use Rattle.digits.specs.Exact.{exactAt}
 use Rattle.table_lines.specs.declared.Tally.{Tally}
 use Rattle.table_lines.specs.Line.{allAtMost, risingFrom, rising, cap, caps}
 use Rattle.table_lines.specs.Tally.{largestOf, lastFrom, tally, keepsRising, addNumber}
-use Rattle.table_lines.proofs.ListLaws.{both-true}
 use Rattle.table_lines.proofs.CapLaws.{caps-snoc}
 
 -- ---- one number more

@@ -6,10 +6,11 @@ use native.Mathlib.Omega.{arith}
 use lib.ListN.{length, take, drop, replicate, length-drop, drop-of-length-le}
 use lib.Seq.{take-all}
 use borrow.Rule.Slice.PartMut.{putMid}
+use Rattle.reply.specs.Reply.{padded}
 use Rattle.language.specs.Grammar.{Grammar}
 use Rattle.leftcorner.specs.Machine.{Verdict, whole-at, wrong-at, short-at}
 use Rattle.walker.specs.declared.Walked.{Walked}
-use Rattle.walker.specs.Walked.{answer, listed, padded, ruleCount, Ended}
+use Rattle.walker.specs.Walked.{answer, listed, ruleCount, Ended}
 
 -- ---- a lent tail of a slice
 

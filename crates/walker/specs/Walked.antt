@@ -1,8 +1,8 @@
 -- What a walk over tables in memory comes back with, by the walk of the theory.
-use Prim.Native.Nat.{ℕ, _-_, _≤_}
+use Prim.Native.Nat.{ℕ, _≤_}
 use mathlib.Core.Path.{_≡_}
-use mathlib.Core.List.{List, [], _++_}
-use lib.ListN.{length, take, replicate}
+use mathlib.Core.List.{List, []}
+use lib.ListN.{length, take}
 use Rattle.language.specs.Grammar.{Grammar}
 use Rattle.language.specs.Listing.{unitsIn}
 use Rattle.leftcorner.specs.Machine.{Verdict, whole-at, wrong-at, short-at, walk}
@@ -28,10 +28,6 @@ abbrev pub listed : Verdict → List ℕ
 listed (whole-at p l) = l
 listed (wrong-at p) = []
 listed (short-at p) = []
-
--- "After success a listing [..] is followed by zeros."
-unfoldable pub padded : ℕ → List ℕ → List ℕ
-padded size l = l ++ replicate (size - length l) 0
 
 -- the number and the place are the reply's: of whole, the place is "tokens read"
 abbrev pub asReply : Walked → Reply

@@ -2,9 +2,10 @@
 // Inner: for `session` and `expected`. `Walked`, `as_reply`, `rule_count` and `unit_count` are for whoever calls a door.
 ghost use mathlib.Core.Path.{_≡_};
 ghost use lib.ListN.{length, replicate};
+ghost use Rattle.reply.specs.Reply.{padded};
 ghost use Rattle.walk_tables.specs.Memory.{Shaped, memoryGrammar};
 ghost use Rattle.walk_steps.specs.Turn.{Stands};
-ghost use Rattle.walker.specs.Walked.{memoryWalk, answer, listed, padded, asReply, ruleCount, unitCount, Ended};
+ghost use Rattle.walker.specs.Walked.{memoryWalk, answer, listed, asReply, ruleCount, unitCount, Ended};
 ghost use Rattle.walker.specs.Advance.{Advances};
 use reply::Kind;
 use reply::Refusal;

@@ -2,13 +2,13 @@
 use Prim.Native.Nat.{ℕ}
 use mathlib.Core.Path.{_≡_, refl, _∙_}
 use mathlib.Core.List.{List, [], _∷_, map}
+use Rattle.reply.specs.Reply.{padded}
 use Rattle.language.specs.Grammar.{Grammar}
 use Rattle.range.specs.Range.{within}
 use Rattle.fixpoint.specs.Each.{Each}
 use Rattle.build_states.specs.Strings.{entryStrings, addString, addGroups, addRules}
 use Rattle.build_states.specs.States.{leave, note, noteIf}
 use Rattle.build_computed.proofs.Computed.{computed}
-use Rattle.walker.specs.Walked.{padded}
 use Rattle.stray_tokens.specs.Stray.{strayFrom}
 use Rattle.session.specs.Session.{tableSession}
 use Rattle.expected_trials.specs.Trials.{listedAt, tried}

@@ -7,6 +7,7 @@ use lib.Dec.{leb}
 use borrow.Author.Tests.{leb-true}
 use Rattle.language.specs.Grammar.{Grammar}
 use Rattle.range.specs.Range.{within}
+use Rattle.reply.specs.Reply.{padded}
 use Rattle.fixpoint.specs.Each.{Each}
 use Rattle.grammar.specs.Book.{accepted}
 use Rattle.generate_loads.specs.Load.{stepped, drawn, derivesWithin, heightFrom, heightOf, shortest, choice, grow, grown, load}
@@ -45,5 +46,5 @@ makes {b} {g} h (from seed depth w l ∷ ls) s e =
     later = cc
 
 pub loads-made : Loads
-unfolding stepped drawn derivesWithin heightFrom heightOf shortest choice grow grown load within fitted
+unfolding stepped drawn derivesWithin heightFrom heightOf shortest choice grow grown load within fitted padded
 loads-made = (makes (computes .1) loads-g1 refl refl, makes (computes .2) loads-g1-cut refl refl, makes (computes .3) loads-d refl refl)

@@ -3,8 +3,8 @@ use Prim.Native.Nat.{ℕ, _+_, _-_, _≤_, _<_}
 use mathlib.Core.Path.{_≡_, sym, ap, _∙_}
 use native.Mathlib.Omega.{arith}
 use lib.ListN.{getD}
+use Rattle.language.specs.Tests.{all}
 use Rattle.items.specs.Layout.{lengthAt, symbolAt}
-use Rattle.generate_loads.specs.Load.{all}
 use Rattle.generate_heights.specs.Heights.{symbolsFrom, isLower, lowerIn}
 use Rattle.generate_heights.proofs.SymbolLaws.{symbolsLeft, left-start, left-more, left-none, not-lower, one-lower}
 use borrow.Author.Needs.{needs}
