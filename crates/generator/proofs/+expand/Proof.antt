@@ -219,11 +219,14 @@ expand-enum-told-2 t c =
 
 expand-same-length-4 : (t : ℕ) → expand-lts.Need-same-length-4 (claims t) (expand-at t) expand.Post Inv-loop μ-loop
 expand-same-length-4 t c =
-    c .before .before .before .before .before .before .expand .kept .1 .1 .1 .1 .1 .1 .0 ∙ c .before .before .before .before .before .before .before .before .before .before .before .before .before .before .before .before .before .before .loop .inv .1
+    let at-child = c .before .before .before .before .before .before in
+    at-child .expand .kept .1 .1 .1 .1 .1 .1 .0 ∙ at-child .before .before .before .before .before .before .before .before .before .before .before .before .loop .inv .1
 
 expand-same-length-5 : (t : ℕ) → expand-lts.Need-same-length-5 (claims t) (expand-at t) expand.Post Inv-loop μ-loop
 expand-same-length-5 t c =
-    c .before .before .before .before .before .before .expand .kept .1 .1 .1 .1 .1 .1 .1 .0 ∙ (c .before .before .before .before .before .before .before .before .before .before .before .before .before .before .before .put-rule .kept .0 ∙ c .before .before .before .before .before .before .before .before .before .before .before .before .before .before .before .before .before .before .loop .inv .2)
+    let at-child = c .before .before .before .before .before .before in
+    let at-put = at-child .before .before .before .before .before .before .before .before .before in
+    at-child .expand .kept .1 .1 .1 .1 .1 .1 .1 .0 ∙ (at-put .put-rule .kept .0 ∙ at-put .before .before .before .loop .inv .2)
 
 expand-returns-3 : (t : ℕ) → expand-lts.Need-returns-3 (claims t) (expand-at t) expand.Post Inv-loop μ-loop
 expand-returns-3 t c =
