@@ -51,6 +51,7 @@ int main(void) {
     g = load("examples/hospital.grammar", grammar), t = load("examples/hospital.tables", tables);
     measure("hospital", g, t, 15, 256, 256);
     measure("hospital", g, t, 29, 256, 256);
+    measure("hospital", g, t, 2294475, 512, 512);
     walk_many("hospital", g, t, 5000);
     return 0;
 }
