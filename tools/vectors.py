@@ -9,7 +9,7 @@ FOLDER has a folder for each case: `grammar`, `table`, `tokens` (one a line), `s
 lent) or `lens` (`STACK,LISTING`) where they are not 65,536 and 65,535 each; and `expected`. A session with `scans` is run both ways. Or a
 case has `arg1`, `arg2` and so on, the arguments of a program, and `program`, its name, where it is another than KIND's. A load has its
 seed and its depth in `arg2.txt` and `arg3.txt`, and `lens` (`TOKENS,LISTING`) where they are not 65,536 each. A walk has `grammar`,
-`table`, `loaded` (the grammar whose loads are walked) and `loads`, a line `SEED,DEPTH` for each.
+`table`, `loaded` (the grammar whose loads are walked) and `loads`, a line `SEED,DEPTH` for each, the seed at most 65,536.
 What a case must write is worked out by tables.py, sessions.py and loads.py, from the documents' text and not from the proved code; where a
 case comes with `expected`, the two must agree.
 """
