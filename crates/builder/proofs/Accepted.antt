@@ -13,7 +13,8 @@ use Rattle.build_book.specs.Builder.{builderTable, builderReply}
 use Rattle.build_book.proofs.BuilderLaws.{writes-fit, writes-meets, writes-readable, slice-text, table-text}
 use Rattle.build_read_back.proofs.Book.{books-read}
 use Rattle.checker.proofs.Exactly.{exactly}
-use Rattle.builder.specs.Build.{textLength, buildFrom, buildOf}
+use Rattle.build_reply.specs.Reply.{textLength}
+use Rattle.builder.specs.Build.{buildFrom, buildOf}
 use Rattle.builder.specs.Accepted.{Written, WritesAccepted}
 
 pub writes-accepted : WritesAccepted

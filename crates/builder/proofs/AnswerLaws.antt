@@ -11,8 +11,9 @@ use Rattle.grammar.specs.Book.{Book, accepted, rejected, grammarOf}
 use Rattle.table.specs.declared.Counts.{Counts}
 use Rattle.build_writer.specs.MemoryTable.{memoryText}
 use Rattle.build_memory.specs.Memory.{Constructed, PastLimits}
-use Rattle.builder.specs.declared.BuildReply.{BuildReply}
-use Rattle.builder.specs.Build.{buildFrom, buildOf, refusedBy, Writes}
+use Rattle.build_reply.specs.declared.BuildReply.{BuildReply}
+use Rattle.build_reply.specs.Reply.{refusedBy, Writes}
+use Rattle.builder.specs.Build.{buildFrom, buildOf}
 use Rattle.builder.proofs.BookLaws.{Answers, answers-many, answers-conflict, answers-book}
 
 -- a slice of zeros

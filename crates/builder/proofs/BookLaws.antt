@@ -1,66 +1,39 @@
 -- What is answered is the builder's reply, length and slice.
-use Prim.Native.Nat.{ℕ, zero, suc, _+_, _≤_, _<_, min}
+use Prim.Native.Nat.{ℕ, zero, suc, _+_, _≤_}
 use native.Mathlib.Omega.{arith}
 use mathlib.Core.Path.{_≡_, refl, sym, ap, subst, _∙_}
 use mathlib.Core.List.{List}
 use mathlib.Core.Option.{some}
 use lib.ListN.{length, replicate}
-use borrow.Author.Tests.{lt-ltb, le-ltb}
 use Rattle.language.specs.Grammar.{Grammar, at}
 use Rattle.leftcorner.specs.Table.{KernelLine}
 use Rattle.leftcorner.specs.Construction.{WellFormed}
 use Rattle.analysis.specs.ByRules.{FirstByRules}
 use Rattle.analysis.proofs.Decided.{first?}
 use Rattle.memory.specs.Memory.{HoldsKernels}
-use Rattle.reply.specs.declared.Kind.the-variants.{LimitExceeded, Conflict, BufferTooSmall}
+use Rattle.reply.specs.declared.Kind.the-variants.{LimitExceeded, Conflict}
 use Rattle.reply.specs.declared.Refusal.{Refusal}
-use Rattle.reply.specs.declared.Reply.the-variants.{Accepted, Refused}
+use Rattle.reply.specs.declared.Reply.the-variants.{Refused}
 use Rattle.check_verdict.specs.Verdict.{refused}
 use Rattle.build_states.specs.Strings.{entryStrings, entryLines}
 use Rattle.build_states.proofs.EntryLaws.{lines-length}
 use Rattle.build_book.proofs.BuiltForm.{built-entries, states-both}
 use Rattle.build_book.proofs.ItemForm.{items-lines, kernels-both}
 use Rattle.build_book.specs.Text.{tableText}
-use Rattle.build_book.specs.Book.{textReply, textSlice}
+use Rattle.build_book.specs.Book.{textSlice}
 use Rattle.build_book.proofs.BookLaws.{Within}
 use Rattle.build_states.specs.Lookaheads.{terminalCodes}
 use Rattle.build_states.proofs.CodeLaws.{first-in, codes-low}
 use Rattle.build_book.proofs.BuilderLaws.{builder-form, replies-many, replies-conflict, replies-text, slice-text, table-text}
 use Rattle.build_book.specs.Builder.{builderTable, builderReply, builderSlice}
-use Rattle.build_writer.specs.Sink.{inRoom, fits-room}
 use Rattle.build_writer.specs.MemoryTable.{memoryTable, memoryText, WriterRoom}
 use Rattle.build_writer.proofs.InMemory.{memory-table}
 use Rattle.build_writer.proofs.BuiltOrder.{built-ordered}
 use Rattle.build_cells.specs.Cells.{itemsOf, tableOf, Filled}
 use Rattle.build_memory.specs.Stages.{Stated, Numbered, Settled, BuildRoom}
 use Rattle.build_memory.proofs.StateLaws.{few-strings, few-terminals, few-flags, limits-of, within-of, entries-hold}
-use Rattle.builder.specs.declared.BuildReply.{BuildReply}
-use Rattle.builder.specs.Build.{textLength, refusedBy, Writes}
-
--- ---- a text of which the length was counted up to 65,537
-module _ (text : List ℕ) (room : ℕ) {n : ℕ} (count : n ≡ min (length text) 65537) where
-  pub text-long : 65536 < n → refused LimitExceeded 0 ≡ textReply text room
-  text-long l = simp (lt-ltb 65536 (length text) (omega (arith, count, l)))
-
-  -- the slice's length, which did not change
-  module _ {size : ℕ} (long : size ≡ room) (few : n ≤ 65536) where
-    pub text-short : size < n → refused BufferTooSmall 0 ≡ textReply text room
-    text-short s = simp (le-ltb 65536 (length text) (omega (arith, count, few)), lt-ltb room (length text) (omega (arith, count, few, long, s)))
-
-    pub text-written : {out : List ℕ} → n ≤ size → out ≡ inRoom room text → Writes text room (record { reply = Accepted 0; length = n }) out
-    text-written s e = record {
-      reply-is = simp (le-ltb 65536 (length text) (omega (arith, count, few)), le-ltb room (length text) (omega (arith, count, few, long, s)));
-      length-is = omega (arith, count, few);
-      slice-is = e ∙ fits-room room text (omega (arith, count, few, long, s)) (omega (arith, count, few));
-      fits = omega (arith, long, s);
-    }
-
--- a refusal leaves zeros
-pub text-none : (text : List ℕ) (room : ℕ) {r : BuildReply} {x : Refusal} {size : ℕ} {out : List ℕ} → r ≡ refusedBy x → Refused x ≡ textReply text room → size ≡ room
-    → out ≡ replicate size 0 → Writes text room r out
-text-none text room {out = out} e t long o =
-    subst (λ (b : BuildReply). Writes text room b out) (sym e)
-    (record { reply-is = t; length-is = refl; slice-is = o ∙ ap (λ (n : ℕ). replicate n 0) long; fits = omega arith })
+use Rattle.build_reply.specs.declared.BuildReply.{BuildReply}
+use Rattle.build_reply.specs.Reply.{textLength, refusedBy, Writes}
 
 -- ---- the builder's reply, length and slice
 

@@ -16,7 +16,7 @@ use Rattle.language.proofs.Forests.{_⧺_}
 use Rattle.language.specs.Listing.{around}
 use Rattle.language.proofs.Lists.{concat-++}
 use Rattle.generate_loads.specs.Load.{Grown, growAll}
-use Rattle.generator.specs.Written.{atMark}
+use Rattle.generate_steps.specs.Put.{atMark}
 
 -- ---- the forest of a string in two parts
 pub forest-++ : (f : ℕ → ℕ → Grown) (α β : List ℕ) (s : ℕ) → growAll f (α ++ β) s .forest ≡ growAll f α s .forest ⧺ growAll f β (growAll f α s .state) .forest

@@ -17,12 +17,13 @@ use Rattle.generate_loads.specs.Load.{IsSymbol, grown, load}
 use Rattle.generate_heights.specs.Heights.{Source}
 use Rattle.reply.specs.declared.Kind.the-variants.{BufferTooSmall}
 use Rattle.reply.specs.Reply.{padded}
-use Rattle.generator.specs.declared.Point.{Point}
-use Rattle.generator.specs.declared.Step.{Step}
+use Rattle.generate_steps.specs.declared.Point.{Point}
+use Rattle.generate_steps.specs.declared.Step.{Step}
 use Rattle.generator.specs.declared.GeneratorReply.{GeneratorReply}
 use Rattle.generator.specs.declared.GeneratorReply.the-variants.{Written, Refused}
 use Rattle.generator.specs.Generated.{loadOf, Tells}
-use Rattle.generator.specs.Written.{Put, Writes}
+use Rattle.generate_steps.specs.Put.{Put}
+use Rattle.generator.specs.Written.{Writes}
 use Rattle.generator.proofs.AnswerLaws.{Misfits, fitted-written, fitted-short, tells-as}
 use Rattle.generator.proofs.PutLaws.{outgrown}
 

@@ -13,10 +13,11 @@ use Rattle.language.proofs.Forests.{yields-⧺}
 use Rattle.language.specs.Listing.{listing, listings, around}
 use Rattle.language.proofs.Announced.{listings-⧺}
 use Rattle.language.proofs.Lists.{concat-++}
-use Rattle.generator.specs.declared.Point.{Point}
-use Rattle.generator.specs.declared.Step.{Step}
+use Rattle.generate_steps.specs.declared.Point.{Point}
+use Rattle.generate_steps.specs.declared.Step.{Step}
 use Rattle.generate_loads.specs.Load.{Grown, growAll}
-use Rattle.generator.specs.Written.{Writes, PutsRule, atMark, Inside}
+use Rattle.generate_steps.specs.Put.{PutsRule, atMark}
+use Rattle.generator.specs.Written.{Writes, Inside}
 use Rattle.generator.proofs.PutLaws.{fitted, writes-none, writes-then, still-long, rule-writes, same-length}
 use Rattle.generator.proofs.ForestLaws.{forest-++, state-++, progress, progress-none, progress-mark, progress-more, progress-short, around-length}
 

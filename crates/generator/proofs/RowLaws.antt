@@ -18,8 +18,8 @@ use Rattle.generate_loads.specs.Load.{IsSymbol, rightIn, rightOf, heightOf, cho
 use Rattle.generate_loads.proofs.HeightLaws.{height-is}
 use Rattle.generate_loads.proofs.GrownLaws.{Chosen, chosen-is, chosen-lower, grown-terminal, grown-node}
 use Rattle.generate_choices.specs.Choices.{HoldsChoices, heightAt}
-use Rattle.generator.specs.declared.Point.{Point}
-use Rattle.generator.specs.declared.Step.{Step}
+use Rattle.generate_steps.specs.declared.Point.{Point}
+use Rattle.generate_steps.specs.declared.Step.{Step}
 use Rattle.generator.specs.Written.{Writes, fitting, too-long}
 
 pub nonterminal : {g : Grammar} → WellFormed g → (x : ℕ) → 64 ≤ x → IsSymbol g x → IsNonterminal g x

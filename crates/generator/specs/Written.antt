@@ -2,43 +2,22 @@
 use Prim.Native.Nat.{ℕ, _+_, _≤_, _<_}
 use mathlib.Core.Path.{_≡_}
 use mathlib.Core.Logic.{_⊎_}
-use mathlib.Core.Bool.{cond}
-use mathlib.Core.List.{List, [], _∷_}
+use mathlib.Core.List.{List}
 use lib.ListN.{length}
-use lib.Seq.{sets}
-use lib.Dec.{eqb}
 use Rattle.language.specs.Grammar.{Grammar}
 use Rattle.language.specs.Derivation.{yield}
 use Rattle.language.specs.Listing.{listing}
 use Rattle.items.specs.Layout.{Shaped, Holds}
 use Rattle.generate_loads.specs.Load.{IsSymbol, grown}
 use Rattle.generate_choices.specs.Choices.{HoldsChoices}
-use Rattle.generator.specs.declared.Point.{Point}
-use Rattle.generator.specs.declared.Step.{Step}
-
--- slice l, of which i elements are in use, holds a behind them and is m, with j in use
-pub record Put (l : List ℕ) (i : ℕ) (a m : List ℕ) (j : ℕ) : Type 0 where
-  pub slice-is : m ≡ sets l i a
-  pub next-is : j ≡ i + length a
-  pub room : j ≤ length l
+use Rattle.generate_steps.specs.declared.Point.{Point}
+use Rattle.generate_steps.specs.declared.Step.{Step}
+use Rattle.generate_steps.specs.Put.{Put}
 
 -- tokens a and rules b stand behind those up to p, and the state is s; or they do not fit
 pub data Writes (a b : List ℕ) (s : ℕ) (p : Point) (t₀ l₀ t l : List ℕ) : Step → Type 0 where
   fitting : {q : Point} → Put t₀ (p .tokens) a t (q .tokens) → Put l₀ (p .rules) b l (q .rules) → q .state ≡ s → Writes a b s p t₀ l₀ t l (Step.Fits q)
   too-long : (length t₀ < p .tokens + length a) ⊎ (length l₀ < p .rules + length b) → Writes a b s p t₀ l₀ t l Step.Full
-
--- the same for one slice alone
-abbrev pub PutsToken : List ℕ → Point → List ℕ → List ℕ → Step → Type 0
-PutsToken a p t₀ t (Step.Fits q) = Put t₀ (p .tokens) a t (q .tokens) × (q .rules ≡ p .rules) × (q .state ≡ p .state)
-PutsToken a p t₀ t Step.Full = length t₀ < p .tokens + length a
-
-abbrev pub PutsRule : List ℕ → Point → List ℕ → List ℕ → Step → Type 0
-PutsRule b p l₀ l (Step.Fits q) = Put l₀ (p .rules) b l (q .rules) × (q .tokens ≡ p .tokens) × (q .state ≡ p .state)
-PutsRule b p l₀ l Step.Full = length l₀ < p .rules + length b
-
--- the rule itself is listed where the subtrees left of its mark are done
-abbrev pub atMark : ℕ → ℕ → ℕ → List ℕ
-atMark i k mark = cond (eqb k mark) (i ∷ []) []
 
 -- what is in use lies in both slices
 abbrev pub Inside : Point → List ℕ → List ℕ → Type 0

@@ -3,6 +3,12 @@
 use generate_choices::CHOICES;
 use generate_choices::choose;
 use generate_choices::find_choices;
+use generate_steps::Point;
+use generate_steps::Step;
+use generate_steps::capped;
+use generate_steps::one_less;
+use generate_steps::put_rule;
+use generate_steps::put_token;
 use grammar::GrammarReply;
 use grammar_header::Heading;
 use reply::Kind;
@@ -10,32 +16,13 @@ use reply::Refusal;
 use reply::Reply;
 use reply::clear;
 ghost use mathlib.Core.Path.{_≡_};
-ghost use mathlib.Core.Logic.{_⊎_};
-ghost use mathlib.Core.List.{[], _∷_};
-ghost use Prim.Native.Nat.{_-_, _<_, _≤_};
 ghost use lib.ListN.{length, replicate};
 ghost use Rattle.language.specs.Grammar.{Grammar};
 ghost use Rattle.language.specs.Sentence.{AllProductive};
 ghost use Rattle.grammar.specs.Memory.{HoldsGrammar};
 ghost use Rattle.generate_loads.specs.Load.{load};
 ghost use Rattle.generator.specs.Generated.{Tells, loadOf, generated, asReply, tokenCount, ruleCount};
-ghost use Rattle.generator.specs.Written.{PutsToken, PutsRule, atMark, Inside, StaysIn, Expandable, Expands};
-
-// The most tokens that a load may have.
-pub const TOKENS: usize = 65535;
-
-// How far the expansion is: the state, and how many tokens and rules are written.
-pub struct Point {
-    pub state: u32,
-    pub tokens: usize,
-    pub rules: usize,
-}
-
-// The next point, or the first token or rule that does not fit.
-pub enum Step {
-    Fits(Point),
-    Full,
-}
+ghost use Rattle.generator.specs.Written.{Inside, StaysIn, Expandable, Expands};
 
 // The figures of a load.
 pub struct Generated {
@@ -47,52 +34,6 @@ pub struct Generated {
 pub enum GeneratorReply {
     Written(Generated),
     Refused(Refusal),
-}
-
-fn put_token(tokens: &mut [u8], x: usize, at: Point) -> Step
-    requires { ⌜ x < 64 ⌝ }
-    ensures { λ r. ⌜ PutsToken (x ∷ []) at (now (tokens .entry)) (now (tokens .exit)) r ⌝ }
-{
-    let place = at.tokens;
-    if tokens.len() <= place {
-        return Step::Full;
-    }
-    tokens[place] = x as u8;
-    Step::Fits(Point {
-        state: at.state,
-        tokens: place + 1,
-        rules: at.rules,
-    })
-}
-
-// Lists rule i where k is its mark.
-fn put_rule(listing: &mut [u8], i: usize, k: usize, mark: usize, at: Point) -> Step
-    requires { ⌜ i < 256 ⌝ }
-    requires { ⌜ at .rules ≤ length (now listing) ⌝ }
-    ensures { λ r. ⌜ PutsRule (atMark i k mark) at (now (listing .entry)) (now (listing .exit)) r ⌝ }
-{
-    if k != mark {
-        return Step::Fits(at);
-    }
-    let place = at.rules;
-    if listing.len() <= place {
-        return Step::Full;
-    }
-    listing[place] = i as u8;
-    Step::Fits(Point {
-        state: at.state,
-        tokens: at.tokens,
-        rules: place + 1,
-    })
-}
-
-fn one_less(depth: usize) -> usize
-    ensures { λ r. ⌜ r ≡ depth - 1 ⌝ }
-{
-    if depth == 0 {
-        return 0;
-    }
-    depth - 1
 }
 
 // Writes what x expands to behind what is written, and stops at the first token or rule that does not fit.
@@ -139,16 +80,6 @@ fn expand(
         k += 1;
     }
     put_rule(listing, i, n, mark, at)
-}
-
-// The lesser of a slice's length and TOKENS.
-fn capped(n: usize) -> usize
-    ensures { λ r. ⌜ (r ≤ n) × (r ≤ 65535) × ((r ≡ n) ⊎ (r ≡ 65535)) ⌝ }
-{
-    if n <= TOKENS {
-        return n;
-    }
-    TOKENS
 }
 
 fn refuse(kind: Kind, place: usize) -> GeneratorReply

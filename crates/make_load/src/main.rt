@@ -2,7 +2,7 @@
 // the reply's number and place, how many tokens and rules there are, then each token on a line, then each rule on a line.
 
 fn show(grammar: &[u8], seed: u32, depth: usize) {
-    let mut tokens = [0u8; generator::TOKENS];
+    let mut tokens = [0u8; generate_steps::TOKENS];
     let mut listing = program::lend(0);
     let mut out = program::output();
     let answer = generator::make_load(grammar, seed, depth, &mut tokens, &mut listing);

@@ -24,7 +24,8 @@ use Rattle.table.specs.Memory.{replyOf, asReply}
 use Rattle.build_read_back.proofs.Book.{books-read}
 use Rattle.checker.specs.Checked.{checkedOf, verdictOf}
 use Rattle.checker.proofs.Exactly.{accepts}
-use Rattle.builder.specs.Build.{textLength, buildFrom, buildOf}
+use Rattle.build_reply.specs.Reply.{textLength}
+use Rattle.builder.specs.Build.{buildFrom, buildOf}
 use Rattle.worked_examples.specs.Books.{book, Books}
 use Rattle.session.specs.Session.{Session, refusedAt, tableSession, afterBooks, session}
 use Rattle.expected_trials.specs.Trials.{Expected}

@@ -12,20 +12,21 @@ use Rattle.language.specs.Grammar.{Grammar, IsNonterminal}
 use Rattle.items.specs.Layout.{Holds}
 use Rattle.generate_loads.specs.Load.{IsSymbol, rightOf, grown}
 use Rattle.generate_choices.specs.Choices.{HoldsChoices, heightAt}
-use Rattle.generator.specs.declared.Step.{Step}
-use Rattle.generator.specs.Written.{PutsRule, StaysIn, atMark}
+use Rattle.generate_steps.specs.declared.Step.{Step}
+use Rattle.generate_steps.specs.Put.{PutsRule, atMark}
+use Rattle.generator.specs.Written.{StaysIn}
 use Rattle.generator.proofs.PutLaws.{writes-stays, writes-as, rule-writes, token-writes}
 use Rattle.generator.proofs.NodeLaws.{Sofar, sofar-none, sofar-marked, sofar-grown, full-mark, full-child, sofar-end}
 use Rattle.generator.proofs.RowLaws.{nonterminal, terminal, row-of, falls-below, leaf-written, node-written}
 use Rattle.generator.proofs.expand.Reads as expand
 use Rattle.generator.proofs.expand.Kinds as expand-kinds
 use Rattle.generator.proofs.+expand.Lts-expand as expand-lts
-use Rattle.generator.proofs.put_token.Reads as put-token-reads
+use Rattle.generate_steps.proofs.put_token.Reads as put-token-reads
 use Rattle.generate_choices.proofs.choose.Reads as choose-reads
 use Rattle.items.proofs.length_of.Reads as length-of-reads
 use Rattle.items.proofs.mark_of.Reads as mark-of-reads
-use Rattle.generator.proofs.one_less.Reads as one-less-reads
-use Rattle.generator.proofs.put_rule.Reads as put-rule-reads
+use Rattle.generate_steps.proofs.one_less.Reads as one-less-reads
+use Rattle.generate_steps.proofs.put_rule.Reads as put-rule-reads
 use Rattle.items.proofs.symbol_of.Reads as symbol-of-reads
 use Rattle.generator.proofs.+expand.{statement}
 use Rattle.generator.proofs.+expand.Tie.{close}

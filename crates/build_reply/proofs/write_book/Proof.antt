@@ -2,10 +2,10 @@ use Prim.Native.Nat.{_+_}
 use denote.Ref.{now}
 use lib.ListN.{length}
 use Rattle.build_writer.specs.MemoryTable.{memoryText}
-use Rattle.builder.proofs.BookLaws.{text-long, text-short, text-none, text-written}
+use Rattle.build_reply.proofs.TextLaws.{text-long, text-short, text-none, text-written}
 use borrow.Author.Needs.{needs}
-use Rattle.builder.proofs.write_book.Statement.{statement}
-use Rattle.builder.proofs.write_book.Tie as tie
+use Rattle.build_reply.proofs.write_book.Statement.{statement}
+use Rattle.build_reply.proofs.write_book.Tie as tie
 
 write-table-requires : tie.Need-write-table-requires
 write-table-requires c κs = let p = c .before .before .before .before .before .before .before .before .before .pre in (p .0, p .1)

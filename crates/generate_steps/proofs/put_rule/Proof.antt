@@ -3,9 +3,9 @@ use mathlib.Core.Path.{refl}
 use native.Mathlib.Omega.{arith}
 use borrow.Author.Needs.{needs}
 use borrow.Author.Tests.{eq-eqb, ne-eqb}
-use Rattle.generator.proofs.PutLaws.{put-none, put-one}
-use Rattle.generator.proofs.put_rule.Statement.{statement}
-use Rattle.generator.proofs.put_rule.Tie as tie
+use Rattle.generate_steps.proofs.PutLaws.{put-none, put-one}
+use Rattle.generate_steps.proofs.put_rule.Statement.{statement}
+use Rattle.generate_steps.proofs.put_rule.Tie as tie
 
 returns : tie.Need-returns
 returns c = rw (ne-eqb (c .before .args .k) (c .before .args .mark) (c .if1 .taken)) (put-none _ _ (c .before .pre .1), refl, refl)

@@ -2,8 +2,8 @@
 use mathlib.Core.Path.{refl}
 use native.Mathlib.Omega.{arith}
 use borrow.Author.Needs.{needs}
-use Rattle.generator.proofs.one_less.Statement.{statement}
-use Rattle.generator.proofs.one_less.Tie as tie
+use Rattle.generate_steps.proofs.one_less.Statement.{statement}
+use Rattle.generate_steps.proofs.one_less.Tie as tie
 
 returns : tie.Need-returns
 returns c = omega (arith, c .if1 .taken)
