@@ -18,14 +18,13 @@ use Rattle.text.specs.Promise.{ending}
 use Rattle.text.proofs.ElseLaws.{all-number, all-letter}
 use Rattle.text.proofs.Promise.{number-written, written-number, letter-written, written-letter}
 use Rattle.text.proofs.SpellLaws.{drop-past, spelled}
-use Rattle.scans.specs.declared.Line.{Line}
-use Rattle.scans.specs.declared.Text.{Text}
-use Rattle.scans.specs.declared.Text.the-variants as text
-use Rattle.scans.specs.declared.Parsed.{Parsed}
-use Rattle.scans.specs.declared.Parsed.the-variants as parsed
-use Rattle.scans.specs.Line.{textByte, textEnd, textFrom, onText, lineAfter, lineAt}
-use Rattle.scans.specs.Tokens.{Scan}
-use Rattle.scans.specs.File.{scanOf}
+use Rattle.scan_lines.specs.declared.Line.{Line}
+use Rattle.scan_lines.specs.declared.Text.{Text}
+use Rattle.scan_lines.specs.declared.Text.the-variants as text
+use Rattle.scan_lines.specs.declared.Parsed.{Parsed}
+use Rattle.scan_lines.specs.declared.Parsed.the-variants as parsed
+use Rattle.scan_lines.specs.Line.{textByte, textEnd, textFrom, onText, lineAfter, lineAt, scanOf}
+use Rattle.scan_lines.specs.Tokens.{Scan}
 use Rattle.scans.specs.Promise.{lineText, InForm}
 
 -- ---- a text

@@ -1,7 +1,3 @@
-pub mod TextLaws
-pub mod LineLaws
-pub mod RepeatLaws
-pub mod JudgeLaws
 pub mod RowLaws
 pub mod ReadLaws
 pub mod OutcomeLaws

@@ -12,21 +12,21 @@ use lib.Seq.{drop-drop, drop-append-seam, drop-at}
 use Rattle.fixpoint.specs.Each.{Each}
 use Rattle.reply.specs.declared.Kind.{Kind}
 use Rattle.reply.specs.declared.Kind.the-variants as kind
-use Rattle.scans.specs.declared.Judged.{Judged}
-use Rattle.scans.specs.declared.Judged.the-variants as judged
-use Rattle.scans.specs.declared.Line.{Line}
-use Rattle.scans.specs.declared.Parsed.{Parsed}
-use Rattle.scans.specs.declared.Parsed.the-variants as parsed
-use Rattle.scans.specs.Line.{lineAt, onLine}
-use Rattle.scans.specs.Tokens.{Scan, Row, scan, broken, Scanned, tokens, refused, refusedAt, join, codeOf, sameBytes, repeats, differs, judge, onJudged, tokensOf}
-use Rattle.scans.specs.File.{scanOf, rowsFrom, allLines, scanned}
+use Rattle.scan_lines.specs.declared.Judged.{Judged}
+use Rattle.scan_lines.specs.declared.Judged.the-variants as judged
+use Rattle.scan_lines.specs.declared.Line.{Line}
+use Rattle.scan_lines.specs.declared.Parsed.{Parsed}
+use Rattle.scan_lines.specs.declared.Parsed.the-variants as parsed
+use Rattle.scan_lines.specs.Line.{lineAt, onLine, scanOf}
+use Rattle.scan_lines.specs.Tokens.{Scan, Row, scan, broken, Scanned, tokens, refused, refusedAt, join, codeOf, sameBytes, repeats, differs, judge, onJudged, tokensOf}
+use Rattle.scan_lines.proofs.RepeatLaws.{same-equal, equal-same}
+use Rattle.scan_lines.proofs.LineLaws.{line-in}
+use Rattle.scan_lines.proofs.JudgeLaws.{Taken}
+use Rattle.scan_lines.proofs.JudgeLaws as laws
+use Rattle.scans.specs.File.{rowsFrom, allLines, scanned}
 use Rattle.scans.specs.Promise.{lineText, written, InForm, ruled, SameLabel, Agrees, Sound, lastOf, Promise, ScansPromise}
-use Rattle.scans.proofs.RepeatLaws.{same-equal, equal-same}
-use Rattle.scans.proofs.LineLaws.{line-in}
 use Rattle.scans.proofs.FormLaws.{line-long, six-bytes, line-written, Read, written-line}
 use Rattle.scans.proofs.RowLaws.{join-none, join-join, rows-end, rows-line, line-refused, line-taken}
-use Rattle.scans.proofs.JudgeLaws.{Taken}
-use Rattle.scans.proofs.JudgeLaws as laws
 use Rattle.scans.proofs.TokenLaws.{scanned-lines, no-four}
 
 -- ---- a label

@@ -11,16 +11,17 @@ use Rattle.reply.specs.declared.Kind.{Kind}
 use Rattle.reply.specs.declared.Kind.the-variants as kind
 use Rattle.reply.specs.declared.Reply.{Reply}
 use Rattle.reply.specs.declared.Reply.the-variants as reply
-use Rattle.scans.specs.declared.Judged.the-variants as judged
-use Rattle.scans.specs.declared.Line.{Line}
-use Rattle.scans.specs.declared.Parsed.the-variants as parsed
-use Rattle.scans.specs.declared.Previous.{Previous}
-use Rattle.scans.specs.declared.Previous.the-variants as previous
-use Rattle.scans.specs.Line.{lineAt}
-use Rattle.scans.specs.Tokens.{Row, Scanned, tokens, refusedAt, join, judge, tokensOf}
-use Rattle.scans.specs.File.{scanOf, rowsFrom, allLines, replyOf}
-use Rattle.scans.specs.Read.{beforeOf, Within, WithinFile, Stored}
-use Rattle.scans.proofs.LineLaws.{line-in}
+use Rattle.scan_lines.specs.declared.Judged.the-variants as judged
+use Rattle.scan_lines.specs.declared.Line.{Line}
+use Rattle.scan_lines.specs.declared.Parsed.the-variants as parsed
+use Rattle.scan_lines.specs.declared.Previous.{Previous}
+use Rattle.scan_lines.specs.declared.Previous.the-variants as previous
+use Rattle.scan_lines.specs.Line.{lineAt, scanOf}
+use Rattle.scan_lines.specs.Tokens.{Row, Scanned, tokens, refusedAt, join, judge, tokensOf}
+use Rattle.scan_lines.specs.Within.{beforeOf, Within, WithinFile}
+use Rattle.scan_lines.proofs.LineLaws.{line-in}
+use Rattle.scans.specs.File.{rowsFrom, allLines, replyOf}
+use Rattle.scans.specs.Read.{Stored}
 use Rattle.scans.proofs.RowLaws.{join-none, join-join, rows-end, rows-broken, rows-line}
 use Rattle.scans.proofs.RowLaws as rows
 

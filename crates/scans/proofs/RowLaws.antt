@@ -6,12 +6,12 @@ use mathlib.Core.Option.{Option, some}
 use borrow.Author.Tests.{lt-ltb, le-ltb}
 use lib.ListN.{length}
 use Rattle.reply.specs.declared.Kind.{Kind}
-use Rattle.scans.specs.declared.Judged.the-variants as judged
-use Rattle.scans.specs.declared.Line.{Line}
-use Rattle.scans.specs.declared.Parsed.the-variants as parsed
-use Rattle.scans.specs.Line.{lineAt}
-use Rattle.scans.specs.Tokens.{Scan, Row, scan, broken, Scanned, tokens, refused, refusedAt, join, judge, tokensOf}
-use Rattle.scans.specs.File.{scanOf, rowsFrom}
+use Rattle.scan_lines.specs.declared.Judged.the-variants as judged
+use Rattle.scan_lines.specs.declared.Line.{Line}
+use Rattle.scan_lines.specs.declared.Parsed.the-variants as parsed
+use Rattle.scan_lines.specs.Line.{lineAt, scanOf}
+use Rattle.scan_lines.specs.Tokens.{Scan, Row, scan, broken, Scanned, tokens, refused, refusedAt, join, judge, tokensOf}
+use Rattle.scans.specs.File.{rowsFrom}
 
 pub join-none : (x : Scanned) → join [] x ≡ x
 join-none (tokens l) = refl

@@ -11,7 +11,7 @@ use lib.ListN.{length, getD, replicate}
 use Rattle.fixpoint.specs.Each.{Each}
 use Rattle.reply.specs.declared.Reply.the-variants as reply
 use Rattle.reply.specs.declared.Kind.the-variants as kind
-use Rattle.scans.specs.Tokens.{Scanned, tokens, refused, refusedAt, codeOf}
+use Rattle.scan_lines.specs.Tokens.{Scanned, tokens, refused, refusedAt, codeOf}
 use Rattle.scans.specs.File.{house, allLines, scanned, outcomeOf, scansOf}
 
 -- what is read at all is what the lines give

@@ -3,29 +3,20 @@ use Prim.Native.Nat.{ℕ, zero, suc, _+_, _-_}
 use mathlib.Core.List.{List, [], _∷_, _++_}
 use mathlib.Core.Option.{none}
 use mathlib.Core.Bool.{cond}
-use lib.ListN.{length, replicate, take, drop}
+use lib.ListN.{length, replicate}
 use lib.Dec.{leb, ltb}
 use Rattle.reply.specs.declared.Kind.the-variants as kind
 use Rattle.reply.specs.declared.Refusal.{Refusal}
 use Rattle.reply.specs.declared.Reply.{Reply}
 use Rattle.reply.specs.declared.Reply.the-variants as reply
-use Rattle.scans.specs.declared.Line.{Line}
-use Rattle.scans.specs.Line.{lineAt, onLine}
-use Rattle.scans.specs.Tokens.{Scan, Row, scan, broken, tokensOf}
-pub use Rattle.scans.specs.Tokens.{Scanned, tokens, refused, refusedAt}
+use Rattle.scan_lines.specs.Line.{lineAt, onLine, scanOf}
+use Rattle.scan_lines.specs.Tokens.{Row, scan, broken, tokensOf}
+pub use Rattle.scan_lines.specs.Tokens.{Scanned, tokens, refused, refusedAt}
 
 -- "House letters: D 1, G 2, P 3, E 5, T 6, F 7; others are strays." The codes of A to Z.
 abbrev pub house : List ℕ
 house =
     0 ∷ 0 ∷ 0 ∷ 1 ∷ 5 ∷ 7 ∷ 2 ∷ 0 ∷ 0 ∷ 0 ∷ 0 ∷ 0 ∷ 0 ∷ 0 ∷ 0 ∷ 3 ∷ 0 ∷ 0 ∷ 0 ∷ 6 ∷ 0 ∷ 0 ∷ 0 ∷ 0 ∷ 0 ∷ 0 ∷ []
-
--- what a line of s says
-abbrev pub scanOf : List ℕ → Line → Scan
-scanOf s line = record {
-  sequence = line .sequence;
-  letter = line .letter;
-  text = take (line .end - line .text) (drop (line .text) s);
-}
 
 -- the lines of s at `at` and after it, of which there are at most as many as the third argument says, up to one that is torn; the first
 -- byte of s has the place `first`

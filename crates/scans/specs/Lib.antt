@@ -1,5 +1,3 @@
-pub mod Line
-pub mod Tokens
 pub mod File
 pub mod Read
 pub mod Promise

@@ -12,8 +12,8 @@ use lib.ListN.{length}
 use Rattle.fixpoint.specs.Each.{Each}
 use Rattle.reply.specs.declared.Kind.the-variants as kind
 use Rattle.text.specs.Digits.{digits}
-use Rattle.scans.specs.Line.{textByte}
-use Rattle.scans.specs.Tokens.{Scan, tokens, refusedAt, codeOf, repeats}
+use Rattle.scan_lines.specs.Line.{textByte}
+use Rattle.scan_lines.specs.Tokens.{Scan, tokens, refusedAt, codeOf, repeats}
 use Rattle.scans.specs.File.{house, allLines}
 
 -- "`sequence,letter,text`": how a line is written; a comma is 44, the LF 10

@@ -4,8 +4,8 @@ use mathlib.Core.Path.{sym, _∙_}
 use borrow.Author.Needs.{needs}
 use native.Mathlib.Omega.{arith}
 use lib.ListN.{length}
+use Rattle.scan_lines.proofs.LineLaws.{line-in}
 use Rattle.scans.specs.File.{allLines}
-use Rattle.scans.proofs.LineLaws.{line-in}
 use Rattle.scans.proofs.ReadLaws.{Going, going-start, all-read, line-broken, line-refused, line-read}
 use Rattle.scans.proofs.read_lines.Statement.{statement}
 use Rattle.scans.proofs.read_lines.Tie as tie

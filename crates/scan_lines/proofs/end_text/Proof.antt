@@ -1,8 +1,8 @@
--- `scans::end_text` meets its contract. Assumes nothing.
+-- `scan_lines::end_text` meets its contract. Assumes nothing.
 use borrow.Author.Tests.{le-leb, lt-leb}
-use Rattle.scans.specs.Line.{textEnd}
-use Rattle.scans.proofs.end_text.Statement.{statement}
-use Rattle.scans.proofs.end_text.Tie as tie
+use Rattle.scan_lines.specs.Line.{textEnd}
+use Rattle.scan_lines.proofs.end_text.Statement.{statement}
+use Rattle.scan_lines.proofs.end_text.Tie as tie
 
 returns : tie.Need-returns
 unfolding textEnd

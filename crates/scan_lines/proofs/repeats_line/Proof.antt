@@ -1,7 +1,7 @@
--- `scans::repeats_line` meets its contract. Assumes nothing.
+-- `scan_lines::repeats_line` meets its contract. Assumes nothing.
 use borrow.Author.Needs.{needs}
-use Rattle.scans.proofs.repeats_line.Statement.{statement}
-use Rattle.scans.proofs.repeats_line.Tie as tie
+use Rattle.scan_lines.proofs.repeats_line.Statement.{statement}
+use Rattle.scan_lines.proofs.repeats_line.Tie as tie
 
 enum-known-previous : tie.Need-enum-known-previous
 enum-known-previous c = search needs

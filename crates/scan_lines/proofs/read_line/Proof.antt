@@ -1,11 +1,11 @@
--- `scans::read_line` meets its contract. Assumes nothing.
+-- `scan_lines::read_line` meets its contract. Assumes nothing.
 use mathlib.Core.Path.{sym, _∙_}
 use borrow.Author.Needs.{needs}
 use Rattle.text.proofs.ElseLaws.{else-number, else-letter}
-use Rattle.scans.specs.Line.{lineAfter, lineAt}
-use Rattle.scans.specs.declared.Parsed.{Parsed}
-use Rattle.scans.proofs.read_line.Statement.{statement}
-use Rattle.scans.proofs.read_line.Tie as tie
+use Rattle.scan_lines.specs.Line.{lineAfter, lineAt}
+use Rattle.scan_lines.specs.declared.Parsed.{Parsed}
+use Rattle.scan_lines.proofs.read_line.Statement.{statement}
+use Rattle.scan_lines.proofs.read_line.Tie as tie
 
 read-field-requires : tie.Need-read-field-requires
 read-field-requires c κs = search needs

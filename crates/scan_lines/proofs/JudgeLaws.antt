@@ -8,8 +8,8 @@ use native.Mathlib.Omega.{arith}
 use borrow.Author.Tests.{lt-ltb, le-ltb, ltb-false, ne-eqb, eqb-false}
 use lib.Dec.{ltb, eqb}
 use Rattle.reply.specs.declared.Kind.the-variants as kind
-use Rattle.scans.specs.declared.Judged.the-variants as judged
-use Rattle.scans.specs.Tokens.{Scan, codeOf, repeats, differs, judge}
+use Rattle.scan_lines.specs.declared.Judged.the-variants as judged
+use Rattle.scan_lines.specs.Tokens.{Scan, codeOf, repeats, differs, judge}
 
 -- ---- by the tests
 module _ (letters : List ℕ) (before : Option Scan) (x : Scan) where

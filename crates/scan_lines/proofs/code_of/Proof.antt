@@ -1,9 +1,9 @@
--- `scans::code_of` meets its contract. Assumes nothing.
+-- `scan_lines::code_of` meets its contract. Assumes nothing.
 use borrow.Author.Needs.{needs}
 use borrow.Author.Tests.{le-leb, lt-leb}
-use Rattle.scans.specs.Tokens.{codeOf}
-use Rattle.scans.proofs.code_of.Statement.{statement}
-use Rattle.scans.proofs.code_of.Tie as tie
+use Rattle.scan_lines.specs.Tokens.{codeOf}
+use Rattle.scan_lines.proofs.code_of.Statement.{statement}
+use Rattle.scan_lines.proofs.code_of.Tie as tie
 
 returns : tie.Need-returns
 unfolding codeOf

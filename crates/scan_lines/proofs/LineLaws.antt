@@ -11,13 +11,13 @@ use Rattle.text.specs.declared.Field.the-variants as field
 use Rattle.text.specs.Field.{fieldAt}
 use Rattle.text.proofs.ElseLaws.{all-number, all-letter}
 use Rattle.text.proofs.OnwardLaws.{onward}
-use Rattle.scans.specs.declared.Line.{Line}
-use Rattle.scans.specs.declared.Text.{Text}
-use Rattle.scans.specs.declared.Text.the-variants as text
-use Rattle.scans.specs.declared.Parsed.{Parsed}
-use Rattle.scans.specs.declared.Parsed.the-variants as parsed
-use Rattle.scans.specs.Line.{textByte, textEnd, textFrom, onText, lineAfter, lineAt}
-use Rattle.scans.specs.Read.{Within}
+use Rattle.scan_lines.specs.declared.Line.{Line}
+use Rattle.scan_lines.specs.declared.Text.{Text}
+use Rattle.scan_lines.specs.declared.Text.the-variants as text
+use Rattle.scan_lines.specs.declared.Parsed.{Parsed}
+use Rattle.scan_lines.specs.declared.Parsed.the-variants as parsed
+use Rattle.scan_lines.specs.Line.{textByte, textEnd, textFrom, onText, lineAfter, lineAt}
+use Rattle.scan_lines.specs.Within.{Within}
 
 -- of a text that was read, that its end is not before `low`, and before `high`
 abbrev TextIn : ℕ → ℕ → Text → Type 0

@@ -10,8 +10,8 @@ use lib.Dec.{leb, ltb, eqb}
 use Rattle.reply.specs.declared.Kind.{Kind}
 use Rattle.reply.specs.declared.Kind.the-variants as kind
 use Rattle.reply.specs.declared.Refusal.{Refusal}
-use Rattle.scans.specs.declared.Judged.{Judged}
-use Rattle.scans.specs.declared.Judged.the-variants as judged
+use Rattle.scan_lines.specs.declared.Judged.{Judged}
+use Rattle.scan_lines.specs.declared.Judged.the-variants as judged
 
 -- what a line says
 pub record Scan : Type 0 where

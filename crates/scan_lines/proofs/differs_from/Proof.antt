@@ -1,14 +1,14 @@
--- `scans::differs_from` meets its contract. Assumes nothing.
+-- `scan_lines::differs_from` meets its contract. Assumes nothing.
 use mathlib.Core.Path.{ap, subst}
 use mathlib.Core.Bool.{not}
 use borrow.Author.Needs.{needs}
 use borrow.Author.Tests.{eq-eqb, ne-eqb}
 use denote.Ref.{now}
-use Rattle.scans.specs.declared.Previous.{Previous}
-use Rattle.scans.specs.Read.{WithinFile}
-use Rattle.scans.proofs.RepeatLaws.{same-told}
-use Rattle.scans.proofs.differs_from.Statement.{statement}
-use Rattle.scans.proofs.differs_from.Tie as tie
+use Rattle.scan_lines.specs.declared.Previous.{Previous}
+use Rattle.scan_lines.specs.Within.{WithinFile}
+use Rattle.scan_lines.proofs.RepeatLaws.{same-told}
+use Rattle.scan_lines.proofs.differs_from.Statement.{statement}
+use Rattle.scan_lines.proofs.differs_from.Tie as tie
 
 enum-known-previous : tie.Need-enum-known-previous
 enum-known-previous c = search needs

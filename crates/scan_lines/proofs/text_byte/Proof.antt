@@ -1,8 +1,8 @@
--- `scans::text_byte` meets its contract. Assumes nothing.
+-- `scan_lines::text_byte` meets its contract. Assumes nothing.
 use borrow.Author.Tests.{le-leb, lt-leb, eq-eqb, ne-eqb}
-use Rattle.scans.specs.Line.{textByte}
-use Rattle.scans.proofs.text_byte.Statement.{statement}
-use Rattle.scans.proofs.text_byte.Tie as tie
+use Rattle.scan_lines.specs.Line.{textByte}
+use Rattle.scan_lines.proofs.text_byte.Statement.{statement}
+use Rattle.scan_lines.proofs.text_byte.Tie as tie
 
 returns : tie.Need-returns
 unfolding textByte

@@ -1,16 +1,16 @@
--- `scans::judge_line` meets its contract. Assumes nothing.
+-- `scan_lines::judge_line` meets its contract. Assumes nothing.
 use mathlib.Core.Path.{_≡_, sym, ap, _∙_}
 use mathlib.Core.Bool.{Bool, false, _&&_}
 use mathlib.Core.Logic.{⊎-elim}
 use borrow.Author.Needs.{needs}
 use denote.Ref.{now}
-use Rattle.scans.specs.declared.Judged.the-variants as judged
-use Rattle.scans.specs.Tokens.{repeats, differs}
-use Rattle.scans.specs.File.{scanOf}
-use Rattle.scans.specs.Read.{beforeOf}
-use Rattle.scans.proofs.JudgeLaws.{too-high, conflicting, undeclared, taken}
-use Rattle.scans.proofs.judge_line.Statement.{statement}
-use Rattle.scans.proofs.judge_line.Tie as tie
+use Rattle.scan_lines.specs.declared.Judged.the-variants as judged
+use Rattle.scan_lines.specs.Line.{scanOf}
+use Rattle.scan_lines.specs.Tokens.{repeats, differs}
+use Rattle.scan_lines.specs.Within.{beforeOf}
+use Rattle.scan_lines.proofs.JudgeLaws.{too-high, conflicting, undeclared, taken}
+use Rattle.scan_lines.proofs.judge_line.Statement.{statement}
+use Rattle.scan_lines.proofs.judge_line.Tie as tie
 
 returns : tie.Need-returns
 returns c = sym (too-high _ _ _ (c .if1 .taken))

@@ -1,14 +1,14 @@
--- `scans::read_text` meets its contract. The loop's invariant: the text from the start on is the text from here on, with n bytes read. Assumes nothing.
+-- `scan_lines::read_text` meets its contract. The loop's invariant: the text from the start on is the text from here on, with n bytes read. Assumes nothing.
 use Prim.Native.Nat.{_≤_, _-_}
 use mathlib.Core.Path.{_≡_, sym, _∙_}
 use borrow.Author.Needs.{needs}
 use borrow.Author.Tests.{not-true, not-false}
 use denote.Ref.{now}
 use lib.ListN.{length, drop}
-use Rattle.scans.specs.Line.{textFrom}
-use Rattle.scans.proofs.TextLaws.{text-over, text-end, text-more, text-broken}
-use Rattle.scans.proofs.read_text.Statement.{statement}
-use Rattle.scans.proofs.read_text.Tie as tie
+use Rattle.scan_lines.specs.Line.{textFrom}
+use Rattle.scan_lines.proofs.TextLaws.{text-over, text-end, text-more, text-broken}
+use Rattle.scan_lines.proofs.read_text.Statement.{statement}
+use Rattle.scan_lines.proofs.read_text.Tie as tie
 
 abbrev Inv-loop : tie.InvT-loop
 Inv-loop file at i₀ n₀ i n = (n ≤ i) × (textFrom (drop at file) at 0 ≡ textFrom (drop i file) i n)

@@ -1,17 +1,18 @@
 -- The lines of a scan file. Document 02, S-3: "a scan line becomes `sequence,letter,text`, the sequence a number written as in books."
 -- Document 01, 'Scan files', of letter and text: "one of A to Z, then 1 to 30 bytes from 33 to 126 without comma." Each is ended by an LF.
-use Prim.Native.Nat.{ℕ, _+_}
+use Prim.Native.Nat.{ℕ, _+_, _-_}
 use mathlib.Core.List.{List, [], _∷_}
 use mathlib.Core.Bool.{Bool, false, cond, not, _&&_}
-use lib.ListN.{drop}
+use lib.ListN.{take, drop}
 use lib.Dec.{leb, eqb}
 use Rattle.text.specs.declared.Cursor.{Cursor}
 use Rattle.text.specs.Field.{fieldAt, onNumber, onLetter}
-use Rattle.scans.specs.declared.Line.{Line}
-use Rattle.scans.specs.declared.Text.{Text}
-use Rattle.scans.specs.declared.Text.the-variants as text
-use Rattle.scans.specs.declared.Parsed.{Parsed}
-use Rattle.scans.specs.declared.Parsed.the-variants as parsed
+use Rattle.scan_lines.specs.declared.Line.{Line}
+use Rattle.scan_lines.specs.declared.Text.{Text}
+use Rattle.scan_lines.specs.declared.Text.the-variants as text
+use Rattle.scan_lines.specs.declared.Parsed.{Parsed}
+use Rattle.scan_lines.specs.declared.Parsed.the-variants as parsed
+use Rattle.scan_lines.specs.Tokens.{Scan}
 
 -- "bytes from 33 to 126 without comma", which is 44
 unfoldable pub textByte : ℕ → Bool
@@ -47,3 +48,11 @@ lineAt s at =
 abbrev pub onLine : {A : Type 0} → Parsed → (Line → A) → A → A
 onLine (parsed.Line line) f y = f line
 onLine parsed.Broken f y = y
+
+-- what a line of s says
+abbrev pub scanOf : List ℕ → Line → Scan
+scanOf s line = record {
+  sequence = line .sequence;
+  letter = line .letter;
+  text = take (line .end - line .text) (drop (line .text) s);
+}

@@ -6,8 +6,8 @@ use mathlib.Core.Bool.{true, false}
 use borrow.Author.Tests.{eq-eqb, ne-eqb}
 use lib.ListN.{length, getD, drop}
 use Rattle.text.proofs.Bytes.{here, past}
-use Rattle.scans.specs.declared.Text.the-variants as text
-use Rattle.scans.specs.Line.{textByte, textEnd, textFrom}
+use Rattle.scan_lines.specs.declared.Text.the-variants as text
+use Rattle.scan_lines.specs.Line.{textByte, textEnd, textFrom}
 
 module _ (s : List ℕ) (i n : ℕ) where
   pub text-over : length s ≤ i → textFrom (drop i s) i n ≡ text.Broken
