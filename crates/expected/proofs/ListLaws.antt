@@ -38,10 +38,11 @@ use Rattle.session.specs.Session.{Session, refusedAt, endedBy, tableSession, af
 use Rattle.session.specs.Session as session
 use Rattle.session.proofs.SessionLaws.{ended-wrong, ended-short}
 use Rattle.session.proofs.TableLaws.{all-terminals, walk-alike}
-use Rattle.expected_trials.specs.declared.Trial.{Trial}
+use Rattle.expected_trial.specs.declared.Trial.{Trial}
+use Rattle.expected_trial.specs.Trial.{asTokens, trialOf}
 use Rattle.expected_trials.specs.declared.ExpectedReply.{ExpectedReply}
 use Rattle.expected_trials.specs.declared.ExpectedReply.the-variants.{Refused}
-use Rattle.expected_trials.specs.Trials.{Expected, asTokens, trialOf, noted, tried, refusedBy, answeredAt, ListTold}
+use Rattle.expected_trials.specs.Trials.{Expected, noted, tried, refusedBy, answeredAt, ListTold}
 use Rattle.expected_trials.proofs.CodeLaws.{trials}
 use Rattle.expected.specs.Expected.{EndsAt, onReply, listFor, expected, Driven, Tells}
 use Rattle.expected.proofs.PlaceLaws.{on-ends, on-others}

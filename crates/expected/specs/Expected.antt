@@ -20,9 +20,10 @@ use Rattle.walker.specs.Walked as walker
 use Rattle.machine.specs.declared.Machine.{Machine}
 use Rattle.machine.specs.Machine.{Drives}
 use Rattle.session.specs.Session.{session}
+use Rattle.expected_trial.specs.Trial.{asTokens, trialOf}
 use Rattle.expected_trials.specs.declared.ExpectedReply.{ExpectedReply}
 use Rattle.expected_trials.specs.declared.ExpectedReply.the-variants.{Listed, Refused}
-use Rattle.expected_trials.specs.Trials.{Expected, asTokens, trialOf, tried, refusedBy, answeredAt, ListTold}
+use Rattle.expected_trials.specs.Trials.{Expected, tried, refusedBy, answeredAt, ListTold}
 
 -- "tokens whose reply is 0 or 12 at place p"
 abbrev pub EndsAt : Walked → ℕ → Type 0

@@ -20,7 +20,8 @@ ghost use Rattle.walker.specs.Walked.{memoryWalk};
 ghost use Rattle.machine.specs.Machine.{Drives};
 ghost use Rattle.table.specs.Book.{whole};
 ghost use Rattle.session.specs.Session.{tableSession, afterBooks};
-ghost use Rattle.expected_trials.specs.Trials.{asTokens, trialOf, tried, refusedBy, answeredAt, ListTold};
+ghost use Rattle.expected_trial.specs.Trial.{asTokens, trialOf};
+ghost use Rattle.expected_trials.specs.Trials.{tried, refusedBy, answeredAt, ListTold};
 ghost use Rattle.expected.specs.Expected.{onReply, listFor, expected, asReply, codeCount, Driven, Tells};
 
 // The answer without its count.
@@ -86,7 +87,7 @@ fn list_at(
         listing,
         codes,
     );
-    expected_trials::clear_walks(stack, listing);
+    expected_trial::clear_walks(stack, listing);
     answer
 }
 
@@ -151,7 +152,7 @@ fn list_machine(
 pub fn refuse(why: Refusal, stack: &mut [u8], listing: &mut [u8], codes: &mut [u8]) -> ExpectedReply
     ensures { λ r. ⌜ Tells (length (now (stack .entry))) (length (now (listing .entry))) (refusedBy (length (now (codes .entry))) why) r (now (stack .exit)) (now (listing .exit)) (now (codes .exit)) ⌝ }
 {
-    expected_trials::clear_walks(stack, listing);
+    expected_trial::clear_walks(stack, listing);
     clear(codes);
     ExpectedReply::Refused(why)
 }

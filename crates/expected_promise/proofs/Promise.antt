@@ -30,9 +30,10 @@ use Rattle.checker.proofs.Exactly.{accepts, accepted-sound, exactly}
 use Rattle.walker.specs.Walked.{answer}
 use Rattle.session.specs.Session.{Session, session, endedBy}
 use Rattle.session.proofs.SessionLaws.{session-walks}
-use Rattle.expected_trials.specs.declared.Trial.{Trial}
-use Rattle.expected_trials.specs.declared.Trial.the-variants.{Fits, Misfit, Outgrown}
-use Rattle.expected_trials.specs.Trials.{Expected, asTokens, trialOf, Tried, lacking, fitting, tried, shortAt, listedAt, answeredAt}
+use Rattle.expected_trial.specs.declared.Trial.{Trial}
+use Rattle.expected_trial.specs.declared.Trial.the-variants.{Fits, Misfit, Outgrown}
+use Rattle.expected_trial.specs.Trial.{asTokens, trialOf}
+use Rattle.expected_trials.specs.Trials.{Expected, Tried, lacking, fitting, tried, shortAt, listedAt, answeredAt}
 use Rattle.expected.specs.Expected.{EndsAt, onReply, listFor, expected}
 use Rattle.expected.proofs.PlaceLaws.{on-ends, on-others}
 use Rattle.expected_promise.specs.Promise.{CouldCome, ListOf, Lists, TrialOutgrows, ListOutgrows, Promised, HandsOn, Promise}

@@ -19,9 +19,9 @@ use Rattle.leftcorner.proofs.Place.{begins-take, not-sentence}
 use Rattle.leftcorner.proofs.Progress.{PopsSome}
 use Rattle.leftcorner.proofs.ReadOff.{clash}
 use Rattle.leftcorner.proofs.Resume.{outgrows-within}
-use Rattle.expected_trials.specs.declared.Trial.{Trial}
-use Rattle.expected_trials.specs.declared.Trial.the-variants.{Fits, Misfit, Outgrown}
-use Rattle.expected_trials.specs.Trials.{asTokens, trialOf}
+use Rattle.expected_trial.specs.declared.Trial.{Trial}
+use Rattle.expected_trial.specs.declared.Trial.the-variants.{Fits, Misfit, Outgrown}
+use Rattle.expected_trial.specs.Trial.{asTokens, trialOf}
 use Rattle.expected_promise.specs.Promise.{CouldCome}
 
 -- a trial says that A holds, that it does not, or that the walk outgrows what is lent with at most p tokens taken

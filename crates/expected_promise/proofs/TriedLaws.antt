@@ -11,8 +11,8 @@ use Rattle.language.specs.Sentence.{In, here, there}
 use Rattle.language.proofs.Member.{in-cons}
 use Rattle.language.proofs.Rising.{rising-below}
 use Rattle.leftcorner.proofs.ReadOff.{clash}
-use Rattle.expected_trials.specs.declared.Trial.{Trial}
-use Rattle.expected_trials.specs.declared.Trial.the-variants.{Fits, Misfit, Outgrown}
+use Rattle.expected_trial.specs.declared.Trial.{Trial}
+use Rattle.expected_trial.specs.declared.Trial.the-variants.{Fits, Misfit, Outgrown}
 use Rattle.expected_trials.specs.Trials.{Tried, lacking, fitting, noted, tried}
 
 module _ (f : ℕ → Trial) where

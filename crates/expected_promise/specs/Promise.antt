@@ -16,7 +16,8 @@ use Rattle.reply.specs.declared.Reply.the-variants as reply
 use Rattle.checker.specs.Checked.{verdictOf, Accepts}
 use Rattle.walker.specs.declared.Walked.the-variants.{Refused}
 use Rattle.session.specs.Session.{session}
-use Rattle.expected_trials.specs.Trials.{Expected, asTokens, refusedBy, shortAt, listedAt}
+use Rattle.expected_trial.specs.Trial.{asTokens}
+use Rattle.expected_trials.specs.Trials.{Expected, refusedBy, shortAt, listedAt}
 use Rattle.expected.specs.Expected.{EndsAt, expected}
 
 module _ (g : Grammar) where

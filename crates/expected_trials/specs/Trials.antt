@@ -3,14 +3,13 @@ use Prim.Native.Nat.{ℕ, zero, suc}
 use mathlib.Core.Path.{_≡_}
 use mathlib.Core.Bool.{cond}
 use mathlib.Core.List.{List, [], _∷_}
-use lib.Dec.{leb, ltb}
+use lib.Dec.{leb}
 use lib.ListN.{length, replicate}
-use Rattle.leftcorner.specs.Machine.{Verdict, whole-at, wrong-at, short-at}
 use Rattle.reply.specs.declared.Kind.the-variants.{BufferTooSmall}
 use Rattle.reply.specs.declared.Refusal.{Refusal}
 use Rattle.reply.specs.Reply.{padded}
-use Rattle.expected_trials.specs.declared.Trial.{Trial}
-use Rattle.expected_trials.specs.declared.Trial.the-variants.{Fits, Misfit, Outgrown}
+use Rattle.expected_trial.specs.declared.Trial.{Trial}
+use Rattle.expected_trial.specs.declared.Trial.the-variants.{Fits, Misfit, Outgrown}
 use Rattle.expected_trials.specs.declared.ExpectedReply.{ExpectedReply}
 use Rattle.expected_trials.specs.declared.ExpectedReply.the-variants.{Listed, Refused}
 
@@ -20,18 +19,6 @@ pub record Expected : Type 0 where
   pub codes : List ℕ
 
 -- ---- trials
-
--- a code as it is put after the tokens; 0 is their end
-abbrev pub asTokens : ℕ → List ℕ
-asTokens zero = []
-asTokens (suc a) = suc a ∷ []
-
--- "A trial walks the first p tokens and then the code until it is taken." The walk over both ends past p exactly where it took the
--- code; 0 is taken where the walk is whole.
-abbrev pub trialOf : ℕ → Verdict → Trial
-trialOf p (whole-at q l) = Fits
-trialOf p (wrong-at q) = cond (ltb p q) Fits Misfit
-trialOf p (short-at q) = cond (ltb p q) Fits Outgrown
 
 -- what trials come to: the codes that fit, unless one outgrows what is lent
 pub data Tried : Type 0 where

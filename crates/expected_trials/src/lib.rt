@@ -1,24 +1,18 @@
 // The codes that would have fitted after some tokens: each is tried, by the walk over the tokens and the code behind them.
 // Inner: for `expected`, whose answer is an `ExpectedReply`.
+use expected_trial::Trial;
 use machine::Machine;
 use reply::Kind;
 use reply::Refusal;
 use reply::clear;
-use walker::Walked;
 ghost use mathlib.Core.Path.{_≡_};
 ghost use mathlib.Core.List.{_++_};
 ghost use Prim.Native.Nat.{suc, _≤_, _<_};
 ghost use lib.ListN.{length, take, replicate};
 ghost use Rattle.walk_tables.specs.Memory.{Shaped};
 ghost use Rattle.walker.specs.Walked.{memoryWalk};
-ghost use Rattle.expected_trials.specs.Trials.{asTokens, trialOf, tried, refusedBy, answeredAt, ListTold};
-
-// What the trial of a code tells: that it could come, that it could not, or that the walk outgrows what is lent before it is taken.
-pub enum Trial {
-    Fits,
-    Misfit,
-    Outgrown,
-}
+ghost use Rattle.expected_trial.specs.Trial.{asTokens, trialOf};
+ghost use Rattle.expected_trials.specs.Trials.{tried, refusedBy, answeredAt, ListTold};
 
 // The place of the session's reply 0 or 12, and the number of codes in the list.
 pub struct Listed {
@@ -30,81 +24,6 @@ pub struct Listed {
 pub enum ExpectedReply {
     Listed(Listed),
     Refused(Refusal),
-}
-
-// Walks the first tokens and a code behind them: past the place, the code was taken.
-fn try_tokens(
-    kinds: &[u8],
-    values: &[u8],
-    gotos: &[u8],
-    rows: &[u8],
-    start: u8,
-    tokens: &[u8],
-    place: usize,
-    stack: &mut [u8],
-    listing: &mut [u8],
-) -> Trial
-    requires { ⌜ Shaped (now kinds) (now values) (now gotos) (now rows) ⌝ }
-    ensures { λ r. ⌜ r ≡ trialOf place (memoryWalk (now (kinds .entry)) (now (values .entry)) (now (gotos .entry)) (now (rows .entry)) start (length (now (stack .entry))) (length (now (listing .entry))) (now (tokens .entry))) ⌝ }
-{
-    let walked = walker::run(kinds, values, gotos, rows, start, tokens, stack, listing);
-    let Walked::Refused(why) = walked else {
-        return Trial::Fits;
-    };
-    if place < why.place {
-        return Trial::Fits;
-    }
-    let kind = why.kind;
-    if reply::kind_number(kind) == 12 {
-        return Trial::Misfit;
-    }
-    Trial::Outgrown
-}
-
-// Tries a code after the first tokens, which stand in `trial`.
-fn try_code(
-    kinds: &[u8],
-    values: &[u8],
-    gotos: &[u8],
-    rows: &[u8],
-    start: u8,
-    trial: &mut [u8],
-    place: usize,
-    code: u8,
-    stack: &mut [u8],
-    listing: &mut [u8],
-) -> Trial
-    requires { ⌜ Shaped (now kinds) (now values) (now gotos) (now rows) ⌝ }
-    requires { ⌜ place < length (now trial) ⌝ }
-    ensures { λ r. ⌜ r ≡ trialOf place (memoryWalk (now (kinds .entry)) (now (values .entry)) (now (gotos .entry)) (now (rows .entry)) start (length (now (stack .entry))) (length (now (listing .entry))) (take place (now (trial .entry)) ++ asTokens code)) ⌝ }
-    ensures { λ r. ⌜ take place (now (trial .exit)) ≡ take place (now (trial .entry)) ⌝ }
-{
-    if code == 0 {
-        return try_tokens(
-            kinds,
-            values,
-            gotos,
-            rows,
-            start,
-            &trial[..place],
-            place,
-            stack,
-            listing,
-        );
-    }
-    trial[place] = code;
-    let end = place + 1;
-    try_tokens(
-        kinds,
-        values,
-        gotos,
-        rows,
-        start,
-        &trial[..end],
-        place,
-        stack,
-        listing,
-    )
 }
 
 // A trial or the list outgrows what is lent.
@@ -140,7 +59,7 @@ pub fn try_codes(
     let mut left = machine.terminals + 1;
     while 0 < left {
         let code = next;
-        let told = try_code(
+        let told = expected_trial::try_code(
             kinds,
             values,
             gotos,
@@ -172,12 +91,4 @@ pub fn try_codes(
         place,
         codes: count,
     })
-}
-
-// Clears the slices of the walks, once for all trials.
-pub fn clear_walks(stack: &mut [u8], listing: &mut [u8])
-    ensures { λ r. ⌜ (now (stack .exit) ≡ replicate (length (now (stack .entry))) 0) × (now (listing .exit) ≡ replicate (length (now (listing .entry))) 0) ⌝ }
-{
-    clear(stack);
-    clear(listing);
 }

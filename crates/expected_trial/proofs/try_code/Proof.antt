@@ -7,10 +7,10 @@ use lib.ListN.{length, set, length-set}
 use lib.Seq.{take-set-le, length-take-le}
 use borrow.Author.Needs.{needs}
 use Rattle.walker.specs.Walked.{memoryWalk}
-use Rattle.expected_trials.specs.Trials.{trialOf}
-use Rattle.expected_trials.proofs.CodeLaws.{no-code, code-behind}
-use Rattle.expected_trials.proofs.try_code.Statement.{statement}
-use Rattle.expected_trials.proofs.try_code.Tie as tie
+use Rattle.expected_trial.specs.Trial.{trialOf}
+use Rattle.expected_trial.proofs.TrialLaws.{no-code, code-behind}
+use Rattle.expected_trial.proofs.try_code.Statement.{statement}
+use Rattle.expected_trial.proofs.try_code.Tie as tie
 
 slice-reshare-prefix-try-tokens : tie.Need-slice-reshare-prefix-try-tokens
 slice-reshare-prefix-try-tokens c = search needs

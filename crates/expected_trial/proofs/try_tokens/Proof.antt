@@ -5,9 +5,9 @@ use native.Mathlib.Omega.{arith}
 use borrow.Author.Needs.{needs}
 use Rattle.walk_tables.specs.Memory.{memoryGrammar}
 use Rattle.walker.specs.Walked.{memoryWalk}
-use Rattle.expected_trials.proofs.CodeLaws.{trial-whole, trial-past, trial-misfit, trial-outgrown}
-use Rattle.expected_trials.proofs.try_tokens.Statement.{statement}
-use Rattle.expected_trials.proofs.try_tokens.Tie as tie
+use Rattle.expected_trial.proofs.TrialLaws.{trial-whole, trial-past, trial-misfit, trial-outgrown}
+use Rattle.expected_trial.proofs.try_tokens.Statement.{statement}
+use Rattle.expected_trial.proofs.try_tokens.Tie as tie
 
 run-requires : tie.Need-run-requires
 run-requires c κs = search needs
