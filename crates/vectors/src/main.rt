@@ -365,7 +365,7 @@ fn show_walked_load(
 )
     requires { ⌜ seed ≤ 65536 ⌝ }
 {
-    let mut tokens = [7u8; generator::TOKENS];
+    let mut tokens = [7u8; generate_steps::TOKENS];
     let mut listing = lend(7);
     let mut out = named(i);
     let answer = generator::make_load(loaded, seed as u32, depth, &mut tokens, &mut listing);
