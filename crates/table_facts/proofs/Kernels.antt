@@ -16,7 +16,8 @@ use Rattle.table_lines.specs.Line.{lineAt}
 use Rattle.table_lines.specs.Block.{Outcome, takes, stops, read}
 use Rattle.table_lines.proofs.BlockLaws.{lines-keep}
 use Rattle.table_kernels.specs.Kernels.{judgeKernel, noKernel, kernelNext, kernelsFrom}
-use Rattle.table_kernels.proofs.NextLaws.{KernelFine, kernel-fine, at-most}
+use Rattle.table_kernels.proofs.NextLaws.{KernelFine, kernel-fine}
+use Rattle.table_lines.proofs.CapLaws.{at-most}
 use Rattle.table_facts.proofs.Lines.{all-line, judged-goes, Came, judged-came, came-onward}
 use Rattle.table_facts.proofs.Blocks.{block-ends, Each, each-none, each-more}
 

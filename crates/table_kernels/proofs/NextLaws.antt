@@ -23,6 +23,7 @@ use Rattle.table_lines.specs.Line.{whole, broken, lineAt, allAtMost, rising, ca
 use Rattle.table_lines.specs.declared.Block.{Block}
 use Rattle.table_lines.specs.Block.{takes, fault, stepOf, Comes, stopped, turned, Lines, Reads, all-read, turned-away}
 use Rattle.table_lines.proofs.BlockLaws.{judge-fine}
+use Rattle.table_lines.proofs.CapLaws.{at-most}
 use Rattle.table_lines.proofs.TallyLaws.{rising-short}
 use Rattle.table_lines.proofs.HeldLaws.{numbersOf}
 use Rattle.table_kernels.specs.Kernels.{judgeWith, judgeKernel, noKernel, kernelNext}
@@ -104,11 +105,6 @@ with-fine rise t states items lens l ns e q =
 pub kernel-fine : (t states items : ℕ) (lens : ℕ → ℕ) (l : List KernelLine) (ns : List ℕ) → judgeKernel t states items lens l ns ≡ Fine → KernelFine t states items lens l ns
 unfolding judgeKernel
 kernel-fine t states items lens l ns e = with-fine (rising (drop 3 ns)) t states items lens l ns e (λ a. refl)
-
-pub at-most : (m : ℕ) (l : List ℕ) → allAtMost m l ≡ true → (k : ℕ) → getD l k 0 ≤ m
-at-most m [] e k = omega arith
-at-most m (v ∷ l) e zero = leb-true v m (both-true (leb v m) (allAtMost m l) e .0)
-at-most m (v ∷ l) e (suc k) = at-most m l (both-true (leb v m) (allAtMost m l) e .1) k
 
 -- its key is of such numbers
 pub key-small : (ns : List ℕ) → allAtMost 65535 ns ≡ true → (j : ℕ) → getD (getD ns 0 0 ∷ getD ns 1 0 ∷ getD ns 2 0 ∷ []) j 0 ≤ 65535

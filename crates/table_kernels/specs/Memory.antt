@@ -5,7 +5,7 @@ use mathlib.Core.List.{List, [], _∷_}
 use mathlib.Core.Bool.{Bool, false, _||_}
 use mathlib.Core.Option.{Option, some, none}
 use lib.Dec.{eqb}
-use lib.ListN.{length, getD, set}
+use lib.ListN.{getD, set}
 use Rattle.language.specs.Grammar.{at}
 use Rattle.leftcorner.specs.Table.{KernelLine, K}
 use Rattle.table_lines.specs.Image.{image, flag}
@@ -31,12 +31,6 @@ codesOf (some (K q i k σ)) = σ
 
 unfoldable pub lookaheadAt : List KernelLine → ℕ → ℕ
 lookaheadAt l x = flag (isIn (x % 64) (codesOf (at l (x / 64))))
-
--- so many lines have been read, of which this is the last one's key
-pub record HoldsLast (last : List ℕ) (count : ℕ) : Type 0 where
-  pub lines : List KernelLine
-  pub count-is : length lines ≡ count
-  pub last-is : LastIs kernelKey last lines
 
 -- a 1 stored at each of these codes from base on
 abbrev pub flagged : List ℕ → ℕ → List ℕ → List ℕ

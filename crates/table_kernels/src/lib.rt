@@ -17,10 +17,10 @@ ghost use lib.ListN.{length, getD, take, drop, set};
 ghost use Rattle.items.specs.Layout.{Shaped, lengthAt};
 ghost use Rattle.leftcorner.specs.Table.{KernelLine};
 ghost use Rattle.table_order.specs.Order.{kernelKey};
-ghost use Rattle.table_order.specs.Last.{LastIs};
+ghost use Rattle.table_order.specs.Last.{LastIs, HoldsLast};
 ghost use Rattle.table_lines.specs.Block.{Summarizes, stepOf, Comes, Reads};
 ghost use Rattle.table_kernels.specs.Kernels.{judgeWith, noKernel, kernelNext, kernelsFrom};
-ghost use Rattle.table_kernels.specs.Memory.{HoldsLast, flagged, KernelImage, KernelMemory};
+ghost use Rattle.table_kernels.specs.Memory.{flagged, KernelImage, KernelMemory};
 
 fn judge_kernel(
     t: usize,
@@ -131,7 +131,7 @@ fn read_kernel(
 ) -> Step
     requires { ⌜ (length (now s) < 65537) × (t ≤ 63) × (states ≤ 255) × (items ≤ 255) × (length (now last) ≡ 3) ⌝ }
     requires { ⌜ Shaped (now m) items ⌝ }
-    requires { ⌜ HoldsLast (now last) lines ⌝ }
+    requires { ⌜ HoldsLast kernelKey (now last) lines ⌝ }
     ensures { λ r. ⌜ ((a b : ℕ) (l : List KernelLine) → length l ≡ lines → KernelMemory a b l (now (kernels .entry)) (now (lookaheads .entry)) (now (last .entry))
         → Comes l (λ k. KernelMemory a b k (now (kernels .exit)) (now (lookaheads .exit)) (now (last .exit))) (kernelNext (now (s .entry)) t states items (lengthAt (now (m .entry))) at l) r) ⌝ }
 {

@@ -1,5 +1,5 @@
 -- What the last key tells of the next line, by its numbers as they are and as memory keeps them.
-use Prim.Native.Nat.{ℕ, suc, min, _≤_, _<_}
+use Prim.Native.Nat.{ℕ, zero, suc, min, _≤_, _<_}
 use mathlib.Core.Path.{_≡_, refl, sym, ap, subst, _∙_}
 use mathlib.Core.List.{List, [], _∷_, _++_}
 use mathlib.Core.Bool.{Bool, _||_}
@@ -7,7 +7,7 @@ use native.Mathlib.Decide.{decLe}
 use native.Mathlib.Omega.{arith}
 use borrow.Author.Tests.{lt-ltb, ne-eqb}
 use lib.Dec.{eqb}
-use lib.ListN.{length, getD, length-append}
+use lib.ListN.{length, getD, replicate, length-append}
 use Rattle.table_order.specs.Order.{below, follows}
 use Rattle.table_order.specs.Last.{isAfter, LastIs}
 use Rattle.table_order.proofs.OrderLaws.{follows-last}
@@ -47,3 +47,8 @@ last-more {key = key} l x {last} e low = record {
       ∙ (ap (λ (m : List ℕ). below m k) (sym e)
       ∙ ap (λ (b : Bool). b || below last k) (sym (ne-eqb (length (l ++ x ∷ [])) 0 (λ z. omega (arith, z, length-append l (x ∷ []))))));
 }
+
+pub zeros-low : (n j : ℕ) → getD (replicate n 0) j 0 ≤ 65535
+zeros-low zero j = omega arith
+zeros-low (suc n) zero = omega arith
+zeros-low (suc n) (suc j) = zeros-low n j

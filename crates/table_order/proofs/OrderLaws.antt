@@ -81,7 +81,7 @@ module _ {A : Type 0} (key : A → List ℕ) where
   above-all k (x ∷ l) f = (f x here, above-all k l (λ y m. f y (there m)))
 
   -- a line that follows the last line is above all of them
-  follows-all : (l : List A) (k : List ℕ) → RisingBy l → follows key l k ≡ true → (y : A) → In y l → Below (key y) k
+  pub follows-all : (l : List A) (k : List ℕ) → RisingBy l → follows key l k ≡ true → (y : A) → In y l → Below (key y) k
   follows-all [] k r e y m = elim m [ ]
   follows-all (x ∷ []) k r e y m = go (in-cons m)
     where

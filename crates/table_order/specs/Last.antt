@@ -15,3 +15,9 @@ isAfter lines last k = eqb lines 0 || below last k
 pub record LastIs {A : Type 0} (key : A → List ℕ) (last : List ℕ) (l : List A) : Type 0 where
   pub low : (j : ℕ) → getD last j 0 ≤ 65535
   pub tests : (k : List ℕ) → follows key l k ≡ isAfter (length l) last k
+
+-- so many lines have been read, of which this is the last one's key
+pub record HoldsLast {A : Type 0} (key : A → List ℕ) (last : List ℕ) (count : ℕ) : Type 0 where
+  pub lines : List A
+  pub count-is : length lines ≡ count
+  pub last-is : LastIs key last lines

@@ -1,6 +1,7 @@
 -- `table_kernels::read_kernel` meets its contract. Assumes nothing.
-use Rattle.table_kernels.proofs.NextLaws.{code-low, none-comes, kernel-broken, kernel-other, kernel-refused, kernel-kept, KernelFine, with-fine, at-most, key-small, fine-short}
+use Rattle.table_kernels.proofs.NextLaws.{code-low, none-comes, kernel-broken, kernel-other, kernel-refused, kernel-kept, KernelFine, with-fine, key-small, fine-short}
 use Rattle.table_kernels.proofs.MemoryLaws.{kernel-more, figures-by, triple-by, flags-by}
+use Rattle.table_lines.proofs.CapLaws.{at-most}
 use Rattle.table_lines.proofs.HeldLaws.{Whole, whole-read, broken-read, held-count, held-at, numbers-take}
 use Rattle.table_lines.specs.Block.{taken, turned}
 use Rattle.table_lines.specs.Line.{lineAt}

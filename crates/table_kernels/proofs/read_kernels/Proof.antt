@@ -1,18 +1,11 @@
 -- `table_kernels::read_kernels` meets its contract. Assumes nothing.
 use Rattle.table_kernels.proofs.NextLaws.{image-reads}
-use Rattle.table_order.proofs.LastLaws.{last-none}
-use lib.ListN.{getD, replicate, length-replicate}
+use Rattle.table_order.proofs.LastLaws.{last-none, zeros-low}
+use lib.ListN.{length-replicate}
 use mathlib.Core.Path.{sym}
-use Prim.Native.Nat.{ℕ, zero, suc, _≤_}
-use native.Mathlib.Omega.{arith}
+use Prim.Native.Nat.{ℕ}
 use Rattle.table_kernels.proofs.read_kernels.Statement.{statement}
 use Rattle.table_kernels.proofs.read_kernels.Tie as tie
-
-zeros : (j : ℕ) → getD (replicate 3 0) j 0 ≤ 65535
-zeros zero = omega arith
-zeros (suc zero) = omega arith
-zeros (suc (suc zero)) = omega arith
-zeros (suc (suc (suc j))) = omega arith
 
 slice-aggregate-read-rising : tie.Need-slice-aggregate-read-rising
 slice-aggregate-read-rising c = sym (length-replicate {A = ℕ} 3 0)
@@ -20,7 +13,7 @@ slice-aggregate-read-rising c = sym (length-replicate {A = ℕ} 3 0)
 read-rising-requires : tie.Need-read-rising-requires
 read-rising-requires c κs = let p = c .before .before .before .before .before .before .before .pre in (
   (p .0 .0, p .0 .1, p .0 .2, p .0 .3, length-replicate {A = ℕ} 3 0),
-  (p .1 .0, record { held = p .1 .1; last-is = last-none zeros }),
+  (p .1 .0, record { held = p .1 .1; last-is = last-none (zeros-low 3) }),
 )
 
 same-length : tie.Need-same-length
