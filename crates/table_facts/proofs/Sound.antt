@@ -20,6 +20,8 @@ use Rattle.leftcorner.specs.Table.{EntryLine, E, KernelLine, Action, S, N, A, P
 use Rattle.leftcorner.specs.Construction.{entryItem, EntryAt, ActionAt, WellFormed}
 use Rattle.leftcorner.proofs.ReadOff.{clash}
 use Rattle.memory.specs.Fits.{Fits}
+use Rattle.table_order.specs.Order.{actionKey}
+use Rattle.table_order.proofs.OrderLaws.{RisingBy, rising-one}
 use Rattle.table_lines.specs.Block.{Lines, read, refused}
 use Rattle.table_entries.specs.Entries.{entriesFrom}
 use Rattle.table_kernels.specs.Kernels.{kernelsFrom}
@@ -28,7 +30,7 @@ use Rattle.table_head.specs.declared.Head.{Head}
 use Rattle.table_head.specs.declared.Head.the-variants as head
 use Rattle.table.specs.Book.{headOf, onHead, Reading, whole, rejected, onLines, lengthsOf, tableWith, actionsOf, kernelsOf, entriesOf, tableOf, tablesOf}
 use Rattle.table_head.proofs.HeadLaws.{head-within}
-use Rattle.table_facts.proofs.Blocks.{Each, each-in, Once, once-in}
+use Rattle.table_facts.proofs.Blocks.{Each, each-in, Once}
 use Rattle.table_facts.proofs.Entries as entries
 use Rattle.table_facts.proofs.Kernels as kernels
 use Rattle.table_facts.proofs.Actions as actions
@@ -73,7 +75,7 @@ module _ (g : Grammar) (t : Table) where
 
   module _ (es : Each (entries.Declared g (t .states)) (t .entries)) (one : Once entries.entryString (t .entries))
       (ks : Each KernelDeclared (t .kernels))
-      (xs : Each ActionDeclared (t .actions)) (single : Once actions.actionPlace (t .actions)) where
+      (xs : Each ActionDeclared (t .actions)) (single : RisingBy actionKey (t .actions)) where
     entry-in : (k s : ℕ) (γ : List ℕ) → EntryAt g t k s γ → entries.EntryDeclared g (t .states) s γ
     entry-in zero s γ e = clash cc
     entry-in (suc k) s γ e = es .each k e
@@ -84,7 +86,7 @@ module _ (g : Grammar) (t : Table) where
     one-entry (suc j) (suc k) s u γ e f = ap suc (one .once j k e f refl)
 
     one-action : (q X : ℕ) (x y : Action) → ActionAt g t q X x → ActionAt g t q X y → x ≡ y
-    one-action q X x y m n = let e : L q X x ≡ L q X y = once-in actions.actionPlace single m n refl in cc
+    one-action q X x y m n = let e : L q X x ≡ L q X y = rising-one actionKey (t .actions) single m n refl in cc
 
     lines-formed : WellFormed g t
     lines-formed = record {
@@ -155,11 +157,13 @@ module _ (gs s : List ℕ) {g : Grammar} (a : grammarOf gs ≡ accepted g) {stat
             (entries.entries-declared g s states count first i) (entries.entries-once g s states count first i)
             (kernels.kernels-declared s (g .terminals) states items lens second j)
             (actions.actions-declared s (g .terminals) (g .nonterminals) (length (g .rules)) states third k)
-            (actions.actions-once s (g .terminals) (g .nonterminals) (length (g .rules)) states third k)
+            (actions.actions-rise s (g .terminals) (g .nonterminals) (length (g .rules)) states third k)
             (w .0 .1) (omega (arith, n, w .1)) (kernels.kernels-few s (g .terminals) states items lens second j);
         some-state = w .0 .0;
         some-entry = omega (arith, n, w .1);
         some-kernel = kernels.kernels-some s (g .terminals) states items lens second j;
+        kernels-rise = kernels.kernels-rise s (g .terminals) states items lens second j;
+        actions-rise = actions.actions-rise s (g .terminals) (g .nonterminals) (length (g .rules)) states third k;
       }
     where
       items : ℕ

@@ -1,6 +1,6 @@
 -- Lines in rising order. Two lists that rise and have the same members are the same.
 use Prim.Native.Nat.{ℕ, _<_}
-use mathlib.Core.Path.{_≡_, refl, sym, ap₂, subst}
+use mathlib.Core.Path.{_≡_, refl, sym, ap, ap₂, subst, _∙_}
 use mathlib.Core.Logic.{_⊎_, inl, inr}
 use mathlib.Core.List.{List, [], _∷_, _++_}
 use mathlib.Core.Bool.{Bool, true, false, _&&_, _||_}
@@ -9,7 +9,7 @@ use borrow.Author.Tests.{ltb-true, eqb-true, lt-ltb, eq-eqb}
 use lib.Dec.{ltb, eqb}
 use Rattle.language.specs.Sentence.{In, here, there}
 use Rattle.language.proofs.TestLaws.{both-true}
-use Rattle.language.proofs.Member.{in-cons, in-right}
+use Rattle.language.proofs.Member.{in-cons}
 use Rattle.leftcorner.proofs.ReadOff.{clash}
 use Rattle.table_order.specs.Order.{below, follows}
 
@@ -112,11 +112,16 @@ module _ {A : Type 0} (key : A → List ℕ) where
   rising-follows (y ∷ []) x later r = true-below (key y) (key x) (r .0 .0)
   rising-follows (y ∷ z ∷ l) x later r = rising-follows (z ∷ l) x later (r .1)
 
-  -- no other line has its key
-  pub rising-once : (earlier : List A) (x : A) (later : List A) → RisingBy (earlier ++ x ∷ later) → (y : A) → In y earlier → Below (key y) (key x)
-  rising-once [] x later r y m = elim m [ ]
-  rising-once (z ∷ l) x later r y here = above-in (key z) (r .0) (in-right l here)
-  rising-once (z ∷ l) x later r y (there m) = rising-once l x later (r .1) y m
+  -- a line is the only one with its key
+  pub rising-one : (l : List A) {x y : A} → RisingBy l → In x l → In y l → key x ≡ key y → x ≡ y
+  rising-one [] r m n e = elim m [ ]
+  rising-one (z ∷ l) {x} {y} r m n e = go (in-cons m) (in-cons n)
+    where
+      go : (x ≡ z) ⊎ In x l → (y ≡ z) ⊎ In y l → x ≡ y
+      go (inl p) (inl q) = p ∙ sym q
+      go (inl p) (inr q) = let b = subst (λ (k : List ℕ). Below k (key y)) (ap key (sym p) ∙ e) (above-in (key z) (r .0) q) in absurd (below-not (key y) (key y) b b)
+      go (inr p) (inl q) = let b = subst (λ (k : List ℕ). Below k (key x)) (ap key (sym q) ∙ sym e) (above-in (key z) (r .0) p) in absurd (below-not (key x) (key x) b b)
+      go (inr p) (inr q) = rising-one l (r .1) p q e
 
   -- ---- the same members
   behind : {x w : A} {l m : List A} → Above (key x) l → ((z : A) → In z (x ∷ l) → In z (x ∷ m)) → In w l → In w m
