@@ -115,13 +115,13 @@ module _ {A : Type 0} (key : A → List ℕ) where
   -- a line is the only one with its key
   pub rising-one : (l : List A) {x y : A} → RisingBy l → In x l → In y l → key x ≡ key y → x ≡ y
   rising-one [] r m n e = elim m [ ]
-  rising-one (z ∷ l) {x} {y} r m n e = go (in-cons m) (in-cons n)
+  rising-one (z ∷ l) {x} {y} r m n e = go (in-cons m) (in-cons n) (λ p q. rising-one l (r .1) p q e)
     where
-      go : (x ≡ z) ⊎ In x l → (y ≡ z) ⊎ In y l → x ≡ y
-      go (inl p) (inl q) = p ∙ sym q
-      go (inl p) (inr q) = let b = subst (λ (k : List ℕ). Below k (key y)) (ap key (sym p) ∙ e) (above-in (key z) (r .0) q) in absurd (below-not (key y) (key y) b b)
-      go (inr p) (inl q) = let b = subst (λ (k : List ℕ). Below k (key x)) (ap key (sym q) ∙ sym e) (above-in (key z) (r .0) p) in absurd (below-not (key x) (key x) b b)
-      go (inr p) (inr q) = rising-one l (r .1) p q e
+      go : (x ≡ z) ⊎ In x l → (y ≡ z) ⊎ In y l → (In x l → In y l → x ≡ y) → x ≡ y
+      go (inl p) (inl q) f = p ∙ sym q
+      go (inl p) (inr q) f = let b = subst (λ (k : List ℕ). Below k (key y)) (ap key (sym p) ∙ e) (above-in (key z) (r .0) q) in absurd (below-not (key y) (key y) b b)
+      go (inr p) (inl q) f = let b = subst (λ (k : List ℕ). Below k (key x)) (ap key (sym q) ∙ sym e) (above-in (key z) (r .0) p) in absurd (below-not (key x) (key x) b b)
+      go (inr p) (inr q) f = f p q
 
   -- ---- the same members
   behind : {x w : A} {l m : List A} → Above (key x) l → ((z : A) → In z (x ∷ l) → In z (x ∷ m)) → In w l → In w m
