@@ -9,7 +9,7 @@ use borrow.Author.Tests.{ltb-true, eqb-true, lt-ltb, eq-eqb}
 use lib.Dec.{ltb, eqb}
 use Rattle.language.specs.Sentence.{In, here, there}
 use Rattle.language.proofs.TestLaws.{both-true}
-use Rattle.language.proofs.Member.{in-cons}
+use Rattle.language.proofs.Member.{in-cons, in-right}
 use Rattle.leftcorner.proofs.ReadOff.{clash}
 use Rattle.table_order.specs.Order.{below, follows}
 
@@ -111,6 +111,12 @@ module _ {A : Type 0} (key : A → List ℕ) where
   rising-follows [] x later r = refl
   rising-follows (y ∷ []) x later r = true-below (key y) (key x) (r .0 .0)
   rising-follows (y ∷ z ∷ l) x later r = rising-follows (z ∷ l) x later (r .1)
+
+  -- its key is above that of each of them
+  pub rising-once : (earlier : List A) (x : A) (later : List A) → RisingBy (earlier ++ x ∷ later) → (y : A) → In y earlier → Below (key y) (key x)
+  rising-once [] x later r y m = elim m [ ]
+  rising-once (z ∷ l) x later r y here = above-in (key z) (r .0) (in-right l here)
+  rising-once (z ∷ l) x later r y (there m) = rising-once l x later (r .1) y m
 
   -- a line is the only one with its key
   pub rising-one : (l : List A) {x y : A} → RisingBy l → In x l → In y l → key x ≡ key y → x ≡ y
