@@ -5,3 +5,6 @@ pub mod Entries
 pub mod Kernels
 pub mod Actions
 pub mod Book
+pub mod Groups
+pub mod Same
+pub mod Promise

@@ -1,0 +1,58 @@
+-- The promise (specs/Promise.antt), proved: a book that was read is the text of its table, and the order of its lines is all that its records
+-- leave open.
+use Prim.Native.Nat.{ℕ}
+use mathlib.Core.Path.{_≡_, refl, sym, ap, subst, _∙_}
+use mathlib.Core.List.{List}
+use Rattle.language.specs.Grammar.{Grammar}
+use Rattle.leftcorner.specs.Table.{Table}
+use Rattle.leftcorner.specs.Claim.{_↔_}
+use Rattle.reply.specs.declared.Reply.the-variants.{Accepted}
+use Rattle.grammar.specs.Book.{accepted, grammarOf}
+use Rattle.table.specs.Book.{whole, tablesOf}
+use Rattle.table_facts.proofs.Sound.{tables-grammar}
+use Rattle.build_book.specs.Text.{tableText}
+use Rattle.checker.specs.Checked.{verdictOf, Accepts}
+use Rattle.checker.proofs.Exactly.{exactly}
+use Rattle.canonical.specs.Promise.{SameRecords, OrderPromise}
+use Rattle.canonical.proofs.Book.{reads-text}
+use Rattle.canonical.proofs.Same.{Ordered, same-table}
+
+-- a book gives one table, whichever books the grammar was read from
+module _ (gs hs s : List ℕ) {g : Grammar} {t u : Table} (e : tablesOf gs s ≡ whole g t) (f : tablesOf hs s ≡ whole g u) where
+  one-table : t ≡ u
+  unfolding tablesOf
+  one-table =
+      let same : tablesOf gs s ≡ tablesOf hs s = simp (tables-grammar gs s e, tables-grammar hs s f) in
+      let q : whole g t ≡ whole g u = sym e ∙ (same ∙ f) in cc
+
+same-records : (t : Table) → SameRecords t t
+same-records t = record { states = refl; entries = λ x. same; kernels = λ x. same; actions = λ x. same }
+  where
+    same : {A : Type 0} → A ↔ A
+    same = record { to = λ a. a; from = λ a. a }
+
+-- what an accepted book holds, of the grammar that its grammar book gives
+accepted-table : (gs s : List ℕ) {g : Grammar} → grammarOf gs ≡ accepted g → verdictOf gs s ≡ Accepted 0 → (t : Table) × Accepts gs s g t
+accepted-table gs s {g} e v =
+    let r = exactly gs s .to v in
+    let same : r .0 ≡ g = same-grammar (sym (tables-grammar gs s (r .2 .reads)) ∙ e) in
+    (r .1, subst (λ (h : Grammar). Accepts gs s h (r .1)) same (r .2))
+  where
+    same-grammar : {h g : Grammar} → accepted h ≡ accepted g → h ≡ g
+    same-grammar z = cc
+
+module _ (ordered : (gs s : List ℕ) (g : Grammar) (t : Table) → tablesOf gs s ≡ whole g t → Ordered g t) where
+  same-bytes : (gs hs s w : List ℕ) {g : Grammar} {t u : Table} → Accepts gs s g t → Accepts hs w g u → SameRecords t u ↔ (s ≡ w)
+  same-bytes gs hs s w {g} {t} {u} a b = record {
+    to = λ h. reads-text gs s (a .reads) ∙ (ap tableText (same-table (ordered gs s g t (a .reads)) (ordered hs w g u (b .reads)) h (a .meets) (b .meets)) ∙ sym (reads-text hs w (b .reads)));
+    from = λ q. subst (SameRecords t) (one-table gs hs s (a .reads) (subst (λ (x : List ℕ). tablesOf hs x ≡ whole g u) (sym q) (b .reads))) (same-records t);
+  }
+
+  pub order-promise : OrderPromise
+  order-promise = record {
+    same-bytes = λ g gs hs s w e f v r.
+        let a = accepted-table gs s e v in
+        let b = accepted-table hs w f r in
+        (a .0, b .0, a .1, b .1, same-bytes gs hs s w (a .1) (b .1));
+    written = λ gs s g t e. reads-text gs s e;
+  }
