@@ -15,8 +15,8 @@ use Rattle.table.specs.Book.{tableWith}
 use Rattle.canonical.specs.Promise.{SameRecords}
 use Rattle.canonical.proofs.Groups.{GoalFirst, goal-first}
 
--- the lines of a table that was read stand in the order of document 02
-pub record Ordered (g : Grammar) (t : Table) : Type 0 where
+-- the lines of a table that was read rise by their keys
+pub record Rising (g : Grammar) (t : Table) : Type 0 where
   pub kernels-rise : RisingBy kernelKey (t .kernels)
   pub actions-rise : RisingBy actionKey (t .actions)
   pub entries-follow : RisingBy (useKey (g .rules)) (groupLines (g .rules) (drop 1 (t .entries)))
@@ -37,12 +37,12 @@ module _ (γ : List ℕ) {a b : ℕ} {l m : List EntryLine} (to : (x : EntryLine
       go (inl e) = absurd (once b (subst (λ (y : EntryLine). In y l) e n))
       go (inr k) = k
 
-others-rise : {g : Grammar} {t : Table} → Ordered g t → (f : GoalFirst g t) → RisingBy (useKey (g .rules)) (f .others)
+others-rise : {g : Grammar} {t : Table} → Rising g t → (f : GoalFirst g t) → RisingBy (useKey (g .rules)) (f .others)
 others-rise {g} o f =
     subst (RisingBy (useKey (g .rules))) (f .only-groups)
     (subst (λ (l : List EntryLine). RisingBy (useKey (g .rules)) (groupLines (g .rules) (drop 1 l))) (f .entries-are) (o .entries-follow))
 
-module _ {g : Grammar} {t u : Table} (o : Ordered g t) (p : Ordered g u) (h : SameRecords t u) where
+module _ {g : Grammar} {t u : Table} (o : Rising g t) (p : Rising g u) (h : SameRecords t u) where
   entries-same : GoalFirst g t → GoalFirst g u → t .entries ≡ u .entries
   entries-same a b =
       a .entries-are
