@@ -43,7 +43,7 @@ module _ (s : List ℕ) (t n rules states : ℕ) where
   abbrev made-of : ℕ → List ℕ → ActionLine
   made-of letter ns = L (getD ns 0 0) (getD ns 1 0) (actionOf letter (getD ns 2 0))
 
-  action-came : (at : ℕ) (l : List ActionLine) (x : ActionLine) (past : ℕ) → next at l ≡ takes x past → Came s at (judged-as l) made-of x past
+  pub action-came : (at : ℕ) (l : List ActionLine) (x : ActionLine) (past : ℕ) → next at l ≡ takes x past → Came s at (judged-as l) made-of x past
   unfolding actionNext
   action-came at l x past =
       all-cond C (leb (length s) at) (λ p q. clash cc) (λ p. all-line C (lineAt s at) (judged-came s at (judged-as l) made-of) (λ q. clash cc))

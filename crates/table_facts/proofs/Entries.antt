@@ -65,7 +65,7 @@ module _ (g : Grammar) (s : List ℕ) (states : ℕ) where
   abbrev made-of : ℕ → List ℕ → EntryLine
   made-of letter ns = E (getD ns 0 0) (drop 1 ns)
 
-  entry-came : (at : ℕ) (l : List EntryLine) (x : EntryLine) (past : ℕ) → next at l ≡ takes x past → Came s at (judged-as l) made-of x past
+  pub entry-came : (at : ℕ) (l : List EntryLine) (x : EntryLine) (past : ℕ) → next at l ≡ takes x past → Came s at (judged-as l) made-of x past
   unfolding entryNext
   entry-came at l x past =
       all-line (λ o. o ≡ takes x past → Came s at (judged-as l) made-of x past) (lineAt s at) (judged-came s at (judged-as l) made-of) (λ q. clash cc)

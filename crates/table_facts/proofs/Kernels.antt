@@ -45,7 +45,7 @@ module _ (terminals states items : ℕ) (lens : ℕ → ℕ) where
   }
 
 -- where no kernel line stands, none is taken, and the block ends only after a line
-none-taken : {B : Type 0} (at : ℕ) (l : List KernelLine) {x : KernelLine} {past : ℕ} → noKernel at l ≡ takes x past → B
+pub none-taken : {B : Type 0} (at : ℕ) (l : List KernelLine) {x : KernelLine} {past : ℕ} → noKernel at l ≡ takes x past → B
 none-taken at [] e = clash cc
 none-taken at (y ∷ l) e = clash cc
 
@@ -63,7 +63,7 @@ module _ (s : List ℕ) (terminals states items : ℕ) (lens : ℕ → ℕ) wher
   abbrev made-of : ℕ → List ℕ → KernelLine
   made-of letter ns = K (getD ns 0 0) (getD ns 1 0) (getD ns 2 0) (drop 3 ns)
 
-  kernel-came : (at : ℕ) (l : List KernelLine) (x : KernelLine) (past : ℕ) → next at l ≡ takes x past → Came s at (judged-as l) made-of x past
+  pub kernel-came : (at : ℕ) (l : List KernelLine) (x : KernelLine) (past : ℕ) → next at l ≡ takes x past → Came s at (judged-as l) made-of x past
   unfolding kernelNext
   kernel-came at l x past =
       all-line C (lineAt s at)
