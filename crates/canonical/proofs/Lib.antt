@@ -8,3 +8,4 @@ pub mod Book
 pub mod Groups
 pub mod Same
 pub mod Promise
+pub mod Torn

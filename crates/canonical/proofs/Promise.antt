@@ -19,6 +19,7 @@ use Rattle.checker.specs.Checked.{verdictOf, Accepts}
 use Rattle.checker.proofs.Exactly.{exactly}
 use Rattle.canonical.specs.Promise.{Rises, Ordered, SameRecords, OrderPromise}
 use Rattle.canonical.proofs.Book.{reads-text}
+use Rattle.canonical.proofs.Torn.{torn}
 use Rattle.canonical.proofs.Same.{same-table}
 
 -- ---- in order
@@ -69,6 +70,7 @@ same-bytes gs hs s w {g} {t} {u} a b = record {
 
 pub order-promise : OrderPromise
 order-promise = record {
+  torn = torn;
   ordered = λ gs s g t e. in-order (tables-sound gs s e);
   written = λ gs s g t e. reads-text gs s e;
   same-bytes = λ g gs hs s w e f v r.

@@ -4,16 +4,22 @@
 -- one grammar that hold the same records are the same bytes."
 use Prim.Native.Nat.{ℕ}
 use mathlib.Core.Path.{_≡_}
-use mathlib.Core.List.{List, _∷_, _++_}
-use mathlib.Core.Bool.{true}
-use lib.ListN.{drop}
+use mathlib.Core.List.{List, [], _∷_, _++_}
+use mathlib.Core.Bool.{true, false}
+use lib.ListN.{getD, drop}
 use Rattle.language.specs.Grammar.{Grammar}
 use Rattle.language.specs.Sentence.{In}
-use Rattle.leftcorner.specs.Table.{Table}
+use Rattle.leftcorner.specs.Table.{KernelLine, ActionLine, Table}
 use Rattle.leftcorner.specs.Claim.{_↔_}
+use Rattle.reply.specs.declared.Kind.the-variants.{Malformed}
 use Rattle.reply.specs.declared.Reply.the-variants.{Accepted}
 use Rattle.grammar.specs.Book.{accepted, grammarOf}
-use Rattle.table_order.specs.Order.{below, kernelKey, actionKey, groupLines, useKey}
+use Rattle.table_order.specs.Order.{below, follows, kernelKey, actionKey, groupLines, useKey}
+use Rattle.table_lines.specs.Line.{lineAt}
+use Rattle.table_lines.specs.Line as line
+use Rattle.table_lines.specs.Block.{fault}
+use Rattle.table_kernels.specs.Kernels.{kernelNext}
+use Rattle.table_actions.specs.Actions.{actionNext}
 use Rattle.table.specs.Book.{whole, tablesOf}
 use Rattle.build_book.specs.Text.{tableText}
 use Rattle.checker.specs.Checked.{verdictOf, Accepts}
@@ -30,6 +36,13 @@ pub record Ordered (g : Grammar) (t : Table) : Type 0 where
   -- "E lines after the goal follow the first use of their group in the rules": line 1 is not asked, nor is a string that is no group
   pub entries : Rises (useKey (g .rules)) (groupLines (g .rules) (drop 1 (t .entries)))
 
+-- "The first line out of order is torn": so is the next line, at `at` behind the lines l, however large its numbers ns are and whatever
+-- they name
+pub record Torn (s : List ℕ) (at letter : ℕ) (ns : List ℕ) : Type 0 where
+  pub kernel : letter ≡ 75 → (t states items : ℕ) (lens : ℕ → ℕ) (l : List KernelLine) → follows kernelKey l (getD ns 0 0 ∷ getD ns 1 0 ∷ getD ns 2 0 ∷ []) ≡ false
+      → kernelNext s t states items lens at l ≡ fault Malformed at
+  pub action : (t n rules states : ℕ) (l : List ActionLine) → follows actionKey l (getD ns 0 0 ∷ getD ns 1 0 ∷ []) ≡ false → actionNext s t n rules states at l ≡ fault Malformed at
+
 -- each line of one is a line of the other, wherever it stands
 abbrev pub SameLines : {A : Type 0} → List A → List A → Type 0
 SameLines l m = (x : _) → In x l ↔ In x m
@@ -42,6 +55,7 @@ pub record SameRecords (t u : Table) : Type 0 where
   pub actions : SameLines (t .actions) (u .actions)
 
 pub record OrderPromise : Type 0 where
+  pub torn : (s : List ℕ) (at letter past : ℕ) (ns : List ℕ) → lineAt s at ≡ line.whole letter ns past → Torn s at letter ns
   -- the lines of a table book that was read, accepted or not, are in order
   pub ordered : (gs s : List ℕ) (g : Grammar) (t : Table) → tablesOf gs s ≡ whole g t → Ordered g t
   -- and the book is the text of its table: nothing in it is left open
