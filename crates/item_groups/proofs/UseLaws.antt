@@ -1,12 +1,12 @@
 -- A string sought among the groups, group after group and rule after rule.
 use Prim.Native.Nat.{ℕ, zero, suc, _+_, _-_, _≤_, _<_}
-use mathlib.Core.Path.{_≡_, refl, sym, ap, ap₂, _∙_}
+use mathlib.Core.Path.{_≡_, refl, sym, ap, _∙_}
 use mathlib.Core.List.{List, [], _∷_, _++_, append-assoc}
 use mathlib.Core.Bool.{Bool, true, false, cond}
 use mathlib.Core.Option.{some}
 use native.Mathlib.Numerals.{add-one}
 use native.Mathlib.Omega.{arith}
-use lib.ListN.{length, drop, drop-of-length-le}
+use lib.ListN.{drop, drop-of-length-le}
 use Rattle.language.specs.Grammar.{Grammar, Rule, at, ruleAt}
 use Rattle.language.specs.WellFormed.{WellFormed, RuleFormed}
 use Rattle.language.proofs.GrammarLaws.{not-there, at-below}

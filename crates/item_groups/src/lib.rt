@@ -37,7 +37,14 @@ pub fn group_end(items: &[u8], count: usize, i: usize, from: usize, length: usiz
 }
 
 // Whether n symbols of item i, from `from` on, are the string.
-fn is_part(items: &[u8], count: usize, i: usize, from: usize, n: usize, string: &[usize]) -> bool
+pub fn is_part(
+    items: &[u8],
+    count: usize,
+    i: usize,
+    from: usize,
+    n: usize,
+    string: &[usize],
+) -> bool
     requires { ⌜ Shaped (now items) count ⌝ }
     requires { ⌜ (i ≤ count) × (from + n ≤ 15) ⌝ }
     ensures { λ b. ⌜ ((γ : List ℕ) → PartIs (now (items .entry)) i from n γ → b ≡ sameString γ (now (string .entry))) ⌝ }

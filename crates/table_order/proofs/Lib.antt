@@ -1,2 +1,3 @@
 pub mod OrderLaws
 pub mod KeyLaws
+pub mod UseLaws

@@ -1,11 +1,11 @@
 -- No group that was passed is the string.
 use Prim.Native.Nat.{ℕ, _+_, _-_, _≤_}
-use mathlib.Core.Path.{_≡_, sym, _∙_}
+use mathlib.Core.Path.{_≡_}
 use native.Mathlib.Omega.{arith}
 use borrow.Author.Needs.{needs}
 use Rattle.language.specs.Grammar.{Grammar, Rule}
 use Rattle.language.specs.WellFormed.{RuleFormed}
-use Rattle.items.specs.Layout.{RuleIn, lengthAt}
+use Rattle.items.specs.Layout.{RuleIn}
 use Rattle.item_groups.proofs.UseLaws.{Seeking, seeking-start, seeking-found, seeking-more, seeking-ends}
 use Rattle.item_groups.proofs.seek_in_rule.Statement.{statement}
 use Rattle.item_groups.proofs.seek_in_rule.Tie as tie
