@@ -1,5 +1,6 @@
--- No line of the book stands twice: no entry string, no state, item and dot, no state and symbol.
-use Prim.Native.Nat.{ℕ, zero, suc, _/_, _%_, _<_}
+-- The lines of the book: no entry string stands twice, kernel lines rise by state, item and dot, action lines by state and symbol.
+use Prim.Native.Nat.{ℕ, zero, suc, _/_, _%_, _≤_, _<_}
+use native.Mathlib.Decide.{decLt}
 use native.Mathlib.Omega.{arith}
 use mathlib.Core.Path.{_≡_, refl, sym, ap, subst, _∙_}
 use mathlib.Core.Logic.{_⊎_, inl, inr}
@@ -12,6 +13,8 @@ use Rattle.language.proofs.Member.{in-right, in-either}
 use Rattle.language.specs.Rising.{RisingFrom}
 use Rattle.language.proofs.Rising.{rising-in}
 use Rattle.leftcorner.specs.Table.{EntryLine, E, KernelLine, K, Action, ActionLine, L}
+use Rattle.table_order.specs.Order.{kernelKey, actionKey}
+use Rattle.table_order.proofs.OrderLaws.{Below, RisingBy, above-all}
 use Rattle.build_states.specs.Strings.{entryLines}
 use Rattle.build_states.proofs.Distinct.{Distinct}
 use Rattle.build_states.specs.States.{Kernel, itemOf, dotOf, range, total}
@@ -35,12 +38,6 @@ module _ {A : Type 0} (R : A → A → Type 0) where
 abbrev pub SameEntry : EntryLine → EntryLine → Type 0
 SameEntry (E s γ) (E u δ) = γ ≡ δ
 
-abbrev pub SameItem : KernelLine → KernelLine → Type 0
-SameItem (K q i k σ) (K p j n τ) = (q ≡ p) × (i ≡ j) × (k ≡ n)
-
-abbrev pub SameCell : ActionLine → ActionLine → Type 0
-SameCell (L q X x) (L p Y y) = (q ≡ p) × (X ≡ Y)
-
 -- ---- entry lines
 
 lines-string : (a : ℕ) (l : List (List ℕ)) {s : ℕ} {γ : List ℕ} → In (E s γ) (entryLines a l) → In γ l
@@ -59,31 +56,34 @@ entries-once a (γ ∷ l) d = (off, entries-once (suc a) l (d .1))
 
 module _ (g : Grammar) (F : List ℕ → ℕ → ℕ → Type 0) (F? : (β : List ℕ) (d c : ℕ) → Dec (F β d c)) (first-codes : List ℕ)
     (F-in : (β : List ℕ) (d c : ℕ) → F β d c → (c ≡ d) ⊎ In c first-codes) where
-  -- the lines of a state, before those of others
-  lines-once : (q a : ℕ) (k : Kernel) (rest : List KernelLine) → RisingFrom a k → ((i n : ℕ) (τ : List ℕ) → In (K q i n τ) rest → ⊥) → Once SameItem rest
-      → Once SameItem (lines g F F? first-codes F-in q k ++ rest)
-  lines-once q a [] rest r off o = o
-  lines-once q a (x ∷ k) rest r off o = (apart, lines-once q (suc x) k rest (r .1) off o)
+  -- the lines of a state, before those of later states
+  lines-rise : (q a : ℕ) (k : Kernel) (rest : List KernelLine) → RisingFrom a k → ((p i n : ℕ) (τ : List ℕ) → In (K p i n τ) rest → q < p) → RisingBy kernelKey rest
+      → RisingBy kernelKey (lines g F F? first-codes F-in q k ++ rest)
+  lines-rise q a [] rest r off o = o
+  lines-rise q a (x ∷ k) rest r off o = (above-all kernelKey (q ∷ itemOf x ∷ dotOf x ∷ []) (lines g F F? first-codes F-in q k ++ rest) above, lines-rise q (suc x) k rest (r .1) off o)
     where
-      split : (i n : ℕ) (τ : List ℕ) → itemOf x ≡ i → dotOf x ≡ n → In (K q i n τ) (lines g F F? first-codes F-in q k) ⊎ In (K q i n τ) rest → ⊥
-      split i n τ e f (inl m) =
-          let w = lines-in g F F? first-codes F-in q k q i n τ m .1 in
-          let y = w .number in
-          let a : x / 16 ≡ y / 16 = e ∙ w .item in
-          let c : x % 16 ≡ y % 16 = f ∙ w .dot in
-          omega (arith, rising-in (suc x) k y (r .1) (w .stands), a, c)
-      split i n τ e f (inr m) = off i n τ m
+      later : (p i n : ℕ) → q ≡ p → (y : ℕ) → itemOf y ≡ i → dotOf y ≡ n → suc x ≤ y → Below (q ∷ itemOf x ∷ dotOf x ∷ []) (p ∷ i ∷ n ∷ [])
+      later p i n e y f d l = go (decLt (x / 16) (y / 16))
+        where
+          go : Dec (x / 16 < y / 16) → Below (q ∷ itemOf x ∷ dotOf x ∷ []) (p ∷ i ∷ n ∷ [])
+          go (yes h) = inr (e, inl (omega (arith, h, f)))
+          go (no h) = let s : x / 16 ≡ y / 16 = omega (arith, h, l) in inr (e, inr (s ∙ f, inl (omega (arith, l, s, d))))
 
-      apart : (y : KernelLine) → In y (lines g F F? first-codes F-in q k ++ rest) → SameItem (K q (itemOf x) (dotOf x) []) y → ⊥
-      apart (K p i n τ) m e = split i n τ (e .1) (e .2) (in-either (lines g F F? first-codes F-in q k)
-          (subst (λ (z : ℕ). In (K z i n τ) (lines g F F? first-codes F-in q k ++ rest)) (sym (e .0)) m))
+      split : (p i n : ℕ) (τ : List ℕ) → In (K p i n τ) (lines g F F? first-codes F-in q k) ⊎ In (K p i n τ) rest → Below (q ∷ itemOf x ∷ dotOf x ∷ []) (p ∷ i ∷ n ∷ [])
+      split p i n τ (inl m) =
+          let w = lines-in g F F? first-codes F-in q k p i n τ m in
+          later p i n (sym (w .0)) (w .1 .number) (sym (w .1 .item)) (sym (w .1 .dot)) (rising-in (suc x) k (w .1 .number) (r .1) (w .1 .stands))
+      split p i n τ (inr m) = inl (off p i n τ m)
 
-  pub kernels-once : (a : ℕ) (ks : List Kernel) → ((j : ℕ) → j < length ks → RisingFrom 0 (getD ks j [])) → Once SameItem (allOf g F F? first-codes F-in a ks)
-  kernels-once a [] r = tt
-  kernels-once a (k ∷ ks) r =
-      lines-once a 0 k (allOf g F F? first-codes F-in (suc a) ks) (r 0 (omega arith))
-      (λ i n τ m. let w = all-in g F F? first-codes F-in (suc a) ks a i n τ m in omega (arith, w .1))
-      (kernels-once (suc a) ks (λ j l. r (suc j) (omega (arith, l))))
+      above : (y : KernelLine) → In y (lines g F F? first-codes F-in q k ++ rest) → Below (q ∷ itemOf x ∷ dotOf x ∷ []) (kernelKey y)
+      above (K p i n τ) m = split p i n τ (in-either (lines g F F? first-codes F-in q k) m)
+
+  pub kernels-rise : (a : ℕ) (ks : List Kernel) → ((j : ℕ) → j < length ks → RisingFrom 0 (getD ks j [])) → RisingBy kernelKey (allOf g F F? first-codes F-in a ks)
+  kernels-rise a [] r = tt
+  kernels-rise a (k ∷ ks) r =
+      lines-rise a 0 k (allOf g F F? first-codes F-in (suc a) ks) (r 0 (omega arith))
+      (λ p i n τ m. let w = all-in g F F? first-codes F-in (suc a) ks p i n τ m in omega (arith, w .1))
+      (kernels-rise (suc a) ks (λ j l. r (suc j) (omega (arith, l))))
 
   lines-count : (q : ℕ) (k : Kernel) → length (lines g F F? first-codes F-in q k) ≡ length k
   lines-count q [] = refl
@@ -95,28 +95,28 @@ module _ (g : Grammar) (F : List ℕ → ℕ → ℕ → Type 0) (F? : (β : Lis
 
   -- ---- action lines
 
-  cells-once : (q a n : ℕ) (rest : List ActionLine) → ((X : ℕ) (y : Action) → In (L q X y) rest → ⊥) → Once SameCell rest
-      → Once SameCell (actionsOn (cell g F F? first-codes F-in) q (range a n) rest)
-  cells-once q a zero rest off o = o
-  cells-once q a (suc n) rest off o = go (cell g F F? first-codes F-in q a) (cells-once q (suc a) n rest off o)
+  cells-rise : (q a n : ℕ) (rest : List ActionLine) → ((p X : ℕ) (y : Action) → In (L p X y) rest → q < p) → RisingBy actionKey rest
+      → RisingBy actionKey (actionsOn (cell g F F? first-codes F-in) q (range a n) rest)
+  cells-rise q a zero rest off o = o
+  cells-rise q a (suc n) rest off o = go (cell g F F? first-codes F-in q a) (cells-rise q (suc a) n rest off o)
     where
       more : List ActionLine
       more = actionsOn (cell g F F? first-codes F-in) q (range (suc a) n) rest
 
-      split : (X : ℕ) (y : Action) → a ≡ X → ((q ≡ q) × In X (range (suc a) n) × (cell g F F? first-codes F-in q X ≡ some y)) ⊎ In (L q X y) rest → ⊥
-      split X y e (inl h) = let z = range-in (suc a) n X (h .1) .0 in omega (arith, z, e)
-      split X y e (inr m) = off X y m
+      split : (p X : ℕ) (y : Action) → ((p ≡ q) × In X (range (suc a) n) × (cell g F F? first-codes F-in q X ≡ some y)) ⊎ In (L p X y) rest → Below (q ∷ a ∷ []) (p ∷ X ∷ [])
+      split p X y (inl h) = let z = range-in (suc a) n X (h .1) .0 in inr (sym (h .0), inl (omega (arith, z)))
+      split p X y (inr m) = inl (off p X y m)
 
-      apart : (x : Action) (y : ActionLine) → In y more → SameCell (L q a x) y → ⊥
-      apart x (L p X y) m e = split X y (e .1) (on-in g F F? first-codes F-in q (range (suc a) n) rest q X y (subst (λ (z : ℕ). In (L z X y) more) (sym (e .0)) m))
+      above : (y : ActionLine) → In y more → Below (q ∷ a ∷ []) (actionKey y)
+      above (L p X y) m = split p X y (on-in g F F? first-codes F-in q (range (suc a) n) rest p X y m)
 
-      go : (c : Option Action) → Once SameCell more → Once SameCell (lineIf q a c more)
+      go : (c : Option Action) → RisingBy actionKey more → RisingBy actionKey (lineIf q a c more)
       go none h = h
-      go (some x) h = (apart x, h)
+      go (some x) h = (above-all actionKey (q ∷ a ∷ []) more above, h)
 
-  pub actions-once : (a n : ℕ) → Once SameCell (actionsOf (cell g F F? first-codes F-in) (range a n))
-  actions-once a zero = tt
-  actions-once a (suc n) =
-      cells-once a 0 128 (actionsOf (cell g F F? first-codes F-in) (range (suc a) n))
-      (λ X y m. let w = of-in g F F? first-codes F-in (range (suc a) n) a X y m in let z = range-in (suc a) n a (w .0) .0 in omega (arith, z))
-      (actions-once (suc a) n)
+  pub actions-rise : (a n : ℕ) → RisingBy actionKey (actionsOf (cell g F F? first-codes F-in) (range a n))
+  actions-rise a zero = tt
+  actions-rise a (suc n) =
+      cells-rise a 0 128 (actionsOf (cell g F F? first-codes F-in) (range (suc a) n))
+      (λ p X y m. let w = of-in g F F? first-codes F-in (range (suc a) n) p X y m in let z = range-in (suc a) n p (w .0) .0 in omega (arith, z))
+      (actions-rise (suc a) n)

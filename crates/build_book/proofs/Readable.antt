@@ -14,6 +14,9 @@ use Rattle.language.specs.Rising.{RisingFrom}
 use Rattle.leftcorner.specs.Table.{E, Action, S, N, A, P, Table, symbolsOf, nextState}
 use Rattle.leftcorner.specs.Construction.{EntryAt, KernelAt, ActionAt, MovedBy, moved, Asked, to-announce, to-pop, WellFormed}
 use Rattle.leftcorner.proofs.ItemStrings.{wanted-declared}
+use Rattle.table_order.specs.Order.{kernelKey, actionKey}
+use Rattle.table_order.proofs.OrderLaws.{RisingBy}
+use Rattle.table_order.proofs.UseLaws.{EntriesFollow}
 use Rattle.build_states.specs.Strings.{entryStrings, entryLines}
 use Rattle.build_states.proofs.Distinct.{in-at}
 use Rattle.build_states.proofs.EntryLaws.{goal-at, some-entry, strings-distinct, entry-at, entry-line, lines-length}
@@ -27,7 +30,8 @@ use Rattle.build_book.proofs.LineLaws.{itemTable, same-entries, codes-r
 use Rattle.build_book.proofs.Carried.{looked, first-low, look-low}
 use Rattle.build_book.proofs.Live.{in-one}
 use Rattle.build_book.proofs.CellLaws.{cell-asked}
-use Rattle.build_book.proofs.Once.{Once, SameEntry, SameItem, SameCell, entries-once, kernels-once, kernels-count, actions-once}
+use Rattle.build_book.proofs.Once.{Once, SameEntry, entries-once, kernels-rise, kernels-count, actions-rise}
+use Rattle.build_book.proofs.EntryOrder.{entries-follow}
 use Rattle.build_book.proofs.BuiltForm.{fullTable, built-entries, states-both, built-line, action-is}
 use Rattle.build_book.proofs.MeetsBuilt.{entry-has, target}
 
@@ -63,8 +67,9 @@ pub record Readable (g : Grammar) (t : Table) : Type 0 where
   pub some-kernel : 1 ≤ length (t .kernels)
   pub few-kernels : length (t .kernels) ≤ 1023
   pub entries-once : Once SameEntry (t .entries)
-  pub kernels-once : Once SameItem (t .kernels)
-  pub actions-once : Once SameCell (t .actions)
+  pub entries-follow : EntriesFollow (g .rules) (t .entries)
+  pub kernels-rise : RisingBy kernelKey (t .kernels)
+  pub actions-rise : RisingBy actionKey (t .actions)
   pub entry : (s : ℕ) (γ : List ℕ) → In (E s γ) (t .entries) → EntryForm g t s γ
   pub kernel : (q i k : ℕ) (σ : List ℕ) → KernelAt g t q i k σ → KernelForm g t q i k σ
   pub action : (q X : ℕ) (x : Action) → ActionAt g t q X x → (1 ≤ q) × (q ≤ t .states) × Names g t X x
@@ -167,17 +172,17 @@ module _ (g : Grammar) (F : List ℕ → ℕ → ℕ → Type 0) (F? : (β : Lis
 
   -- ---- all lines
 
-  lines-once : Once SameItem (u .kernels)
+  lines-rise : RisingBy kernelKey (u .kernels)
   unfolding built items
-  lines-once = kernels-once g F F? first-codes F-in 1 (states g) (λ j l. kernels-rising g (suc j) (omega arith) l)
+  lines-rise = kernels-rise g F F? first-codes F-in 1 (states g) (λ j l. kernels-rising g (suc j) (omega arith) l)
 
   lines-many : length (u .kernels) ≡ total (states g)
   unfolding built items
   lines-many = kernels-count g F F? first-codes F-in 1 (states g)
 
-  cells-once : Once SameCell (u .actions)
+  cells-rise : RisingBy actionKey (u .actions)
   unfolding built
-  cells-once = actions-once g F F? first-codes F-in 1 (length (states g))
+  cells-rise = actions-rise g F F? first-codes F-in 1 (length (states g))
 
   goal-line : 1 ≤ length (u .kernels)
   goal-line = let k = entry-has g F F? first-codes F-in L codes-low 1 1 (g .goal ∷ []) (entry-at g u same 0 (goal-at g)) in has-line (k .1)
@@ -191,8 +196,9 @@ module _ (g : Grammar) (F : List ℕ → ℕ → ℕ → Type 0) (F? : (β : Lis
     some-kernel = goal-line;
     few-kernels = omega (arith, lines-many, L .few-lines);
     entries-once = subst (Once SameEntry) (sym same) (entries-once 1 (entryStrings g) (strings-distinct g));
-    kernels-once = lines-once;
-    actions-once = cells-once;
+    entries-follow = subst (EntriesFollow (g .rules)) (sym same) (entries-follow g);
+    kernels-rise = lines-rise;
+    actions-rise = cells-rise;
     entry = entry-form;
     kernel = kernel-form;
     action = λ q X x a. let s = R .action-state q X x a in (s .0, s .1, names q X x a);

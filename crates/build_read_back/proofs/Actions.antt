@@ -4,7 +4,6 @@ use native.Mathlib.Omega.{arith}
 use mathlib.Core.Path.{_≡_, refl, sym, ap, subst, _∙_}
 use mathlib.Core.Bool.{true}
 use mathlib.Core.List.{List, [], _∷_, _++_, map, append-nil}
-use mathlib.Core.Option.{none}
 use borrow.Author.Tests.{le-leb, ne-eqb}
 use lib.ListN.{length, length-append}
 use Rattle.language.specs.Grammar.{Grammar, concat}
@@ -13,17 +12,17 @@ use Rattle.language.proofs.Member.{in-right}
 use Rattle.language.specs.WellFormed as grammar
 use Rattle.range.proofs.RangeLaws.{true-within}
 use Rattle.symbol.proofs.KindLaws.{terminal-is, nonterminal-is}
-use Rattle.leftcorner.specs.Table.{KernelLine, Action, S, N, A, P, ActionLine, L, Table, actionFor}
+use Rattle.leftcorner.specs.Table.{KernelLine, Action, S, N, A, P, ActionLine, L, Table}
+use Rattle.table_order.specs.Order.{actionKey}
+use Rattle.table_order.proofs.OrderLaws.{RisingBy, rising-follows}
 use Rattle.table_lines.specs.declared.Judgement.the-variants.{Fine}
 use Rattle.table_lines.specs.Line.{allAtMost, whole, lineAt}
 use Rattle.table_lines.specs.Block.{takes, read}
 use Rattle.table_kernels.specs.Kernels.{noKernel, kernelNext}
 use Rattle.table_kernels.proofs.NextLaws.{kernel-broken}
 use Rattle.table_actions.specs.Actions.{isAction, actionOf, actionDeclared, judgeAction, actionNext, actionsFrom}
-use Rattle.table_actions.proofs.CellLaws.{same-no}
 use Rattle.table_actions.proofs.NextLaws.{action-end, action-taken}
 use Rattle.build_book.specs.Text.{line, actionBytes, actionText}
-use Rattle.build_book.proofs.Once.{Once, once-before, SameCell}
 use Rattle.build_book.proofs.Readable.{Names, Readable}
 use Rattle.build_read_back.proofs.Line.{Rest, rest-none, rest-past, rest-as, line-read, no-line}
 use Rattle.build_read_back.proofs.Block.{lines-stopped}
@@ -76,10 +75,6 @@ other-line : (s : List ℕ) (t states items : ℕ) (lens : ℕ → ℕ) (at : �
 unfolding kernelNext
 other-line s t states items lens at l {letter} e f = simp (e, ne-eqb letter 75 f)
 
-no-action : (l : List ActionLine) (q X : ℕ) (x : Action) → ((y : ActionLine) → In y l → SameCell y (L q X x) → ⊥) → actionFor l q X ≡ none
-no-action [] q X x f = refl
-no-action (L p Y y ∷ l) q X x f = simp (same-no p Y q X (f (L p Y y) here), no-action l q X x (λ z n. f z (there n)))
-
 names-declared : (g : Grammar) (t : Table) (X : ℕ) (x : Action) → Names g t X x
     → actionDeclared (g .terminals) (g .nonterminals) (length (g .rules)) (t .states) (letterOf x) X (figureOf x) ≡ true
 unfolding actionDeclared
@@ -129,8 +124,8 @@ module _ (g : Grammar) (t : Table) (W : grammar.WellFormed g) (R : Readable g t)
   unfolding judgeAction
   fine earlier q X x later e m =
       let h = R .action q X x m in
-      let o = once-before SameCell earlier (L q X x) later (subst (Once SameCell) e (R .actions-once)) in
-      simp (is-action x, no-action earlier q X x o, numbers-low q X x m, true-within 1 q (t .states) (h .0) (h .1), names-declared g t X x (h .2))
+      let o = rising-follows actionKey earlier (L q X x) later (subst (RisingBy actionKey) e (R .actions-rise)) in
+      simp (is-action x, o, numbers-low q X x m, true-within 1 q (t .states) (h .0) (h .1), names-declared g t X x (h .2))
 
   line-taken : (earlier : List ActionLine) (x : ActionLine) (later : List ActionLine) → t .actions ≡ earlier ++ x ∷ later → (at past : ℕ) (w : List ℕ) → Rest s at (lineOf x ++ w) → Rest s past w
       → actionNext s (g .terminals) (g .nonterminals) (length (g .rules)) (t .states) at earlier ≡ takes x past

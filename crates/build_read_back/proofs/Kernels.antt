@@ -2,7 +2,7 @@
 use Prim.Native.Nat.{ℕ, suc, _+_, _≤_}
 use native.Mathlib.Omega.{arith}
 use mathlib.Core.Path.{_≡_, refl, sym, ap, subst, _∙_}
-use mathlib.Core.Bool.{true, false}
+use mathlib.Core.Bool.{true}
 use mathlib.Core.List.{List, [], _∷_, _++_, map}
 use borrow.Author.Tests.{le-leb, lt-ltb}
 use lib.ListN.{length, length-append}
@@ -13,25 +13,21 @@ use Rattle.language.specs.WellFormed as grammar
 use Rattle.language.specs.Rising.{RisingFrom}
 use Rattle.range.proofs.RangeLaws.{true-within}
 use Rattle.leftcorner.specs.Table.{KernelLine, K, Table}
+use Rattle.table_order.specs.Order.{kernelKey}
+use Rattle.table_order.proofs.OrderLaws.{RisingBy, rising-follows}
 use Rattle.table_lines.specs.declared.Judgement.the-variants.{Fine}
 use Rattle.table_lines.specs.Line.{allAtMost, risingFrom, rising}
 use Rattle.table_lines.specs.Block.{takes, stops, read}
-use Rattle.table_kernels.specs.Kernels.{hasTriple, judgeKernel, noKernel, kernelNext, kernelsFrom}
-use Rattle.table_kernels.proofs.TripleLaws.{same-no}
+use Rattle.table_kernels.specs.Kernels.{judgeKernel, noKernel, kernelNext, kernelsFrom}
 use Rattle.table_kernels.proofs.NextLaws.{kernel-taken}
 use Rattle.table.specs.Book.{lengthsOf, tableWith}
 use Rattle.build_book.specs.Text.{line, kernelText}
-use Rattle.build_book.proofs.Once.{Once, once-before, SameItem}
 use Rattle.build_book.proofs.Over.{symbols-over}
 use Rattle.build_book.proofs.Readable.{KernelForm, Readable, has-line}
 use Rattle.build_read_back.proofs.Line.{Rest, rest-as, line-read}
 use Rattle.build_read_back.proofs.Block.{all-at-most, lines-stopped}
 
 -- ---- the tests of a kernel line
-
-no-triple : (l : List KernelLine) (q i k : ℕ) (σ : List ℕ) → ((y : KernelLine) → In y l → SameItem y (K q i k σ) → ⊥) → hasTriple l q i k ≡ false
-no-triple [] q i k σ f = refl
-no-triple (K p j m τ ∷ l) q i k σ f = simp (same-no p j m q i k (f (K p j m τ) here), no-triple l q i k σ (λ y n. f y (there n)))
 
 rising-from : (u : ℕ) (l : List ℕ) → RisingFrom (suc u) l → risingFrom u l ≡ true
 rising-from u [] r = refl
@@ -75,12 +71,11 @@ module _ (g : Grammar) (t : Table) (W : grammar.WellFormed g) (R : Readable g t)
       → judgeKernel (g .terminals) (t .states) items lengths earlier (q ∷ i ∷ k ∷ σ) ≡ Fine
   unfolding judgeKernel
   fine earlier q i k σ later e f =
-      let o = once-before SameItem earlier (K q i k σ) later (subst (Once SameItem) e (R .kernels-once)) in
       let n = ap length (symbols-over g t (tableWith 0 (t .entries) [] []) refl i) in
       simp (
         le-leb 4 (length (q ∷ i ∷ k ∷ σ)) (omega (arith, has-line (f .some-code .1))),
         rising-is σ (f .rising),
-        no-triple earlier q i k σ o,
+        rising-follows kernelKey earlier (K q i k σ) later (subst (RisingBy kernelKey) e (R .kernels-rise)),
         numbers-low q i k σ f,
         lt-ltb (length earlier) 1023 (omega (arith, R .few-kernels, ap length e, length-append earlier (K q i k σ ∷ later))),
         true-within 1 q (t .states) (f .state .0) (f .state .1),

@@ -19,7 +19,7 @@ use Rattle.table.specs.declared.TableReply.{TableReply}
 use Rattle.table.specs.declared.TableReply.the-variants as reply
 use Rattle.table.specs.declared.Counts.{Counts}
 use Rattle.table.specs.Book.{Reading, whole, rejected, rejectedAt, tableOf, tablesOf, readOf}
-use Rattle.table_blocks.specs.Memory.{Roomy, GrammarOnly}
+use Rattle.table_blocks.specs.Memory.{GrammarOnly}
 use Rattle.table.specs.Memory.{replyOf, Slices, slices, roomFor, hasRoom, SlicesRoom, ZeroSlices, Holds, Fills, filled-with, denied}
 
 module _ (gs s : List ℕ) where
@@ -50,7 +50,7 @@ blank-now gs {g} a w e l = record {
     gotos-none = w .cleared .gotos-none;
     named-none = w .cleared .named-none;
   };
-  room = record { items-room = omega (arith, w .room .items-room, l); kinds-room = w .room .kinds-room; gotos-room = w .room .gotos-room };
+  room = omega (arith, w .room, l);
 }
 
 -- ---- slices of the same lengths
@@ -228,12 +228,9 @@ has-room b r =
       le-leb 256 (length (b .named)) (r .named-room),
     )
 
-room-tells : (b : Slices) → hasRoom b ≡ true → Roomy b
-room-tells b e = let r = rooms-tell b e in record { items-room = r .items-room; kinds-room = r .kinds-room; gotos-room = r .gotos-room }
-
 -- cleared, they are ready for the books
 pub wiped-now : (b : Slices) {c : Slices} → hasRoom b ≡ true → AllZero b c → ZeroSlices c
-wiped-now b e z = let r = room-tells b e in
+wiped-now b e z = let r = rooms-tell b e in
     let s = zero-same z in
     record {
       items-none = zeros-again (length (b .items)) (z .items-zero);
@@ -246,9 +243,5 @@ wiped-now b e z = let r = room-tells b e in
         gotos-none = zeros-again (length (b .gotos)) (z .gotos-zero);
         named-none = zeros-again (length (b .named)) (z .named-zero);
       };
-      room = record {
-        items-room = omega (arith, r .items-room, s .items-same);
-        kinds-room = omega (arith, r .kinds-room, s .kinds-same);
-        gotos-room = omega (arith, r .gotos-room, s .gotos-same);
-      };
+      room = omega (arith, r .items-room, s .items-same);
     }

@@ -12,7 +12,7 @@ use Rattle.leftcorner.specs.Table.{Table}
 use Rattle.table.specs.declared.Counts.{Counts}
 use Rattle.table.specs.declared.TableReply.{TableReply}
 use Rattle.table.specs.declared.TableReply.the-variants as reply
-use Rattle.table_blocks.specs.Memory.{Roomy, Zero, Cleared}
+use Rattle.table_blocks.specs.Memory.{Zero, Cleared}
 use Rattle.table.specs.Book.{Reading, whole, rejected}
 pub use Rattle.table_blocks.specs.Memory.{Slices, slices, Holds}
 
@@ -47,11 +47,11 @@ pub record SlicesRoom (b : Slices) : Type 0 where
   pub gotos-room : 16640 ≤ length (b .gotos)
   pub named-room : 256 ≤ length (b .named)
 
--- all zeros, with room
+-- all zeros, with room for items
 pub record ZeroSlices (b : Slices) : Type 0 where
   pub items-none : Zero (b .items)
   pub cleared : Cleared b
-  pub room : Roomy b
+  pub room : 16640 ≤ length (b .items)
 
 -- on the way: what a refusal leaves is to be cleared
 pub data Fills (b a : Slices) : Reading → TableReply → Type 0 where

@@ -160,18 +160,18 @@ fn read_cleared(
     }
 }
 
-// What is answered where the slices are too short.
+// What is answered where the slices are too short. Only items are looked at while lines are read; what has no room is not stored.
 fn read_short(grammar: &[u8], book: &[u8]) -> TableReply
     ensures { λ r. ⌜ r ≡ replyOf (readOf false (tablesOf (now (grammar .entry)) (now (book .entry)))) ⌝ }
 {
     let mut items = [0u8; ITEMS];
-    let mut entry_states = [0u8; ENTRY_STATES];
-    let mut kernels = [0u8; KERNELS];
-    let mut lookaheads = [0u8; LOOKAHEADS];
-    let mut kinds = [0u8; CELLS];
-    let mut values = [0u8; CELLS];
-    let mut gotos = [0u8; CELLS];
-    let mut named = [0u8; NAMED];
+    let mut entry_states = [0u8; 1];
+    let mut kernels = [0u8; 1];
+    let mut lookaheads = [0u8; 1];
+    let mut kinds = [0u8; 1];
+    let mut values = [0u8; 1];
+    let mut gotos = [0u8; 1];
+    let mut named = [0u8; 1];
     let answer = read_cleared(
         grammar,
         book,

@@ -6,13 +6,18 @@ use mathlib.Core.Bool.{Bool, true, false, _||_}
 use mathlib.Core.Option.{Option, some, none}
 use native.Mathlib.Omega.{arith}
 use borrow.Author.Tests.{eq-eqb, ne-eqb}
-use lib.ListN.{set}
+use lib.ListN.{length, getD, set}
 use Rattle.leftcorner.specs.Table.{Action, S, N, A, P, ActionLine, L, actionFor, gotoState}
 use Rattle.memory.specs.Memory.{kindOf, valueOf}
+use Rattle.table_order.specs.Order.{follows, actionKey}
+use Rattle.table_order.proofs.OrderLaws.{follows-all, rising-more}
+use Rattle.table_order.proofs.LastLaws.{last-more}
+use Rattle.table_lines.specs.declared.Block.{Block}
+use Rattle.table_lines.specs.Block.{Lines, Reads, all-read, turned-away}
 use Rattle.table_lines.specs.Image.{image, flag}
 use Rattle.table_lines.proofs.ImageLaws.{image-set, image-same}
-use Rattle.table_actions.specs.Memory.{cellAt, gotoAt, names, isNamed, Formed, AllFormed, Cells, Stored, ActionMemory}
-use Rattle.table_actions.proofs.CellLaws.{action-here, action-other, cell-back, goto-back}
+use Rattle.table_actions.specs.Memory.{cellAt, gotoAt, names, isNamed, Formed, Cells, Stored, ActionImage, ActionMemory}
+use Rattle.table_actions.proofs.CellLaws.{action-here, action-other, action-none, cell-back, goto-back}
 
 module _ (l : List ActionLine) (q X : ℕ) (x : Action) where
   -- ---- cells
@@ -89,51 +94,72 @@ module _ (l : List ActionLine) (q X : ℕ) (x : Action) where
         here : flag (e s || isNamed (l ++ L q X x ∷ []) s) ≡ 1
         here = ap flag (ap (λ (b : Bool). e s || b) (named-snoc s ∙ ap (λ (b : Bool). isNamed l s || b) t) ∙ or-true (e s) (isNamed l s))
 
-formed-snoc : (l : List ActionLine) (x : ActionLine) → AllFormed l → Formed x → AllFormed (l ++ x ∷ [])
-formed-snoc [] x h f = (f, tt)
-formed-snoc (y ∷ l) x h f = (h .0, formed-snoc l x (h .1) f)
-
 -- ---- all of it
-module _ {e : ℕ → Bool} {a b c d : ℕ} {l : List ActionLine} {kinds values gotos named : List ℕ} (h : ActionMemory e a b c d l kinds values gotos named)
+module _ {e : ℕ → Bool} {a b c d : ℕ} {l : List ActionLine} {kinds values gotos named : List ℕ} (h : ActionImage e a b c d l kinds values gotos named)
     (q X : ℕ) where
   -- with a line whose symbol is a terminal or 0
-  cell-more : {kinds′ values′ gotos′ : List ℕ} (x : Action) → actionFor l q X ≡ none → Formed (L q X x) → q ≤ 255 → X < 64
+  cell-more : {kinds′ values′ gotos′ : List ℕ} (x : Action) → actionFor l q X ≡ none → q ≤ 255 → X < 64
       → kinds′ ≡ set kinds (q * 64 + X) (kindOf (some x)) → values′ ≡ set values (q * 64 + X) (valueOf (some x)) → gotos′ ≡ gotos
       → Cells a b c (l ++ L q X x ∷ []) kinds′ values′ gotos′
-  cell-more x new f few low k v g = record {
+  cell-more x new few low k v g = record {
     kinds-are = k ∙ (ap (λ (m : List ℕ). set m (q * 64 + X) (kindOf (some x))) (h .cells .kinds-are) ∙ cells-set l q X x kindOf a few low new);
     values-are = v ∙ (ap (λ (m : List ℕ). set m (q * 64 + X) (valueOf (some x))) (h .cells .values-are) ∙ cells-set l q X x valueOf b few low new);
     gotos-are = g ∙ (h .cells .gotos-are ∙ gotos-same l q X x c low);
-    formed = formed-snoc l (L q X x) (h .cells .formed) f;
   }
 
   named-next : {named′ : List ℕ} (x : Action) (s : ℕ) → names x s ≡ true → ((y : ℕ) → (y ≡ s → ⊥) → names x y ≡ false) → named′ ≡ set named s 1
       → named′ ≡ image d (λ y. flag (e y || isNamed (l ++ L q X x ∷ []) y))
   named-next x s t f n = n ∙ (ap (λ (m : List ℕ). set m s 1) (h .named-are) ∙ named-set l q X x e d s t f)
 
-  pub action-more : (kinds′ values′ gotos′ named′ : List ℕ) (x : Action) → actionFor l q X ≡ none → Formed (L q X x) → Stored (L q X x) kinds values gotos named kinds′ values′ gotos′ named′
-      → ActionMemory e a b c d (l ++ L q X x ∷ []) kinds′ values′ gotos′ named′
-  action-more kinds′ values′ gotos′ named′ (S s) new f w = record {
-    cells = cell-more (S s) new f (f .1) (f .2) (w .0) (w .1) (w .2);
+  image-more : (kinds′ values′ gotos′ named′ : List ℕ) (x : Action) → actionFor l q X ≡ none → Formed (L q X x) → Stored (L q X x) kinds values gotos named kinds′ values′ gotos′ named′
+      → ActionImage e a b c d (l ++ L q X x ∷ []) kinds′ values′ gotos′ named′
+  image-more kinds′ values′ gotos′ named′ (S s) new f w = record {
+    cells = cell-more (S s) new (f .1) (f .2) (w .0) (w .1) (w .2);
     named-are = named-next (S s) s (eq-eqb s s refl) (λ y g. ne-eqb s y (λ z. g (sym z))) (w .3);
   }
-  action-more kinds′ values′ gotos′ named′ (N s) new f w = record {
+  image-more kinds′ values′ gotos′ named′ (N s) new f w = record {
     cells = record {
       kinds-are = w .0 ∙ (h .cells .kinds-are ∙ cells-same l q X (N s) kindOf a (f .2 .0));
       values-are = w .1 ∙ (h .cells .values-are ∙ cells-same l q X (N s) valueOf b (f .2 .0));
       gotos-are = w .2 ∙ (ap (λ (m : List ℕ). set m (q * 64 + X - 64) s) (h .cells .gotos-are) ∙ gotos-set l q X (N s) c (f .1) (f .0) (f .2 .0) (f .2 .1) new);
-      formed = formed-snoc l (L q X (N s)) (h .cells .formed) f;
     };
     named-are = named-next (N s) s (eq-eqb s s refl) (λ y g. ne-eqb s y (λ z. g (sym z))) (w .3);
   }
-  action-more kinds′ values′ gotos′ named′ (A i) new f w = record {
-    cells = cell-more (A i) new f (f .1) (f .2) (w .0) (w .1) (w .2);
+  image-more kinds′ values′ gotos′ named′ (A i) new f w = record {
+    cells = cell-more (A i) new (f .1) (f .2) (w .0) (w .1) (w .2);
     named-are = w .3 ∙ (h .named-are ∙ named-same l q X (A i) e d (λ y. refl));
   }
-  action-more kinds′ values′ gotos′ named′ (P n) new f w = record {
-    cells = cell-more (P n) new f (f .1) (f .2) (w .0) (w .1) (w .2);
+  image-more kinds′ values′ gotos′ named′ (P n) new f w = record {
+    cells = cell-more (P n) new (f .1) (f .2) (w .0) (w .1) (w .2);
     named-are = w .3 ∙ (h .named-are ∙ named-same l q X (P n) e d (λ y. refl));
   }
+
+-- and the last key
+pub action-more : {e : ℕ → Bool} {a b c d : ℕ} {l : List ActionLine} {kinds values gotos named last : List ℕ} → ActionMemory e a b c d l kinds values gotos named last
+    → (q X : ℕ) (kinds′ values′ gotos′ named′ : List ℕ) {last′ : List ℕ} (x : Action) → follows actionKey l (q ∷ X ∷ []) ≡ true → Formed (L q X x)
+    → Stored (L q X x) kinds values gotos named kinds′ values′ gotos′ named′ → last′ ≡ q ∷ X ∷ [] → ((j : ℕ) → getD (q ∷ X ∷ []) j 0 ≤ 65535)
+    → ActionMemory e a b c d (l ++ L q X x ∷ []) kinds′ values′ gotos′ named′ last′
+action-more {l = l} h q X kinds′ values′ gotos′ named′ x after f w z small = record {
+  held = image-more (h .held) q X kinds′ values′ gotos′ named′ x (action-none l q X (follows-all actionKey l (q ∷ X ∷ []) (h .rises) after)) f w;
+  last-is = last-more l (L q X x) z small;
+  rises = rising-more actionKey l (L q X x) (h .rises) after;
+}
+
+-- two figures stored
+pub pair-stored : (m : List ℕ) (q X : ℕ) → length m ≡ 2 → set (set m 0 q) 1 X ≡ q ∷ X ∷ []
+pair-stored [] q X e = absurd (omega (arith, e))
+pair-stored (x ∷ []) q X e = absurd (omega (arith, e))
+pair-stored (x ∷ y ∷ []) q X e = refl
+pair-stored (x ∷ y ∷ z ∷ m) q X e = absurd (omega (arith, e))
+
+pub pair-by : {q r X Y : ℕ} → q ≡ r → X ≡ Y → q ∷ X ∷ [] ≡ r ∷ Y ∷ []
+pair-by a b = cc
+
+-- without the last key
+pub image-reads : {e : ℕ → Bool} {a b c d : ℕ} {kinds values gotos named last : List ℕ} {all : Lines ActionLine} {r : Block}
+    → Reads (λ l. ActionMemory e a b c d l kinds values gotos named last) all r → Reads (λ l. ActionImage e a b c d l kinds values gotos named) all r
+image-reads (all-read h) = all-read (h .held)
+image-reads turned-away = turned-away
 
 -- without action lines, the states of entries are named
 pub none-named : (e : ℕ → Bool) (n : ℕ) → image n (λ q. flag (e q)) ≡ image n (λ q. flag (e q || isNamed [] q))

@@ -1,9 +1,8 @@
 -- What comes of a place where an action line may stand; and what a line that is taken tells.
-use Prim.Native.Nat.{ℕ, _+_, _≤_, _<_}
+use Prim.Native.Nat.{ℕ, zero, suc, _+_, _≤_, _<_}
 use mathlib.Core.Path.{_≡_, refl, _∙_}
 use mathlib.Core.List.{List, [], _∷_}
 use mathlib.Core.Bool.{Bool, true, false, cond, _&&_}
-use mathlib.Core.Option.{Option, some, none}
 use native.Mathlib.Omega.{arith}
 use borrow.Author.Tests.{leb-true, eqb-true, le-leb, lt-leb}
 use lib.Dec.{leb, eqb}
@@ -14,13 +13,16 @@ use Rattle.range.proofs.RangeLaws.{within-true}
 use Rattle.reply.specs.declared.Kind.{Kind}
 use Rattle.reply.specs.declared.Kind.the-variants as kind
 use Rattle.symbol.specs.Symbol.{isTerminal, isNonterminal}
-use Rattle.leftcorner.specs.Table.{Action, S, N, A, P, ActionLine, L, actionFor}
+use Rattle.leftcorner.specs.Table.{Action, S, N, A, P, ActionLine, L}
+use Rattle.table_order.specs.Order.{follows, actionKey}
+use Rattle.table_order.specs.Last.{LastIs}
 use Rattle.table_lines.specs.declared.Judgement.the-variants.{Fine, Faulty}
 use Rattle.table_lines.specs.Line.{whole, broken, lineAt, allAtMost, capped}
 use Rattle.table_lines.specs.Block.{takes, stops, fault}
 use Rattle.table_lines.proofs.BlockLaws.{judge-fine}
-use Rattle.table_actions.specs.Actions.{isAction, actionOf, actionDeclared, isNone, judgeAction, actionNext}
-use Rattle.table_actions.specs.Memory.{Formed, AllFormed}
+use Rattle.table_lines.proofs.CapLaws.{at-most}
+use Rattle.table_actions.specs.Actions.{isAction, actionOf, actionDeclared, judgeAction, actionNext}
+use Rattle.table_actions.specs.Memory.{Formed}
 use Rattle.table_actions.proofs.CapLaws.{action-capped}
 
 module _ (s : List ℕ) (t n rules states at : ℕ) (l : List ActionLine) where
@@ -39,37 +41,33 @@ module _ (s : List ℕ) (t n rules states at : ℕ) (l : List ActionLine) where
     action-taken e j = simp (lt-leb (length s) at h, e, j)
 
     -- by the numbers as memory keeps them
-    module _ (formed : AllFormed l) {letter : ℕ} {ns : List ℕ} {next : ℕ} (e : capped (lineAt s at) ≡ whole letter ns next) where
+    module _ {last : List ℕ} (after : LastIs actionKey last l) {letter : ℕ} {ns : List ℕ} {next : ℕ} (e : capped (lineAt s at) ≡ whole letter ns next) where
       pub action-refused : {why : Kind} → judgeAction t n rules states l letter ns ≡ Faulty why → actionNext s t n rules states at l ≡ fault why at
-      action-refused j = action-capped s t n rules states at l formed ∙ simp (lt-leb (length s) at h, e, j)
+      action-refused j = action-capped s t n rules states at l after ∙ simp (lt-leb (length s) at h, e, j)
 
       pub action-kept : judgeAction t n rules states l letter ns ≡ Fine
           → actionNext s t n rules states at l ≡ takes (L (getD ns 0 0) (getD ns 1 0) (actionOf letter (getD ns 2 0))) next
-      action-kept j = action-capped s t n rules states at l formed ∙ simp (lt-leb (length s) at h, e, j)
+      action-kept j = action-capped s t n rules states at l after ∙ simp (lt-leb (length s) at h, e, j)
 
 -- ---- a line that is fine
 pub record ActionFine (t n rules states : ℕ) (l : List ActionLine) (letter : ℕ) (ns : List ℕ) : Type 0 where
   pub three : length ns ≡ 3
-  pub new : actionFor l (getD ns 0 0) (getD ns 1 0) ≡ none
+  pub after : follows actionKey l (getD ns 0 0 ∷ getD ns 1 0 ∷ []) ≡ true
   pub small : allAtMost 65535 ns ≡ true
   pub state-in : (1 ≤ getD ns 0 0) × (getD ns 0 0 ≤ states)
   pub declared : actionDeclared t n rules states letter (getD ns 1 0) (getD ns 2 0) ≡ true
 
-none-is : {B : Type 0} (o : Option B) → isNone o ≡ true → o ≡ none
-none-is none e = refl
-none-is (some x) e = let z : _≡_ {A = ℕ} 0 1 = cc in absurd (omega arith)
-
 pub action-fine : (t n rules states : ℕ) (l : List ActionLine) (letter : ℕ) (ns : List ℕ) → judgeAction t n rules states l letter ns ≡ Fine → ActionFine t n rules states l letter ns
 unfolding judgeAction
 action-fine t n rules states l letter ns e =
-    let j = judge-fine (isAction letter && (eqb (length ns) 3 && isNone (actionFor l (getD ns 0 0) (getD ns 1 0)))) (allAtMost 65535 ns)
+    let j = judge-fine (isAction letter && (eqb (length ns) 3 && follows actionKey l (getD ns 0 0 ∷ getD ns 1 0 ∷ []))) (allAtMost 65535 ns)
     (within 1 (getD ns 0 0) states && actionDeclared t n rules states letter (getD ns 1 0) (getD ns 2 0)) e in
-    let f = both-true (isAction letter) (eqb (length ns) 3 && isNone (actionFor l (getD ns 0 0) (getD ns 1 0))) (j .0) in
-    let g = both-true (eqb (length ns) 3) (isNone (actionFor l (getD ns 0 0) (getD ns 1 0))) (f .1) in
+    let f = both-true (isAction letter) (eqb (length ns) 3 && follows actionKey l (getD ns 0 0 ∷ getD ns 1 0 ∷ [])) (j .0) in
+    let g = both-true (eqb (length ns) 3) (follows actionKey l (getD ns 0 0 ∷ getD ns 1 0 ∷ [])) (f .1) in
     let d = both-true (within 1 (getD ns 0 0) states) (actionDeclared t n rules states letter (getD ns 1 0) (getD ns 2 0)) (j .2) in
     record {
       three = eqb-true (length ns) 3 (g .0);
-      new = none-is (actionFor l (getD ns 0 0) (getD ns 1 0)) (g .1);
+      after = g .1;
       small = j .1;
       state-in = within-true 1 (getD ns 0 0) states (d .0);
       declared = d .1;
@@ -100,11 +98,10 @@ module _ (t n rules states : ℕ) (few : t ≤ 63) (small : n ≤ 64) (short : r
       (λ w. (a, omega arith, omega (arith, w), omega arith, m))
 
   pub fine-formed : {l : List ActionLine} {letter : ℕ} (ns : List ℕ) → ActionFine t n rules states l letter ns → Formed (L (getD ns 0 0) (getD ns 1 0) (actionOf letter (getD ns 2 0)))
-  fine-formed {letter = letter} ns f = formed letter (getD ns 0 0) (getD ns 1 0) (getD ns 2 0) (f .state-in .0) (f .state-in .1) (third ns (f .small)) (f .declared)
-    where
-      third : (ns : List ℕ) → allAtMost 65535 ns ≡ true → getD ns 2 0 ≤ 65535
-      third [] e = omega arith
-      third (x ∷ []) e = omega arith
-      third (x ∷ y ∷ []) e = omega arith
-      third (x ∷ y ∷ z ∷ l) e =
-          leb-true z 65535 (both-true (leb z 65535) (allAtMost 65535 l) (both-true (leb y 65535) (allAtMost 65535 (z ∷ l)) (both-true (leb x 65535) (allAtMost 65535 (y ∷ z ∷ l)) e .1) .1) .0)
+  fine-formed {letter = letter} ns f = formed letter (getD ns 0 0) (getD ns 1 0) (getD ns 2 0) (f .state-in .0) (f .state-in .1) (at-most 65535 ns (f .small) 2) (f .declared)
+
+-- its key is of numbers that memory keeps as they are
+pub key-small : (ns : List ℕ) → allAtMost 65535 ns ≡ true → (j : ℕ) → getD (getD ns 0 0 ∷ getD ns 1 0 ∷ []) j 0 ≤ 65535
+key-small ns e zero = at-most 65535 ns e 0
+key-small ns e (suc zero) = at-most 65535 ns e 1
+key-small ns e (suc (suc j)) = omega arith

@@ -1,16 +1,17 @@
 -- Action lines. Document 01, 'Books': "`S,state,terminal,next` shift; `N,state,nonterminal,next`; `A,state,terminal,rule`
 -- announce; `P,state,terminal,count` pop. In A and P the terminal may be 0. [..] A second line for [..] the same state and symbol
--- is torn."
+-- is torn." Document 02, S-5: "action lines by state, symbol [..] The first line out of order is torn." Symbols rise by code, whatever
+-- the letters; so a second line is one out of order.
 use Prim.Native.Nat.{ℕ}
-use mathlib.Core.List.{List, []}
-use mathlib.Core.Bool.{Bool, true, false, cond, _&&_, _||_}
-use mathlib.Core.Option.{Option, some, none}
+use mathlib.Core.List.{List, [], _∷_}
+use mathlib.Core.Bool.{Bool, cond, _&&_, _||_}
 use lib.Dec.{leb, eqb}
 use lib.ListN.{length, getD}
 use Rattle.range.specs.Range.{within}
 use Rattle.reply.specs.declared.Kind.the-variants as kind
 use Rattle.symbol.specs.Symbol.{isTerminal, isNonterminal}
-use Rattle.leftcorner.specs.Table.{Action, S, N, A, P, ActionLine, L, actionFor}
+use Rattle.leftcorner.specs.Table.{Action, S, N, A, P, ActionLine, L}
+use Rattle.table_order.specs.Order.{follows, actionKey}
 use Rattle.table_lines.specs.declared.Judgement.{Judgement}
 use Rattle.table_lines.specs.Line.{lineAt, onLine, allAtMost}
 use Rattle.table_lines.specs.Block.{Outcome, stops, judge, judged, fault, Lines, linesFrom}
@@ -30,14 +31,10 @@ actionDeclared t n rules states letter X v =
     (cond (eqb letter 78) (isNonterminal n X && within 1 v states)
     (cond (eqb letter 65) (leb X t && within 1 v rules) (leb X t)))
 
-abbrev pub isNone : {B : Type 0} → Option B → Bool
-isNone none = true
-isNone (some x) = false
-
--- the numbers of an action line: state, symbol, and a state, a rule or a count; no earlier line has the same state and symbol
+-- the numbers of an action line: state, symbol, and a state, a rule or a count
 unfoldable pub judgeAction : ℕ → ℕ → ℕ → ℕ → List ActionLine → ℕ → List ℕ → Judgement
 judgeAction t n rules states earlier letter ns =
-    judge (isAction letter && (eqb (length ns) 3 && isNone (actionFor earlier (getD ns 0 0) (getD ns 1 0))))
+    judge (isAction letter && (eqb (length ns) 3 && follows actionKey earlier (getD ns 0 0 ∷ getD ns 1 0 ∷ [])))
     (allAtMost 65535 ns)
     (within 1 (getD ns 0 0) states && actionDeclared t n rules states letter (getD ns 1 0) (getD ns 2 0))
 

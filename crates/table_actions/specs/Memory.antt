@@ -8,6 +8,9 @@ use lib.Dec.{eqb}
 use lib.ListN.{length, set}
 use Rattle.leftcorner.specs.Table.{Action, S, N, A, P, ActionLine, L, actionFor, gotoState}
 use Rattle.memory.specs.Memory.{kindOf, popValue, valueOf}
+use Rattle.table_order.specs.Order.{actionKey}
+use Rattle.table_order.specs.Last.{LastIs}
+use Rattle.table_order.proofs.OrderLaws.{RisingBy}
 use Rattle.table_lines.specs.Image.{image, flag}
 
 -- at state * 64 + code
@@ -42,21 +45,11 @@ Formed (L q X (N s)) = (1 ≤ q) × (q ≤ 255) × ((64 ≤ X) × (X < 128)) × 
 Formed (L q X (A i)) = (1 ≤ q) × (q ≤ 255) × (X < 64) × (1 ≤ i) × (i ≤ 255)
 Formed (L q X (P n)) = (1 ≤ q) × (q ≤ 255) × (X < 64) × (0 ≤ n) × (n ≤ 65535)
 
-abbrev pub AllFormed : List ActionLine → Type 0
-AllFormed [] = Unit {0}
-AllFormed (x ∷ l) = Formed x × AllFormed l
-
 -- the cells and gotos of these lines
 pub record Cells (a b c : ℕ) (l : List ActionLine) (kinds values gotos : List ℕ) : Type 0 where
   pub kinds-are : kinds ≡ image a (kindAt l)
   pub values-are : values ≡ image b (valueAt l)
   pub gotos-are : gotos ≡ image c (gotoAt l)
-  pub formed : AllFormed l
-
-pub record HoldsActions (kinds values gotos : List ℕ) : Type 0 where
-  pub sizes : ℕ × ℕ × ℕ
-  pub lines : List ActionLine
-  pub cells : Cells (sizes .0) (sizes .1) (sizes .2) lines kinds values gotos
 
 -- what a line stores: a cell, or a goto; and that its next state is named
 abbrev pub Stored : ActionLine → (kinds values gotos named kinds′ values′ gotos′ named′ : List ℕ) → Type 0
@@ -71,6 +64,12 @@ pub record Flags (m : List ℕ) : Type 0 where
   pub flags-are : m ≡ image (length m) (λ q. flag (test q))
 
 -- memory with these action lines read; `entered` tells the states that entries have
-pub record ActionMemory (entered : ℕ → Bool) (a b c d : ℕ) (l : List ActionLine) (kinds values gotos named : List ℕ) : Type 0 where
+pub record ActionImage (entered : ℕ → Bool) (a b c d : ℕ) (l : List ActionLine) (kinds values gotos named : List ℕ) : Type 0 where
   pub cells : Cells a b c l kinds values gotos
   pub named-are : named ≡ image d (λ q. flag (entered q || isNamed l q))
+
+-- and the last line's key; the lines rise
+pub record ActionMemory (entered : ℕ → Bool) (a b c d : ℕ) (l : List ActionLine) (kinds values gotos named last : List ℕ) : Type 0 where
+  pub held : ActionImage entered a b c d l kinds values gotos named
+  pub last-is : LastIs actionKey last l
+  pub rises : RisingBy actionKey l

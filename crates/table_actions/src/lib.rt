@@ -4,7 +4,6 @@ use range::in_range;
 use reply::Kind;
 use reply::Refusal;
 use symbol::CODES;
-use symbol::SYMBOLS;
 use symbol::Symbol;
 use table_lines::Block;
 use table_lines::Judgement;
@@ -12,16 +11,18 @@ use table_lines::Line;
 use table_lines::Step;
 use table_lines::Tally;
 ghost use mathlib.Core.Path.{_≡_};
-ghost use mathlib.Core.List.{List, []};
-ghost use mathlib.Core.Bool.{Bool, not};
+ghost use mathlib.Core.List.{List, [], _∷_};
+ghost use mathlib.Core.Bool.{Bool};
 ghost use Prim.Native.Nat.{ℕ, _+_, _*_, _≤_, _<_};
 ghost use lib.ListN.{length};
-ghost use Rattle.leftcorner.specs.Table.{ActionLine, L, actionFor};
+ghost use Rattle.leftcorner.specs.Table.{ActionLine, L};
 ghost use Rattle.memory.specs.Memory.{popValue};
+ghost use Rattle.table_order.specs.Order.{actionKey};
+ghost use Rattle.table_order.specs.Last.{LastIs, HoldsLast};
 ghost use Rattle.table_lines.specs.Image.{image, flag};
 ghost use Rattle.table_lines.specs.Block.{Summarizes, Comes, Reads};
-ghost use Rattle.table_actions.specs.Actions.{isAction, actionOf, actionDeclared, isNone, judgeAction, actionNext, actionsFrom};
-ghost use Rattle.table_actions.specs.Memory.{Formed, Cells, HoldsActions, Stored, Flags, ActionMemory};
+ghost use Rattle.table_actions.specs.Actions.{isAction, actionOf, actionDeclared, judgeAction, actionNext, actionsFrom};
+ghost use Rattle.table_actions.specs.Memory.{Formed, Cells, Stored, Flags, ActionImage, ActionMemory};
 
 fn is_action(letter: u8) -> bool
     ensures { λ r. ⌜ r ≡ isAction letter ⌝ }
@@ -39,29 +40,6 @@ fn is_action(letter: u8) -> bool
         return true;
     }
     false
-}
-
-// Whether a line with this state and symbol was read: one look at its cell or goto.
-fn is_second(kinds: &[u8], gotos: &[u8], state: usize, symbol: usize) -> bool
-    requires { ⌜ (16640 ≤ length (now kinds)) × (16640 ≤ length (now gotos)) ⌝ }
-    ensures { λ r. ⌜ ((a b c : ℕ) (values : List ℕ) (l : List ActionLine) → Cells a b c l (now (kinds .entry)) values (now (gotos .entry)) → r ≡ not (isNone (actionFor l state symbol))) ⌝ }
-{
-    if 255 < state {
-        return false;
-    }
-    if symbol < Symbol::FIRST_NONTERMINAL {
-        if kinds[state * CODES + symbol] == 0 {
-            return false;
-        }
-        return true;
-    }
-    if SYMBOLS <= symbol {
-        return false;
-    }
-    if gotos[state * CODES + (symbol - Symbol::FIRST_NONTERMINAL)] == 0 {
-        return false;
-    }
-    true
 }
 
 // Whether the symbol is of the kind that the letter asks for, and the next state or the rule is declared.
@@ -103,14 +81,14 @@ fn judge_action(
     n: usize,
     rules: usize,
     states: usize,
+    lines: usize,
     letter: u8,
     p: Tally,
     numbers: &[usize],
-    kinds: &[u8],
-    gotos: &[u8],
+    last: &[usize],
 ) -> Judgement
-    requires { ⌜ (length (now numbers) ≡ 67) × (16640 ≤ length (now kinds)) × (16640 ≤ length (now gotos)) ⌝ }
-    ensures { λ r. ⌜ ((a b c : ℕ) (values : List ℕ) (l : List ActionLine) (ns : List ℕ) → Cells a b c l (now (kinds .entry)) values (now (gotos .entry)) → Summarizes ns p (now (numbers .entry)) → r ≡ judgeAction t n rules states l letter ns) ⌝ }
+    requires { ⌜ (length (now numbers) ≡ 67) × (length (now last) ≡ 2) ⌝ }
+    ensures { λ r. ⌜ ((l : List ActionLine) (ns : List ℕ) → length l ≡ lines → LastIs actionKey (now (last .entry)) l → Summarizes ns p (now (numbers .entry)) → r ≡ judgeAction t n rules states l letter ns) ⌝ }
 {
     if !is_action(letter) {
         return Judgement::Faulty(Kind::Malformed);
@@ -118,8 +96,7 @@ fn judge_action(
     if p.count != 3 {
         return Judgement::Faulty(Kind::Malformed);
     }
-    let symbol = numbers[1];
-    if is_second(kinds, gotos, numbers[0], symbol) {
+    if !table_order::is_after(lines, last, numbers) {
         return Judgement::Faulty(Kind::Malformed);
     }
     if 65535 < p.largest {
@@ -128,7 +105,7 @@ fn judge_action(
     if !in_range(1, numbers[0], states) {
         return Judgement::Faulty(Kind::Undeclared);
     }
-    if !action_declared(t, n, rules, states, letter, symbol, numbers[2]) {
+    if !action_declared(t, n, rules, states, letter, numbers[1], numbers[2]) {
         return Judgement::Faulty(Kind::Undeclared);
     }
     Judgement::Fine
@@ -182,7 +159,16 @@ fn store_action(
     table_lines::put(values, cell, pop_value(v));
 }
 
-// The action line at `at`.
+// A line's state and symbol are now the last.
+fn keep_pair(last: &mut [usize], state: usize, symbol: usize)
+    requires { ⌜ length (now last) ≡ 2 ⌝ }
+    ensures { λ r. ⌜ now (last .exit) ≡ state ∷ symbol ∷ [] ⌝ }
+{
+    last[0] = state;
+    last[1] = symbol;
+}
+
+// The action line at `at`, after so many others.
 fn read_action(
     s: &[u8],
     at: usize,
@@ -190,15 +176,17 @@ fn read_action(
     n: usize,
     rules: usize,
     states: usize,
+    lines: usize,
     kinds: &mut [u8],
     values: &mut [u8],
     gotos: &mut [u8],
     named: &mut [u8],
+    last: &mut [usize],
 ) -> Step
-    requires { ⌜ (length (now s) < 65537) × (t ≤ 63) × (n ≤ 64) × (rules ≤ 127) × (states ≤ 255) × (16640 ≤ length (now kinds)) × (16640 ≤ length (now gotos)) ⌝ }
-    requires { ⌜ HoldsActions (now kinds) (now values) (now gotos) ⌝ }
-    ensures { λ r. ⌜ ((e : ℕ → Bool) (a b c d : ℕ) (l : List ActionLine) → ActionMemory e a b c d l (now (kinds .entry)) (now (values .entry)) (now (gotos .entry)) (now (named .entry))
-        → Comes l (λ k. ActionMemory e a b c d k (now (kinds .exit)) (now (values .exit)) (now (gotos .exit)) (now (named .exit))) (actionNext (now (s .entry)) t n rules states at l) r) ⌝ }
+    requires { ⌜ (length (now s) < 65537) × (t ≤ 63) × (n ≤ 64) × (rules ≤ 127) × (states ≤ 255) × (length (now last) ≡ 2) ⌝ }
+    requires { ⌜ HoldsLast actionKey (now last) lines ⌝ }
+    ensures { λ r. ⌜ ((e : ℕ → Bool) (a b c d : ℕ) (l : List ActionLine) → length l ≡ lines → ActionMemory e a b c d l (now (kinds .entry)) (now (values .entry)) (now (gotos .entry)) (now (named .entry)) (now (last .entry))
+        → Comes l (λ k. ActionMemory e a b c d k (now (kinds .exit)) (now (values .exit)) (now (gotos .exit)) (now (named .exit)) (now (last .exit))) (actionNext (now (s .entry)) t n rules states at l) r) ⌝ }
 {
     if s.len() <= at {
         return Step::Stopped;
@@ -210,7 +198,7 @@ fn read_action(
             place: at,
         });
     };
-    let judgement = judge_action(t, n, rules, states, letter, p, &numbers, kinds, gotos);
+    let judgement = judge_action(t, n, rules, states, lines, letter, p, &numbers, last);
     if let Judgement::Faulty(kind) = judgement {
         return Step::Refused(Refusal { kind, place: at });
     }
@@ -224,7 +212,62 @@ fn read_action(
         gotos,
         named,
     );
+    keep_pair(last, numbers[0], numbers[1]);
     Step::Taken(next)
+}
+
+// The action lines from `first` on, with a place for the last line's state and symbol.
+fn read_rising(
+    s: &[u8],
+    first: usize,
+    t: usize,
+    n: usize,
+    rules: usize,
+    states: usize,
+    kinds: &mut [u8],
+    values: &mut [u8],
+    gotos: &mut [u8],
+    named: &mut [u8],
+    last: &mut [usize],
+) -> Block
+    requires { ⌜ (length (now s) < 65537) × (t ≤ 63) × (n ≤ 64) × (rules ≤ 127) × (states ≤ 255) × (length (now last) ≡ 2) × LastIs actionKey (now last) [] ⌝ }
+    requires { ⌜ Cells (length (now kinds)) (length (now values)) (length (now gotos)) [] (now kinds) (now values) (now gotos) ⌝ }
+    requires { ⌜ Flags (now named) ⌝ }
+    ensures { λ r. ⌜ ((e : ℕ → Bool) → now (named .entry) ≡ image (length (now (named .entry))) (λ q. flag (e q))
+        → Reads (λ l. ActionMemory e (length (now (kinds .entry))) (length (now (values .entry))) (length (now (gotos .entry))) (length (now (named .entry))) l (now (kinds .exit)) (now (values .exit)) (now (gotos .exit)) (now (named .exit)) (now (last .exit))) (actionsFrom (now (s .entry)) t n rules states first) r) ⌝ }
+{
+    let mut at = first;
+    let mut k = 0;
+    let mut left = s.len();
+    while 0 < left {
+        left -= 1;
+        match read_action(
+            s,
+            at,
+            t,
+            n,
+            rules,
+            states,
+            k,
+            kinds,
+            values,
+            gotos,
+            named,
+            last,
+        ) {
+            Step::Taken(next) => {
+                at = next;
+                k += 1;
+            }
+            Step::Stopped => {
+                return Block::Read(k, at);
+            }
+            Step::Refused(why) => {
+                return Block::Refused(why);
+            }
+        }
+    }
+    Block::Read(k, at)
 }
 
 // The action lines from `first` on to the book's end. A refusal leaves the slices free; `table::read_tables` then clears them.
@@ -240,29 +283,24 @@ pub fn read_actions(
     gotos: &mut [u8],
     named: &mut [u8],
 ) -> Block
-    requires { ⌜ (length (now s) < 65537) × (t ≤ 63) × (n ≤ 64) × (rules ≤ 127) × (states ≤ 255) × (16640 ≤ length (now kinds)) × (16640 ≤ length (now gotos)) ⌝ }
+    requires { ⌜ (length (now s) < 65537) × (t ≤ 63) × (n ≤ 64) × (rules ≤ 127) × (states ≤ 255) ⌝ }
     requires { ⌜ Cells (length (now kinds)) (length (now values)) (length (now gotos)) [] (now kinds) (now values) (now gotos) ⌝ }
     requires { ⌜ Flags (now named) ⌝ }
     ensures { λ r. ⌜ ((e : ℕ → Bool) → now (named .entry) ≡ image (length (now (named .entry))) (λ q. flag (e q))
-        → Reads (λ l. ActionMemory e (length (now (kinds .entry))) (length (now (values .entry))) (length (now (gotos .entry))) (length (now (named .entry))) l (now (kinds .exit)) (now (values .exit)) (now (gotos .exit)) (now (named .exit))) (actionsFrom (now (s .entry)) t n rules states first) r) ⌝ }
+        → Reads (λ l. ActionImage e (length (now (kinds .entry))) (length (now (values .entry))) (length (now (gotos .entry))) (length (now (named .entry))) l (now (kinds .exit)) (now (values .exit)) (now (gotos .exit)) (now (named .exit))) (actionsFrom (now (s .entry)) t n rules states first) r) ⌝ }
 {
-    let mut at = first;
-    let mut k = 0;
-    let mut left = s.len();
-    while 0 < left {
-        left -= 1;
-        match read_action(s, at, t, n, rules, states, kinds, values, gotos, named) {
-            Step::Taken(next) => {
-                at = next;
-                k += 1;
-            }
-            Step::Stopped => {
-                return Block::Read(k, at);
-            }
-            Step::Refused(why) => {
-                return Block::Refused(why);
-            }
-        }
-    }
-    Block::Read(k, at)
+    let mut last = [0usize; 2];
+    read_rising(
+        s,
+        first,
+        t,
+        n,
+        rules,
+        states,
+        kinds,
+        values,
+        gotos,
+        named,
+        &mut last,
+    )
 }

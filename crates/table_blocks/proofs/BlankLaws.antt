@@ -19,7 +19,7 @@ use Rattle.table_lines.proofs.ImageLaws.{image-zeros}
 use Rattle.table_entries.specs.Memory.{stringsOf, stateAt, isEntryState, withEntries, EntryMemory}
 use Rattle.table_kernels.specs.Memory.{figureAt, lookaheadAt, KernelImage}
 use Rattle.memory.specs.Memory.{kindOf, valueOf}
-use Rattle.table_actions.specs.Memory.{cellAt, gotoAt, Cells, ActionMemory}
+use Rattle.table_actions.specs.Memory.{cellAt, gotoAt, Cells, ActionImage}
 use Rattle.table_blocks.specs.Blocks.{whole, tableWith}
 use Rattle.table_blocks.specs.Memory.{Slices, Zero, GrammarOnly, Holds}
 
@@ -36,7 +36,7 @@ no-line e = let z : _≡_ {A = ℕ} 0 1 = cc in absurd (omega arith)
 
 module _ {g : Grammar} {b : Slices} (k : GrammarOnly g b) where
   room : suc (length (g .rules)) * 64 ≤ length (b .items)
-  room = omega (arith, k .formed .few-rules, k .room .items-room)
+  room = omega (arith, k .formed .few-rules, k .room)
 
   pub entry-start : EntryMemory (b .items) (length (g .rules)) (length (b .states)) (length (b .named)) [] (b .items) (b .states) (b .named)
   unfolding withEntries
@@ -62,7 +62,6 @@ module _ {g : Grammar} {b : Slices} (k : GrammarOnly g b) where
     kinds-are = zeros-are (b .kinds) (cellAt kindOf []) (k .cleared .kinds-none) (λ i. refl);
     values-are = zeros-are (b .values) (cellAt valueOf []) (k .cleared .values-none) (λ i. refl);
     gotos-are = zeros-are (b .gotos) (gotoAt []) (k .cleared .gotos-none) (λ i. refl);
-    formed = tt;
   }
 
 -- ---- after
@@ -82,7 +81,7 @@ items-whole g size l = rows-behind (g .rules) [] (stringsOf l) size (suc (length
 pub blocks-hold : {g : Grammar} {b a : Slices} {states : ℕ} {es : List EntryLine} {ks : List KernelLine} {xs : List ActionLine} {named : List ℕ} → GrammarOnly g b
     → EntryMemory (b .items) (length (g .rules)) (length (b .states)) (length (b .named)) es (a .items) (a .states) named
     → KernelImage (length (b .kernels)) (length (b .lookaheads)) ks (a .kernels) (a .lookaheads)
-    → ActionMemory (isEntryState es) (length (b .kinds)) (length (b .values)) (length (b .gotos)) (length (b .named)) xs (a .kinds) (a .values) (a .gotos) (a .named)
+    → ActionImage (isEntryState es) (length (b .kinds)) (length (b .values)) (length (b .gotos)) (length (b .named)) xs (a .kinds) (a .values) (a .gotos) (a .named)
     → Holds (whole g (tableWith states es ks xs)) b a
 blocks-hold {g} {b} {a} {states} {es} k e i c = record {
   items-are = e .items-are ∙ (ap (λ (m : List ℕ). withEntries m (length (g .rules)) es) (k .items-are) ∙ items-whole g (length (b .items)) es);

@@ -14,7 +14,7 @@ use Rattle.items.specs.Layout as items
 use Rattle.items.proofs.LayoutLaws.{layout-holds}
 use Rattle.table_entries.specs.Memory.{RulesIn, HoldsRules, EntryMemory}
 use Rattle.table_kernels.specs.Kernels.{kernelsFrom}
-use Rattle.table_actions.specs.Memory.{ActionMemory}
+use Rattle.table_actions.specs.Memory.{ActionImage}
 use Rattle.table_blocks.specs.declared.Blocks.the-variants as blocks
 use Rattle.table_blocks.specs.Blocks.{whole, lengthsOf, tableWith}
 use Rattle.table_blocks.specs.Memory.{Slices, HoldsHeading, GrammarOnly, Holds, ReadsBlocks, blocks-read}
@@ -35,7 +35,7 @@ module _ {g : Grammar} {b : Slices} {h : Heading} (k : GrammarOnly g b) (q : h �
       → kernelsFrom s (h .terminals) states (h .rules + count) (lengthAt i) at ≡ kernelsFrom s (h .terminals) states (h .rules + count) (lengthsOf g l) at
   kernels-at s states at {count} {a} {c} {l} {i} {es} {n} m e =
       kernels-same s (h .terminals) states (h .rules + count) (lengthAt i) (lengthsOf g l)
-      (λ j x y. lengths-agree g (k .formed) (length (b .items)) (omega (arith, k .formed .few-rules, k .room .items-room))
+      (λ j x y. lengths-agree g (k .formed) (length (b .items)) (omega (arith, k .formed .few-rules, k .room))
       (subst (λ (z : List ℕ). EntryMemory z (length (g .rules)) a c l i es n) (k .items-are) (entries-at m)) j x
       (omega (arith, y, e, ap (λ (z : Heading). z .rules) q))) at
 
@@ -43,7 +43,7 @@ module _ {g : Grammar} {b : Slices} {h : Heading} (k : GrammarOnly g b) (q : h �
   rules-at = subst (λ (x : Heading). RulesIn g (b .items) (x .rules)) (sym q) (record {
     formed = k .formed;
     holds = subst (λ (m : List ℕ). items.Holds m (length (g .rules)) g) (sym (k .items-are))
-        (layout-holds g (k .formed) (length (b .items)) (omega (arith, k .formed .few-rules, k .room .items-room)));
+        (layout-holds g (k .formed) (length (b .items)) (omega (arith, k .formed .few-rules, k .room)));
   })
 
 module _ {h : Heading} {b : Slices} (k : HoldsHeading h b) where
@@ -61,8 +61,8 @@ module _ {h : Heading} {b : Slices} (k : HoldsHeading h b) where
   pub begun-rules : HoldsRules (b .items) (h .rules)
   begun-rules = record { grammar = k .grammar; rules-in = rules-at (k .blank) (k .heading) }
 
-pub memory-sized : {e : ℕ → Bool} {a b c n m : ℕ} {xs : List ActionLine} {k v g l : List ℕ} → n ≡ m → ActionMemory e a b c n xs k v g l → ActionMemory e a b c m xs k v g l
-memory-sized {e} {a} {b} {c} {xs = xs} {k = k} {v = v} {g = g} {l = l} q h = subst (λ (z : ℕ). ActionMemory e a b c z xs k v g l) q h
+pub memory-sized : {e : ℕ → Bool} {a b c n m : ℕ} {xs : List ActionLine} {k v g l : List ℕ} → n ≡ m → ActionImage e a b c n xs k v g l → ActionImage e a b c m xs k v g l
+memory-sized {e} {a} {b} {c} {xs = xs} {k = k} {v = v} {g = g} {l = l} q h = subst (λ (z : ℕ). ActionImage e a b c z xs k v g l) q h
 
 -- the numbers of lines that the code counted
 pub all-blocks : {g : Grammar} {states count lines : ℕ} {b a : Slices} {es : List EntryLine} {ks : List KernelLine} {xs : List ActionLine} → length es ≡ count → length ks ≡ lines

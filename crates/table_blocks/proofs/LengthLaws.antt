@@ -2,7 +2,7 @@
 use Prim.Native.Nat.{ℕ, zero, suc, _+_, _-_, _*_, _≤_}
 use mathlib.Core.Path.{_≡_, refl, sym, ap, _∙_}
 use mathlib.Core.List.{List, [], _∷_, _++_}
-use mathlib.Core.Bool.{Bool, true, false, cond, not, _&&_}
+use mathlib.Core.Bool.{Bool, true, false, cond, _&&_}
 use mathlib.Core.Option.{Option, some}
 use native.Mathlib.Decide.{decLe}
 use native.Mathlib.Omega.{arith}
@@ -20,9 +20,10 @@ use Rattle.items.proofs.LayoutLaws.{layout-holds}
 use Rattle.table_lines.specs.declared.Judgement.{Judgement}
 use Rattle.table_lines.specs.Line.{TextLine, whole, broken, lineAt, onLine, allAtMost, rising}
 use Rattle.table_lines.specs.Block.{Outcome, takes, stops, refuses, judge, judged, onOutcome, read, refused, linesFrom}
+use Rattle.table_order.specs.Order.{follows, kernelKey}
 use Rattle.table_entries.specs.Memory.{stringsOf, withEntries, EntryMemory}
 use Rattle.table_entries.proofs.MemoryLaws.{length-kept}
-use Rattle.table_kernels.specs.Kernels.{hasTriple, judgeKernel, noKernel, kernelNext, kernelsFrom}
+use Rattle.table_kernels.specs.Kernels.{judgeKernel, noKernel, kernelNext, kernelsFrom}
 use Rattle.table_blocks.specs.Blocks.{lengthsOf}
 
 pub lines-same : {A : Type 0} (p q : ℕ → List A → Outcome A) → ((at : ℕ) (l : List A) → p at l ≡ q at l) → (k at : ℕ) (l : List A) → linesFrom k p at l ≡ linesFrom k q at l
@@ -49,7 +50,7 @@ module _ (s : List ℕ) (t states items : ℕ) (f h : ℕ → ℕ) (same : (i : 
   judge-same : (l : List KernelLine) (ns : List ℕ) → judgeKernel t states items f l ns ≡ judgeKernel t states items h l ns
   unfolding judgeKernel
   judge-same l ns =
-      ap (λ (b : Bool). judge (leb 4 (length ns) && (rising (drop 3 ns) && not (hasTriple l (getD ns 0 0) (getD ns 1 0) (getD ns 2 0))))
+      ap (λ (b : Bool). judge (leb 4 (length ns) && (rising (drop 3 ns) && follows kernelKey l (getD ns 0 0 ∷ getD ns 1 0 ∷ getD ns 2 0 ∷ [])))
       (allAtMost 65535 ns && ltb (length l) 1023) (within 1 (getD ns 0 0) states && b))
       (dot-same (getD ns 1 0) (getD ns 2 0) (allAtMost t (drop 3 ns)))
 

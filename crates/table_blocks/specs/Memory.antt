@@ -64,12 +64,6 @@ pub record Slices : Type 0 where
 abbrev pub slices : (items states kernels lookaheads kinds values gotos named : List ℕ) → Slices
 slices i s k l c v g n = record { items = i; states = s; kernels = k; lookaheads = l; kinds = c; values = v; gotos = g; named = n }
 
--- what the reader's indices need of it
-pub record Roomy (b : Slices) : Type 0 where
-  pub items-room : 16640 ≤ length (b .items)
-  pub kinds-room : 16640 ≤ length (b .kinds)
-  pub gotos-room : 16640 ≤ length (b .gotos)
-
 abbrev pub Zero : List ℕ → Type 0
 Zero l = l ≡ replicate (length l) 0
 
@@ -83,12 +77,12 @@ pub record Cleared (b : Slices) : Type 0 where
   pub gotos-none : Zero (b .gotos)
   pub named-none : Zero (b .named)
 
--- memory holds the rules of g and nothing else
+-- memory holds the rules of g and nothing else; all that reading needs of the slices' lengths is room for items
 pub record GrammarOnly (g : Grammar) (b : Slices) : Type 0 where
   pub formed : WellFormed g
   pub items-are : b .items ≡ layout g (length (b .items))
   pub cleared : Cleared b
-  pub room : Roomy b
+  pub room : 16640 ≤ length (b .items)
 
 pub record HoldsHeading (h : Heading) (b : Slices) : Type 0 where
   pub grammar : Grammar

@@ -16,7 +16,7 @@ use Rattle.language.proofs.Member.{in-right, in-concat}
 use Rattle.leftcorner.specs.Table.{EntryLine, E}
 use Rattle.items.specs.Layout.{entryRows}
 use Rattle.table_order.specs.Order.{follows, groupsIn, firstUse, isGroup, groupLines, useKey, entryFollows}
-use Rattle.table_order.proofs.UseLaws.{use-none, group-rule, groups-more}
+use Rattle.table_order.proofs.UseLaws.{use-none, group-rule, groups-++}
 use Rattle.item_groups.proofs.StringLaws.{same-long}
 use Rattle.table_lines.specs.declared.Block.{Block}
 use Rattle.table_lines.specs.Block.{Lines, Reads, all-read, turned-away}
@@ -71,7 +71,7 @@ module _ (rs : List Rule) (l : List EntryLine) (s : ℕ) (γ : List ℕ) where
     where
       go : (l : List EntryLine) → (length l ≡ 0 → ⊥) → lastUse rs (l ++ E s γ ∷ []) ≡ useOfLast rs (groupLines rs (drop 1 l) ++ cond b (E s γ ∷ []) [])
       go [] f = absurd (f refl)
-      go (x ∷ l) f = ap (useOfLast rs) (groups-more rs l s γ ∙ ap (λ (c : Bool). groupLines rs l ++ cond c (E s γ ∷ []) []) q)
+      go (x ∷ l) f = ap (useOfLast rs) (groups-++ rs l (E s γ ∷ []) ∙ ap (λ (c : Bool). groupLines rs l ++ cond c (E s γ ∷ []) []) q)
 
   pub binds-still : (length l ≡ 0 → ⊥) → firstUse rs γ ≡ 0 → lastUse rs l ≡ lastUse rs (l ++ E s γ ∷ [])
   binds-still f e = sym (behind false (ap (ltb 0) e) f ∙ ap (useOfLast rs) (append-nil (groupLines rs (drop 1 l))))

@@ -78,10 +78,3 @@ module _ {A : Type 0} where
         go j k u v (inl a) (inr b) q = absurd (new .each k b (sym q ∙ ap key (sym (a .1))))
         go j k u v (inr a) (inl b) q = absurd (new .each j a (q ∙ ap key (sym (b .1))))
         go j k u v (inr a) (inr b) q = h .once j k a b q
-
-    pub once-in : {l : List A} {x y : A} → Once key l → In x l → In y l → key x ≡ key y → x ≡ y
-    once-in {l} {x} {y} h m n =
-        each-in {P = λ u. key u ≡ key y → u ≡ y} (record { each = λ j {x = u} e. each-in {P = λ v. key u ≡ key v → u ≡ v} (record { each = λ k f q. same (h .once j k e f q) e f }) n }) m
-      where
-        same : {j k : ℕ} {u v : A} → j ≡ k → at l j ≡ some u → at l k ≡ some v → u ≡ v
-        same i e f = let a : some _ ≡ some _ = sym e ∙ (ap (at l) i ∙ f) in cc

@@ -1,4 +1,5 @@
--- Kernel lines that are read: one at least and at most 1,023, each with a code, their states, items, dots and codes declared.
+-- Kernel lines that are read: one at least and at most 1,023, each with a code, their states, items, dots and codes declared, in rising
+-- order.
 use Prim.Native.Nat.{ℕ, _≤_}
 use mathlib.Core.Path.{_≡_, subst}
 use mathlib.Core.Logic.{⊎-elim}
@@ -11,12 +12,15 @@ use Rattle.language.proofs.GrammarLaws.{in-string, in-index}
 use Rattle.range.proofs.TestLaws.{all-cond}
 use Rattle.leftcorner.specs.Table.{KernelLine, K}
 use Rattle.leftcorner.proofs.ReadOff.{clash}
+use Rattle.table_order.specs.Order.{kernelKey}
+use Rattle.table_order.proofs.OrderLaws.{RisingBy, rising-more}
 use Rattle.table_lines.specs.declared.Judgement.{Judgement}
 use Rattle.table_lines.specs.Line.{lineAt}
 use Rattle.table_lines.specs.Block.{Outcome, takes, stops, read}
 use Rattle.table_lines.proofs.BlockLaws.{lines-keep}
+use Rattle.table_lines.proofs.CapLaws.{at-most}
 use Rattle.table_kernels.specs.Kernels.{judgeKernel, noKernel, kernelNext, kernelsFrom}
-use Rattle.table_kernels.proofs.NextLaws.{KernelFine, kernel-fine, at-most}
+use Rattle.table_kernels.proofs.NextLaws.{KernelFine, kernel-fine}
 use Rattle.table_facts.proofs.Lines.{all-line, judged-goes, Came, judged-came, came-onward}
 use Rattle.table_facts.proofs.Blocks.{block-ends, Each, each-none, each-more}
 
@@ -41,7 +45,7 @@ module _ (terminals states items : ℕ) (lens : ℕ → ℕ) where
   }
 
 -- where no kernel line stands, none is taken, and the block ends only after a line
-none-taken : {B : Type 0} (at : ℕ) (l : List KernelLine) {x : KernelLine} {past : ℕ} → noKernel at l ≡ takes x past → B
+pub none-taken : {B : Type 0} (at : ℕ) (l : List KernelLine) {x : KernelLine} {past : ℕ} → noKernel at l ≡ takes x past → B
 none-taken at [] e = clash cc
 none-taken at (y ∷ l) e = clash cc
 
@@ -59,7 +63,7 @@ module _ (s : List ℕ) (terminals states items : ℕ) (lens : ℕ → ℕ) wher
   abbrev made-of : ℕ → List ℕ → KernelLine
   made-of letter ns = K (getD ns 0 0) (getD ns 1 0) (getD ns 2 0) (drop 3 ns)
 
-  kernel-came : (at : ℕ) (l : List KernelLine) (x : KernelLine) (past : ℕ) → next at l ≡ takes x past → Came s at (judged-as l) made-of x past
+  pub kernel-came : (at : ℕ) (l : List KernelLine) (x : KernelLine) (past : ℕ) → next at l ≡ takes x past → Came s at (judged-as l) made-of x past
   unfolding kernelNext
   kernel-came at l x past =
       all-line C (lineAt s at)
@@ -80,7 +84,7 @@ module _ (s : List ℕ) (terminals states items : ℕ) (lens : ℕ → ℕ) wher
       C o = o ≡ stops → 1 ≤ length l
 
   abbrev Kept : List KernelLine → Type 0
-  Kept l = Each (Declared terminals states items lens) l × (length l ≤ 1023)
+  Kept l = Each (Declared terminals states items lens) l × (length l ≤ 1023) × RisingBy kernelKey l
 
   kernel-kept : (at : ℕ) (l : List KernelLine) (x : KernelLine) (past : ℕ) → Kept l → next at l ≡ takes x past → Kept (l ++ x ∷ [])
   kernel-kept at l x past h e =
@@ -89,17 +93,21 @@ module _ (s : List ℕ) (terminals states items : ℕ) (lens : ℕ → ℕ) wher
       subst (λ (y : KernelLine). Kept (l ++ y ∷ [])) (c .made) (
         each-more (Declared terminals states items lens) (h .0) (fine-declared terminals states items lens l (c .numbers) f),
         omega (arith, f .few, length-append l (made-of 0 (c .numbers) ∷ [])),
+        rising-more kernelKey l (made-of 0 (c .numbers)) (h .2) (f .after),
       )
 
   module _ (at : ℕ) {ks : List KernelLine} {end : ℕ} (e : kernelsFrom s terminals states items lens at ≡ read ks end) where
     kept : Kept ks
-    kept = lines-keep Kept next kernel-kept 1024 at [] (each-none (Declared terminals states items lens), omega arith) ks end e
+    kept = lines-keep Kept next kernel-kept 1024 at [] (each-none (Declared terminals states items lens), omega arith, tt) ks end e
 
     pub kernels-declared : Each (Declared terminals states items lens) ks
     kernels-declared = kept .0
 
     pub kernels-few : length ks ≤ 1023
     kernels-few = kept .1
+
+    pub kernels-rise : RisingBy kernelKey ks
+    kernels-rise = kept .2
 
     -- the block ends where no kernel line stands, never by its number of lines
     pub kernels-ended : kernelNext s terminals states items lens end ks ≡ stops

@@ -4,3 +4,4 @@ pub mod Blocks
 pub mod Kernels
 pub mod Entries
 pub mod Lines
+pub mod Parts

@@ -7,31 +7,30 @@ use mathlib.Core.Bool.{cond}
 use mathlib.Core.Option.{Option, some}
 use native.Mathlib.Decide.{decLe}
 use native.Mathlib.Omega.{arith}
-use lib.Dec.{leb, ltb}
+use lib.Dec.{leb}
 use lib.ListN.{length}
 use Rattle.language.specs.Grammar.{Grammar, Rule, at, ruleAt}
 use Rattle.language.proofs.GrammarLaws.{at-below, range-rule}
-use Rattle.range.proofs.TestLaws.{all-cond}
-use Rattle.reply.specs.declared.Refusal.{Refusal}
-use Rattle.grammar.specs.Book.{Book, accepted, onAccepted, grammarOf}
-use Rattle.grammar.specs.Book as grammar-book
+use Rattle.grammar.specs.Book.{accepted, grammarOf}
 use Rattle.grammar.proofs.GrammarLaws.{accepted-reduced}
 use Rattle.leftcorner.specs.Table.{EntryLine, E, KernelLine, Action, S, N, A, P, ActionLine, L, Table, entryAt, stringOf, nextState, rightOf, symbolsOf}
 use Rattle.leftcorner.specs.Construction.{entryItem, EntryAt, ActionAt, WellFormed}
 use Rattle.leftcorner.proofs.ReadOff.{clash}
 use Rattle.memory.specs.Fits.{Fits}
-use Rattle.table_lines.specs.Block.{Lines, read, refused}
+use Rattle.table_order.specs.Order.{actionKey}
+use Rattle.table_order.proofs.OrderLaws.{RisingBy, rising-one}
+use Rattle.table_lines.specs.Block.{read}
 use Rattle.table_entries.specs.Entries.{entriesFrom}
 use Rattle.table_kernels.specs.Kernels.{kernelsFrom}
 use Rattle.table_actions.specs.Actions.{actionsFrom}
-use Rattle.table_head.specs.declared.Head.{Head}
 use Rattle.table_head.specs.declared.Head.the-variants as head
-use Rattle.table.specs.Book.{headOf, onHead, Reading, whole, rejected, onLines, lengthsOf, tableWith, actionsOf, kernelsOf, entriesOf, tableOf, tablesOf}
+use Rattle.table.specs.Book.{headOf, whole, lengthsOf, tableWith, tablesOf}
 use Rattle.table_head.proofs.HeadLaws.{head-within}
-use Rattle.table_facts.proofs.Blocks.{Each, each-in, Once, once-in}
+use Rattle.table_facts.proofs.Blocks.{Each, each-in, Once}
 use Rattle.table_facts.proofs.Entries as entries
 use Rattle.table_facts.proofs.Kernels as kernels
 use Rattle.table_facts.proofs.Actions as actions
+use Rattle.table_facts.proofs.Parts.{tables-parts}
 use Rattle.table_facts.specs.Sound.{Sound}
 
 -- ---- a table by its lines
@@ -73,7 +72,7 @@ module _ (g : Grammar) (t : Table) where
 
   module _ (es : Each (entries.Declared g (t .states)) (t .entries)) (one : Once entries.entryString (t .entries))
       (ks : Each KernelDeclared (t .kernels))
-      (xs : Each ActionDeclared (t .actions)) (single : Once actions.actionPlace (t .actions)) where
+      (xs : Each ActionDeclared (t .actions)) (single : RisingBy actionKey (t .actions)) where
     entry-in : (k s : ℕ) (γ : List ℕ) → EntryAt g t k s γ → entries.EntryDeclared g (t .states) s γ
     entry-in zero s γ e = clash cc
     entry-in (suc k) s γ e = es .each k e
@@ -84,7 +83,7 @@ module _ (g : Grammar) (t : Table) where
     one-entry (suc j) (suc k) s u γ e f = ap suc (one .once j k e f refl)
 
     one-action : (q X : ℕ) (x y : Action) → ActionAt g t q X x → ActionAt g t q X y → x ≡ y
-    one-action q X x y m n = let e : L q X x ≡ L q X y = once-in actions.actionPlace single m n refl in cc
+    one-action q X x y m n = let e : L q X x ≡ L q X y = rising-one actionKey (t .actions) single m n refl in cc
 
     lines-formed : WellFormed g t
     lines-formed = record {
@@ -116,31 +115,10 @@ module _ (g : Grammar) (t : Table) where
       pop-kind = λ q X n m. each-in xs m .1;
     }
 
--- ---- both books, by what comes of each part
-data Told (gs : List ℕ) : Reading → Type 0 where
-  sound : {g : Grammar} {t : Table} → grammarOf gs ≡ accepted g → Sound g t → Told gs (whole g t)
-  turned : {why : Refusal} → Told gs (rejected why)
-
-is-sound : {gs : List ℕ} {g : Grammar} {t : Table} → Told gs (whole g t) → (grammarOf gs ≡ accepted g) × Sound g t
-is-sound (sound e h) = (e, h)
-
-told-lines : {gs : List ℕ} {A : Type 0} (o : Lines A) {f : List A → ℕ → Reading} → ((l : List A) (next : ℕ) → o ≡ read l next → Told gs (f l next))
-    → Told gs (onLines o f rejected)
-told-lines (read l next) h = h l next refl
-told-lines (refused why) h = turned
-
-told-head : {gs : List ℕ} (o : Head) {f : ℕ → ℕ → ℕ → Reading} → ((states count next : ℕ) → o ≡ head.Read states count next → Told gs (f states count next))
-    → Told gs (onHead o f rejected)
-told-head (head.Read states count next) h = h states count next refl
-told-head (head.Refused why) h = turned
-
-told-grammar : {gs : List ℕ} (o : Book) {f : Grammar → Reading} → ((g : Grammar) → o ≡ accepted g → Told gs (f g)) → Told gs (onAccepted o f rejected)
-told-grammar (accepted g) h = h g refl
-told-grammar (grammar-book.rejected why) h = turned
-
+-- ---- both books
 module _ (gs s : List ℕ) {g : Grammar} (a : grammarOf gs ≡ accepted g) {states count first : ℕ} (h : headOf s ≡ head.Read states count first) where
   blocks-sound : {es : List EntryLine} {ks : List KernelLine} {xs : List ActionLine} {second third end : ℕ}
-      → entriesFrom count s (g .terminals) (g .nonterminals) states first ≡ read es second
+      → entriesFrom count s (g .terminals) (g .nonterminals) (g .rules) states first ≡ read es second
       → kernelsFrom s (g .terminals) states (length (g .rules) + length es) (lengthsOf g es) second ≡ read ks third
       → actionsFrom s (g .terminals) (g .nonterminals) (length (g .rules)) states third ≡ read xs end → Sound g (tableWith states es ks xs)
   blocks-sound {es} {ks} {xs} {second} {third} {end} i j k =
@@ -155,11 +133,14 @@ module _ (gs s : List ℕ) {g : Grammar} (a : grammarOf gs ≡ accepted g) {stat
             (entries.entries-declared g s states count first i) (entries.entries-once g s states count first i)
             (kernels.kernels-declared s (g .terminals) states items lens second j)
             (actions.actions-declared s (g .terminals) (g .nonterminals) (length (g .rules)) states third k)
-            (actions.actions-once s (g .terminals) (g .nonterminals) (length (g .rules)) states third k)
+            (actions.actions-rise s (g .terminals) (g .nonterminals) (length (g .rules)) states third k)
             (w .0 .1) (omega (arith, n, w .1)) (kernels.kernels-few s (g .terminals) states items lens second j);
         some-state = w .0 .0;
         some-entry = omega (arith, n, w .1);
         some-kernel = kernels.kernels-some s (g .terminals) states items lens second j;
+        entries-follow = entries.entries-follow g s states count first i;
+        kernels-rise = kernels.kernels-rise s (g .terminals) states items lens second j;
+        actions-rise = actions.actions-rise s (g .terminals) (g .nonterminals) (length (g .rules)) states third k;
       }
     where
       items : ℕ
@@ -168,23 +149,9 @@ module _ (gs s : List ℕ) {g : Grammar} (a : grammarOf gs ≡ accepted g) {stat
       lens : ℕ → ℕ
       lens = lengthsOf g es
 
-  blocks-told : Told gs (entriesOf g s states count first)
-  unfolding entriesOf kernelsOf actionsOf
-  blocks-told =
-      told-lines (entriesFrom count s (g .terminals) (g .nonterminals) states first)
-      (λ es second i. told-lines (kernelsFrom s (g .terminals) states (length (g .rules) + length es) (lengthsOf g es) second)
-      (λ ks third j. told-lines (actionsFrom s (g .terminals) (g .nonterminals) (length (g .rules)) states third) (λ xs end k. sound a (blocks-sound i j k))))
-
-tables-told : (gs s : List ℕ) {g : Grammar} {t : Table} → tablesOf gs s ≡ whole g t → (grammarOf gs ≡ accepted g) × Sound g t
-unfolding tablesOf tableOf
-tables-told gs s e =
-    is-sound (subst (Told gs) e
-    (all-cond (Told gs) (ltb 65536 (length s)) (λ p. turned)
-    (λ p. told-grammar (grammarOf gs) (λ g a. told-head (headOf s) (λ states count first h. blocks-told gs s a h)))))
-
 pub tables-sound : (gs s : List ℕ) {g : Grammar} {t : Table} → tablesOf gs s ≡ whole g t → Sound g t
-tables-sound gs s e = tables-told gs s e .1
+tables-sound gs s e = let p = tables-parts gs s e in blocks-sound gs s (p .grammar-is) (p .head-is) (p .entries-are) (p .kernels-are) (p .actions-are)
 
 -- the grammar is that of its book
 pub tables-grammar : (gs s : List ℕ) {g : Grammar} {t : Table} → tablesOf gs s ≡ whole g t → grammarOf gs ≡ accepted g
-tables-grammar gs s e = tables-told gs s e .0
+tables-grammar gs s e = tables-parts gs s e .grammar-is

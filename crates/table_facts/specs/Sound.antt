@@ -6,6 +6,9 @@ use Rattle.language.specs.Sentence.{Reachable, AllProductive}
 use Rattle.language.specs.WellFormed as grammar
 use Rattle.leftcorner.specs.Table.{Table}
 use Rattle.leftcorner.specs.Construction.{WellFormed}
+use Rattle.table_order.specs.Order.{kernelKey, actionKey}
+use Rattle.table_order.proofs.OrderLaws.{RisingBy}
+use Rattle.table_order.proofs.UseLaws.{EntriesFollow}
 use Rattle.memory.specs.Fits.{Fits}
 
 pub record Sound (g : Grammar) (t : Table) : Type 0 where
@@ -16,3 +19,7 @@ pub record Sound (g : Grammar) (t : Table) : Type 0 where
   pub some-state : 1 ≤ t .states
   pub some-entry : 1 ≤ length (t .entries)
   pub some-kernel : 1 ≤ length (t .kernels)
+  -- document 02, S-5: the order of lines
+  pub entries-follow : EntriesFollow (g .rules) (t .entries)
+  pub kernels-rise : RisingBy kernelKey (t .kernels)
+  pub actions-rise : RisingBy actionKey (t .actions)

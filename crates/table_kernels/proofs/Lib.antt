@@ -1,4 +1,3 @@
-pub mod TripleLaws
 pub mod MemoryLaws
 pub mod CapLaws
 pub mod NextLaws

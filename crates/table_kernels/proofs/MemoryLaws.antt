@@ -16,8 +16,8 @@ use Rattle.leftcorner.specs.Table.{KernelLine, K}
 use Rattle.table_lines.specs.Image.{image, flag}
 use Rattle.table_lines.proofs.ImageLaws.{image-set, image-same}
 use Rattle.table_lines.proofs.ListLaws.{at-last, at-front, at-end}
+use Rattle.table_order.proofs.LastLaws.{last-more}
 use Rattle.table_kernels.specs.Memory.{figureOf, figureAt, isIn, codesOf, lookaheadAt, flagged, KernelMemory}
-use Rattle.table_kernels.proofs.TripleLaws.{mark-more}
 
 module _ (l : List KernelLine) where
   -- ---- figures
@@ -159,17 +159,17 @@ module _ (l : List KernelLine) where
     codes-more σ h = ap (λ (m : List ℕ). flagged m (length l * 64) σ) codes-start ∙ codes-rest [] σ h
 
 -- ---- all of it
-pub kernel-more : {a b : ℕ} {l : List KernelLine} {kernels lookaheads marks : List ℕ} → KernelMemory a b l kernels lookaheads marks
-    → (q i k : ℕ) (σ : List ℕ) → q ≤ 255 → i ≤ 255 → k ≤ 15 → ((j : ℕ) → getD σ j 0 < 64) → {kernels′ lookaheads′ marks′ : List ℕ}
+pub kernel-more : {a b : ℕ} {l : List KernelLine} {kernels lookaheads last : List ℕ} → KernelMemory a b l kernels lookaheads last
+    → (q i k : ℕ) (σ : List ℕ) → ((j : ℕ) → getD (q ∷ i ∷ k ∷ []) j 0 ≤ 65535) → ((j : ℕ) → getD σ j 0 < 64) → {kernels′ lookaheads′ last′ : List ℕ}
     → kernels′ ≡ set (set (set kernels (length l * 4) q) (length l * 4 + 1) i) (length l * 4 + 2) k
-    → lookaheads′ ≡ flagged lookaheads (length l * 64) σ → marks′ ≡ set marks (q * 4096 + i * 16 + k) 1
-    → KernelMemory a b (l ++ K q i k σ ∷ []) kernels′ lookaheads′ marks′
-kernel-more {a} {b} {l} h q i k σ x y z low ks ls ms = record {
+    → lookaheads′ ≡ flagged lookaheads (length l * 64) σ → last′ ≡ q ∷ i ∷ k ∷ []
+    → KernelMemory a b (l ++ K q i k σ ∷ []) kernels′ lookaheads′ last′
+kernel-more {a} {b} {l} h q i k σ small low ks ls e = record {
   held = record {
     kernels-are = ks ∙ (ap (λ (m : List ℕ). set (set (set m (length l * 4) q) (length l * 4 + 1) i) (length l * 4 + 2) k) (h .held .kernels-are) ∙ figures-more l a q i k σ);
     lookaheads-are = ls ∙ (ap (λ (m : List ℕ). flagged m (length l * 64) σ) (h .held .lookaheads-are) ∙ codes-more l b q i k σ low);
   };
-  marked = mark-more q i k x y z (h .marked) σ ms;
+  last-is = last-more l (K q i k σ) e small;
 }
 
 -- ---- the codes stored one after the other
@@ -188,8 +188,16 @@ pub figures-by : (m : List ℕ) {n o q r i j k c : ℕ} → n ≡ o → q ≡ r 
     → set (set (set m (n * 4) q) (n * 4 + 1) i) (n * 4 + 2) k ≡ set (set (set m (o * 4) r) (o * 4 + 1) j) (o * 4 + 2) c
 figures-by m a b c d = cc
 
-pub mark-by : (m : List ℕ) {q r i j k c : ℕ} → q ≡ r → i ≡ j → k ≡ c → set m (q * 4096 + i * 16 + k) 1 ≡ set m (r * 4096 + j * 16 + c) 1
-mark-by m a b c = cc
+pub triple-by : {q r i j k c : ℕ} → q ≡ r → i ≡ j → k ≡ c → q ∷ i ∷ k ∷ [] ≡ r ∷ j ∷ c ∷ []
+triple-by a b c = cc
 
 pub flags-by : (m : List ℕ) {n o : ℕ} {σ τ : List ℕ} → n ≡ o → σ ≡ τ → flagged m (n * 64) σ ≡ flagged m (o * 64) τ
 flags-by m a b = cc
+
+-- three figures stored
+pub triple-stored : (m : List ℕ) (q i k : ℕ) → length m ≡ 3 → set (set (set m 0 q) 1 i) 2 k ≡ q ∷ i ∷ k ∷ []
+triple-stored [] q i k e = absurd (omega (arith, e))
+triple-stored (x ∷ []) q i k e = absurd (omega (arith, e))
+triple-stored (x ∷ y ∷ []) q i k e = absurd (omega (arith, e))
+triple-stored (x ∷ y ∷ z ∷ []) q i k e = refl
+triple-stored (x ∷ y ∷ z ∷ w ∷ m) q i k e = absurd (omega (arith, e))

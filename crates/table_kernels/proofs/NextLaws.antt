@@ -2,9 +2,9 @@
 use Prim.Native.Nat.{ℕ, zero, suc, _+_, _-_, _≤_, _<_}
 use mathlib.Core.Path.{_≡_, refl, sym, ap, _∙_}
 use mathlib.Core.List.{List, [], _∷_}
-use mathlib.Core.Bool.{Bool, true, false, not, _&&_}
+use mathlib.Core.Bool.{Bool, true, _&&_}
 use native.Mathlib.Omega.{arith}
-use borrow.Author.Tests.{leb-true, ltb-true, eq-eqb, ne-eqb, not-true}
+use borrow.Author.Tests.{leb-true, ltb-true, eq-eqb, ne-eqb}
 use lib.Dec.{leb, ltb}
 use lib.ListN.{length, getD, drop, length-drop}
 use lib.Seq.{getD-drop}
@@ -14,6 +14,8 @@ use Rattle.range.proofs.RangeLaws.{within-true}
 use Rattle.reply.specs.declared.Kind.{Kind}
 use Rattle.reply.specs.declared.Kind.the-variants as kind
 use Rattle.leftcorner.specs.Table.{KernelLine, K}
+use Rattle.table_order.specs.Order.{follows, kernelKey}
+use Rattle.table_order.specs.Last.{LastIs}
 use Rattle.table_lines.specs.declared.Judgement.the-variants.{Fine, Faulty}
 use Rattle.table_lines.specs.declared.Step.{Step}
 use Rattle.table_lines.specs.declared.Step.the-variants as step
@@ -21,10 +23,11 @@ use Rattle.table_lines.specs.Line.{whole, broken, lineAt, allAtMost, rising, ca
 use Rattle.table_lines.specs.declared.Block.{Block}
 use Rattle.table_lines.specs.Block.{takes, fault, stepOf, Comes, stopped, turned, Lines, Reads, all-read, turned-away}
 use Rattle.table_lines.proofs.BlockLaws.{judge-fine}
+use Rattle.table_lines.proofs.CapLaws.{at-most}
 use Rattle.table_lines.proofs.TallyLaws.{rising-short}
 use Rattle.table_lines.proofs.HeldLaws.{numbersOf}
-use Rattle.table_kernels.specs.Kernels.{hasTriple, judgeWith, judgeKernel, noKernel, kernelNext}
-use Rattle.table_kernels.specs.Memory.{Low, KernelImage, KernelMemory}
+use Rattle.table_kernels.specs.Kernels.{judgeWith, judgeKernel, noKernel, kernelNext}
+use Rattle.table_kernels.specs.Memory.{KernelImage, KernelMemory}
 use Rattle.table_kernels.proofs.CapLaws.{kernel-capped}
 
 pub none-first : (at : ℕ) (l : List KernelLine) → length l ≡ 0 → step.Refused (record { kind = kind.Malformed; place = at }) ≡ stepOf (noKernel at l)
@@ -51,23 +54,24 @@ module _ (s : List ℕ) (t states items : ℕ) (lens : ℕ → ℕ) (at : ℕ) (
   kernel-taken {letter} e k j = simp (e, eq-eqb letter 75 k, j)
 
   -- by the numbers as memory keeps them
-  module _ (low : Low l) {letter : ℕ} {ns : List ℕ} {next : ℕ} {rise : Bool} (e : capped (lineAt s at) ≡ whole letter ns next) (q : rise ≡ rising (drop 3 (numbersOf (lineAt s at)))) where
+  module _ {last : List ℕ} (h : LastIs kernelKey last l) {letter : ℕ} {ns : List ℕ} {next : ℕ} {rise : Bool} (e : capped (lineAt s at) ≡ whole letter ns next) (q : rise ≡ rising (drop 3 (numbersOf (lineAt s at)))) where
     pub kernel-other : (letter ≡ 75 → ⊥) → kernelNext s t states items lens at l ≡ noKernel at l
-    kernel-other f = kernel-capped s t states items lens at l low e q ∙ simp (ne-eqb letter 75 f)
+    kernel-other f = kernel-capped s t states items lens at l h e q ∙ simp (ne-eqb letter 75 f)
 
     module _ (k : letter ≡ 75) where
       pub kernel-refused : {why : Kind} → judgeWith rise t states items lens l ns ≡ Faulty why → kernelNext s t states items lens at l ≡ fault why at
-      kernel-refused j = kernel-capped s t states items lens at l low e q ∙ simp (eq-eqb letter 75 k, j)
+      kernel-refused j = kernel-capped s t states items lens at l h e q ∙ simp (eq-eqb letter 75 k, j)
 
       pub kernel-kept : judgeWith rise t states items lens l ns ≡ Fine
           → kernelNext s t states items lens at l ≡ takes (K (getD ns 0 0) (getD ns 1 0) (getD ns 2 0) (drop 3 ns)) next
-      kernel-kept j = kernel-capped s t states items lens at l low e q ∙ simp (eq-eqb letter 75 k, j)
+      kernel-kept j = kernel-capped s t states items lens at l h e q ∙ simp (eq-eqb letter 75 k, j)
 
 -- ---- a line that is fine
 pub record KernelFine (t states items : ℕ) (lens : ℕ → ℕ) (l : List KernelLine) (ns : List ℕ) : Type 0 where
   pub long : 4 ≤ length ns
   pub rises : rising (drop 3 ns) ≡ true
-  pub new : hasTriple l (getD ns 0 0) (getD ns 1 0) (getD ns 2 0) ≡ false
+  pub after : follows kernelKey l (getD ns 0 0 ∷ getD ns 1 0 ∷ getD ns 2 0 ∷ []) ≡ true
+  pub small : allAtMost 65535 ns ≡ true
   pub few : length l < 1023
   pub state-in : (1 ≤ getD ns 0 0) × (getD ns 0 0 ≤ states)
   pub item-in : (1 ≤ getD ns 1 0) × (getD ns 1 0 ≤ items)
@@ -77,11 +81,11 @@ pub record KernelFine (t states items : ℕ) (lens : ℕ → ℕ) (l : List Kern
 pub with-fine : (rise : Bool) (t states items : ℕ) (lens : ℕ → ℕ) (l : List KernelLine) (ns : List ℕ) → judgeWith rise t states items lens l ns ≡ Fine
     → (allAtMost 65535 ns ≡ true → rise ≡ rising (drop 3 ns)) → KernelFine t states items lens l ns
 with-fine rise t states items lens l ns e q =
-    let j = judge-fine (leb 4 (length ns) && (rise && not (hasTriple l (getD ns 0 0) (getD ns 1 0) (getD ns 2 0))))
+    let j = judge-fine (leb 4 (length ns) && (rise && follows kernelKey l (getD ns 0 0 ∷ getD ns 1 0 ∷ getD ns 2 0 ∷ [])))
     (allAtMost 65535 ns && ltb (length l) 1023)
     (within 1 (getD ns 0 0) states && (within 1 (getD ns 1 0) items && (leb (getD ns 2 0) (lens (getD ns 1 0)) && allAtMost t (drop 3 ns)))) e in
-    let f = both-true (leb 4 (length ns)) (rise && not (hasTriple l (getD ns 0 0) (getD ns 1 0) (getD ns 2 0))) (j .0) in
-    let g = both-true rise (not (hasTriple l (getD ns 0 0) (getD ns 1 0) (getD ns 2 0))) (f .1) in
+    let f = both-true (leb 4 (length ns)) (rise && follows kernelKey l (getD ns 0 0 ∷ getD ns 1 0 ∷ getD ns 2 0 ∷ [])) (j .0) in
+    let g = both-true rise (follows kernelKey l (getD ns 0 0 ∷ getD ns 1 0 ∷ getD ns 2 0 ∷ [])) (f .1) in
     let w = both-true (allAtMost 65535 ns) (ltb (length l) 1023) (j .1) in
     let a = both-true (within 1 (getD ns 0 0) states) (within 1 (getD ns 1 0) items && (leb (getD ns 2 0) (lens (getD ns 1 0)) && allAtMost t (drop 3 ns))) (j .2) in
     let b = both-true (within 1 (getD ns 1 0) items) (leb (getD ns 2 0) (lens (getD ns 1 0)) && allAtMost t (drop 3 ns)) (a .1) in
@@ -89,7 +93,8 @@ with-fine rise t states items lens l ns e q =
     record {
       long = leb-true 4 (length ns) (f .0);
       rises = sym (q (w .0)) ∙ g .0;
-      new = not-true (hasTriple l (getD ns 0 0) (getD ns 1 0) (getD ns 2 0)) (g .1);
+      after = g .1;
+      small = w .0;
       few = ltb-true (length l) 1023 (w .1);
       state-in = within-true 1 (getD ns 0 0) states (a .0);
       item-in = within-true 1 (getD ns 1 0) items (b .0);
@@ -101,10 +106,12 @@ pub kernel-fine : (t states items : ℕ) (lens : ℕ → ℕ) (l : List KernelLi
 unfolding judgeKernel
 kernel-fine t states items lens l ns e = with-fine (rising (drop 3 ns)) t states items lens l ns e (λ a. refl)
 
-pub at-most : (m : ℕ) (l : List ℕ) → allAtMost m l ≡ true → (k : ℕ) → getD l k 0 ≤ m
-at-most m [] e k = omega arith
-at-most m (v ∷ l) e zero = leb-true v m (both-true (leb v m) (allAtMost m l) e .0)
-at-most m (v ∷ l) e (suc k) = at-most m l (both-true (leb v m) (allAtMost m l) e .1) k
+-- its key is of such numbers
+pub key-small : (ns : List ℕ) → allAtMost 65535 ns ≡ true → (j : ℕ) → getD (getD ns 0 0 ∷ getD ns 1 0 ∷ getD ns 2 0 ∷ []) j 0 ≤ 65535
+key-small ns e zero = at-most 65535 ns e 0
+key-small ns e (suc zero) = at-most 65535 ns e 1
+key-small ns e (suc (suc zero)) = at-most 65535 ns e 2
+key-small ns e (suc (suc (suc j))) = omega arith
 
 -- its numbers are few, since its codes rise to t at most
 pub fine-short : {t states items : ℕ} {lens : ℕ → ℕ} {l : List KernelLine} {ns : List ℕ} → t ≤ 63 → KernelFine t states items lens l ns → length ns ≤ 67
@@ -115,8 +122,8 @@ pub code-low : {t states items : ℕ} {lens : ℕ → ℕ} {l : List KernelLine}
 code-low {t = t} {ns = ns} h f k l =
     omega (arith, at-most t (drop 3 ns) (f .codes-in) (k - 3), getD-drop 3 ns (k - 3) 0, ap (λ (n : ℕ). getD ns n 0) (let e : 3 + (k - 3) ≡ k = omega arith in e), h)
 
--- without the marks
-pub image-reads : {a b : ℕ} {kernels lookaheads marks : List ℕ} {all : Lines KernelLine} {r : Block} → Reads (λ l. KernelMemory a b l kernels lookaheads marks) all r
+-- without the last key
+pub image-reads : {a b : ℕ} {kernels lookaheads last : List ℕ} {all : Lines KernelLine} {r : Block} → Reads (λ l. KernelMemory a b l kernels lookaheads last) all r
     → Reads (λ l. KernelImage a b l kernels lookaheads) all r
 image-reads (all-read h) = all-read (h .held)
 image-reads turned-away = turned-away

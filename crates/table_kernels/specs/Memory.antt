@@ -1,15 +1,16 @@
 -- Kernel lines in memory, counted from 0.
-use Prim.Native.Nat.{ℕ, _+_, _/_, _%_, _≤_}
+use Prim.Native.Nat.{ℕ, _+_, _/_, _%_}
 use mathlib.Core.Path.{_≡_}
 use mathlib.Core.List.{List, [], _∷_}
 use mathlib.Core.Bool.{Bool, false, _||_}
 use mathlib.Core.Option.{Option, some, none}
 use lib.Dec.{eqb}
-use lib.ListN.{length, getD, set}
+use lib.ListN.{getD, set}
 use Rattle.language.specs.Grammar.{at}
 use Rattle.leftcorner.specs.Table.{KernelLine, K}
 use Rattle.table_lines.specs.Image.{image, flag}
-use Rattle.table_kernels.specs.Kernels.{hasTriple}
+use Rattle.table_order.specs.Order.{kernelKey}
+use Rattle.table_order.specs.Last.{LastIs}
 
 -- four bytes a line: state, item, dot, 0
 abbrev pub figureOf : Option KernelLine → ℕ → ℕ
@@ -31,24 +32,6 @@ codesOf (some (K q i k σ)) = σ
 unfoldable pub lookaheadAt : List KernelLine → ℕ → ℕ
 lookaheadAt l x = flag (isIn (x % 64) (codesOf (at l (x / 64))))
 
--- a mark for each state, item and dot that has a line: for states and items below 256 and dots below 16
-unfoldable pub tripleAt : List KernelLine → ℕ → ℕ
-tripleAt l x = flag (hasTriple l (x / 4096) (x / 16 % 256) (x % 16))
-
-abbrev pub Low : List KernelLine → Type 0
-Low [] = Unit {0}
-Low (K q i k σ ∷ l) = ((q ≤ 255) × (i ≤ 255) × (k ≤ 15)) × Low l
-
--- the marks of these lines
-pub record Marked (marks : List ℕ) (l : List KernelLine) : Type 0 where
-  pub marks-are : marks ≡ image 1048576 (tripleAt l)
-  pub low : Low l
-
-pub record HoldsKernels (marks : List ℕ) (count : ℕ) : Type 0 where
-  pub lines : List KernelLine
-  pub count-is : length lines ≡ count
-  pub marked : Marked marks lines
-
 -- a 1 stored at each of these codes from base on
 abbrev pub flagged : List ℕ → ℕ → List ℕ → List ℕ
 flagged m base [] = m
@@ -59,7 +42,7 @@ pub record KernelImage (a b : ℕ) (l : List KernelLine) (kernels lookaheads : L
   pub kernels-are : kernels ≡ image a (figureAt l)
   pub lookaheads-are : lookaheads ≡ image b (lookaheadAt l)
 
--- and marks
-pub record KernelMemory (a b : ℕ) (l : List KernelLine) (kernels lookaheads marks : List ℕ) : Type 0 where
+-- and the last line's key
+pub record KernelMemory (a b : ℕ) (l : List KernelLine) (kernels lookaheads last : List ℕ) : Type 0 where
   pub held : KernelImage a b l kernels lookaheads
-  pub marked : Marked marks l
+  pub last-is : LastIs kernelKey last l

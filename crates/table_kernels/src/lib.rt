@@ -11,34 +11,16 @@ use table_lines::Line;
 use table_lines::Step;
 use table_lines::Tally;
 ghost use mathlib.Core.Path.{_≡_};
-ghost use mathlib.Core.List.{List, []};
+ghost use mathlib.Core.List.{List, [], _∷_};
 ghost use Prim.Native.Nat.{ℕ, _+_, _*_, _≤_, _<_};
 ghost use lib.ListN.{length, getD, take, drop, set};
 ghost use Rattle.items.specs.Layout.{Shaped, lengthAt};
 ghost use Rattle.leftcorner.specs.Table.{KernelLine};
+ghost use Rattle.table_order.specs.Order.{kernelKey};
+ghost use Rattle.table_order.specs.Last.{LastIs, HoldsLast};
 ghost use Rattle.table_lines.specs.Block.{Summarizes, stepOf, Comes, Reads};
-ghost use Rattle.table_kernels.specs.Kernels.{hasTriple, judgeWith, noKernel, kernelNext, kernelsFrom};
-ghost use Rattle.table_kernels.specs.Memory.{Marked, HoldsKernels, flagged, KernelImage, KernelMemory};
-
-// Whether a line with this state, item and dot was read: one look at the mark that each such line has.
-fn is_second(marks: &[u8], state: usize, item: usize, dot: usize) -> bool
-    requires { ⌜ length (now marks) ≡ 1048576 ⌝ }
-    ensures { λ r. ⌜ ((l : List KernelLine) → Marked (now (marks .entry)) l → r ≡ hasTriple l state item dot) ⌝ }
-{
-    if 255 < state {
-        return false;
-    }
-    if 255 < item {
-        return false;
-    }
-    if 15 < dot {
-        return false;
-    }
-    if marks[state * 4096 + item * 16 + dot] == 0 {
-        return false;
-    }
-    true
-}
+ghost use Rattle.table_kernels.specs.Kernels.{judgeWith, noKernel, kernelNext, kernelsFrom};
+ghost use Rattle.table_kernels.specs.Memory.{flagged, KernelImage, KernelMemory};
 
 fn judge_kernel(
     t: usize,
@@ -48,11 +30,11 @@ fn judge_kernel(
     p: Tally,
     numbers: &[usize],
     m: &[u8],
-    marks: &[u8],
+    last: &[usize],
 ) -> Judgement
-    requires { ⌜ (length (now numbers) ≡ 67) × (length (now marks) ≡ 1048576) ⌝ }
+    requires { ⌜ (length (now numbers) ≡ 67) × (length (now last) ≡ 3) ⌝ }
     requires { ⌜ Shaped (now m) items ⌝ }
-    ensures { λ r. ⌜ ((l : List KernelLine) (ns : List ℕ) → length l ≡ lines → Marked (now (marks .entry)) l → Summarizes ns p (now (numbers .entry)) → r ≡ judgeWith (p .rising) t states items (lengthAt (now (m .entry))) l ns) ⌝ }
+    ensures { λ r. ⌜ ((l : List KernelLine) (ns : List ℕ) → length l ≡ lines → LastIs kernelKey (now (last .entry)) l → Summarizes ns p (now (numbers .entry)) → r ≡ judgeWith (p .rising) t states items (lengthAt (now (m .entry))) l ns) ⌝ }
 {
     if p.count < 4 {
         return Judgement::Faulty(Kind::Malformed);
@@ -61,9 +43,7 @@ fn judge_kernel(
     if !rising {
         return Judgement::Faulty(Kind::Malformed);
     }
-    let item = numbers[1];
-    let dot = numbers[2];
-    if is_second(marks, numbers[0], item, dot) {
+    if !table_order::is_after(lines, last, numbers) {
         return Judgement::Faulty(Kind::Malformed);
     }
     if 65535 < p.largest {
@@ -75,10 +55,11 @@ fn judge_kernel(
     if !in_range(1, numbers[0], states) {
         return Judgement::Faulty(Kind::Undeclared);
     }
+    let item = numbers[1];
     if !in_range(1, item, items) {
         return Judgement::Faulty(Kind::Undeclared);
     }
-    if items::length_of(m, items, item) < dot {
+    if items::length_of(m, items, item) < numbers[2] {
         return Judgement::Faulty(Kind::Undeclared);
     }
     // the codes rise, so that the last is the largest
@@ -112,6 +93,16 @@ fn store_figures(kernels: &mut [u8], line: usize, state: usize, item: usize, dot
     table_lines::put(kernels, line * 4 + 2, dot);
 }
 
+// A line's triple is now the last.
+fn keep_triple(last: &mut [usize], state: usize, item: usize, dot: usize)
+    requires { ⌜ length (now last) ≡ 3 ⌝ }
+    ensures { λ r. ⌜ now (last .exit) ≡ state ∷ item ∷ dot ∷ [] ⌝ }
+{
+    last[0] = state;
+    last[1] = item;
+    last[2] = dot;
+}
+
 // What comes of a place without kernel line, after so many lines.
 fn no_kernel(at: usize, lines: usize) -> Step
     ensures { λ r. ⌜ ((l : List KernelLine) → length l ≡ lines → r ≡ stepOf (noKernel at l)) ⌝ }
@@ -136,13 +127,13 @@ fn read_kernel(
     m: &[u8],
     kernels: &mut [u8],
     lookaheads: &mut [u8],
-    marks: &mut [u8],
+    last: &mut [usize],
 ) -> Step
-    requires { ⌜ (length (now s) < 65537) × (t ≤ 63) × (states ≤ 255) × (items ≤ 255) × (length (now marks) ≡ 1048576) ⌝ }
+    requires { ⌜ (length (now s) < 65537) × (t ≤ 63) × (states ≤ 255) × (items ≤ 255) × (length (now last) ≡ 3) ⌝ }
     requires { ⌜ Shaped (now m) items ⌝ }
-    requires { ⌜ HoldsKernels (now marks) lines ⌝ }
-    ensures { λ r. ⌜ ((a b : ℕ) (l : List KernelLine) → length l ≡ lines → KernelMemory a b l (now (kernels .entry)) (now (lookaheads .entry)) (now (marks .entry))
-        → Comes l (λ k. KernelMemory a b k (now (kernels .exit)) (now (lookaheads .exit)) (now (marks .exit))) (kernelNext (now (s .entry)) t states items (lengthAt (now (m .entry))) at l) r) ⌝ }
+    requires { ⌜ HoldsLast kernelKey (now last) lines ⌝ }
+    ensures { λ r. ⌜ ((a b : ℕ) (l : List KernelLine) → length l ≡ lines → KernelMemory a b l (now (kernels .entry)) (now (lookaheads .entry)) (now (last .entry))
+        → Comes l (λ k. KernelMemory a b k (now (kernels .exit)) (now (lookaheads .exit)) (now (last .exit))) (kernelNext (now (s .entry)) t states items (lengthAt (now (m .entry))) at l) r) ⌝ }
 {
     let mut numbers = [0usize; 67];
     let Line::Whole(letter, p, next) = table_lines::read_line(s, at, &mut numbers) else {
@@ -151,7 +142,7 @@ fn read_kernel(
     if letter != b'K' {
         return no_kernel(at, lines);
     }
-    let judgement = judge_kernel(t, states, items, lines, p, &numbers, m, marks);
+    let judgement = judge_kernel(t, states, items, lines, p, &numbers, m, last);
     if let Judgement::Faulty(kind) = judgement {
         return Step::Refused(Refusal { kind, place: at });
     }
@@ -160,12 +151,12 @@ fn read_kernel(
     let dot = numbers[2];
     store_figures(kernels, lines, state, item, dot);
     store_codes(lookaheads, lines * CODES, &numbers, p.count);
-    table_lines::put(marks, state * 4096 + item * 16 + dot, 1);
+    keep_triple(last, state, item, dot);
     Step::Taken(next)
 }
 
-// The kernel lines from `first` on, with marks for the triples that have a line.
-fn read_marked(
+// The kernel lines from `first` on, with a place for the last line's triple.
+fn read_rising(
     s: &[u8],
     first: usize,
     t: usize,
@@ -174,17 +165,17 @@ fn read_marked(
     m: &[u8],
     kernels: &mut [u8],
     lookaheads: &mut [u8],
-    marks: &mut [u8],
+    last: &mut [usize],
 ) -> Block
-    requires { ⌜ (length (now s) < 65537) × (t ≤ 63) × (states ≤ 255) × (items ≤ 255) × (length (now marks) ≡ 1048576) ⌝ }
+    requires { ⌜ (length (now s) < 65537) × (t ≤ 63) × (states ≤ 255) × (items ≤ 255) × (length (now last) ≡ 3) ⌝ }
     requires { ⌜ Shaped (now m) items ⌝ }
-    requires { ⌜ KernelMemory (length (now kernels)) (length (now lookaheads)) [] (now kernels) (now lookaheads) (now marks) ⌝ }
-    ensures { λ r. ⌜ Reads (λ l. KernelMemory (length (now (kernels .entry))) (length (now (lookaheads .entry))) l (now (kernels .exit)) (now (lookaheads .exit)) (now (marks .exit))) (kernelsFrom (now (s .entry)) t states items (lengthAt (now (m .entry))) first) r ⌝ }
+    requires { ⌜ KernelMemory (length (now kernels)) (length (now lookaheads)) [] (now kernels) (now lookaheads) (now last) ⌝ }
+    ensures { λ r. ⌜ Reads (λ l. KernelMemory (length (now (kernels .entry))) (length (now (lookaheads .entry))) l (now (kernels .exit)) (now (lookaheads .exit)) (now (last .exit))) (kernelsFrom (now (s .entry)) t states items (lengthAt (now (m .entry))) first) r ⌝ }
 {
     let mut at = first;
     let mut k = 0;
     while k < 1024 {
-        match read_kernel(s, at, t, states, items, k, m, kernels, lookaheads, marks) {
+        match read_kernel(s, at, t, states, items, k, m, kernels, lookaheads, last) {
             Step::Taken(next) => {
                 at = next;
                 k += 1;
@@ -200,8 +191,8 @@ fn read_marked(
     Block::Read(k, at)
 }
 
-// The kernel lines from `first` on. The marks, a byte for each state, item and dot, cost one clearing of 1 MiB; a line
-// then costs one look, however many lines there are. A refusal leaves the slices free; `table::read_tables` then clears them.
+// The kernel lines from `first` on. A line is compared with the one before it, whose triple is kept apart, since what is lent may be
+// too short to hold it. A refusal leaves the slices free; `table::read_tables` then clears them.
 pub fn read_kernels(
     s: &[u8],
     first: usize,
@@ -217,8 +208,8 @@ pub fn read_kernels(
     requires { ⌜ KernelImage (length (now kernels)) (length (now lookaheads)) [] (now kernels) (now lookaheads) ⌝ }
     ensures { λ r. ⌜ Reads (λ l. KernelImage (length (now (kernels .entry))) (length (now (lookaheads .entry))) l (now (kernels .exit)) (now (lookaheads .exit))) (kernelsFrom (now (s .entry)) t states items (lengthAt (now (m .entry))) first) r ⌝ }
 {
-    let mut marks = [0u8; 1048576];
-    read_marked(
+    let mut last = [0usize; 3];
+    read_rising(
         s,
         first,
         t,
@@ -227,6 +218,6 @@ pub fn read_kernels(
         m,
         kernels,
         lookaheads,
-        &mut marks,
+        &mut last,
     )
 }

@@ -31,6 +31,11 @@ caps-drop (suc n) [] = refl
 caps-drop (suc n) (v ∷ l) = caps-drop n l
 
 -- ---- numbers that are not above 65535 are kept as they are
+pub at-most : (m : ℕ) (l : List ℕ) → allAtMost m l ≡ true → (k : ℕ) → getD l k 0 ≤ m
+at-most m [] e k = omega arith
+at-most m (v ∷ l) e zero = leb-true v m (both-true (leb v m) (allAtMost m l) e .0)
+at-most m (v ∷ l) e (suc k) = at-most m l (both-true (leb v m) (allAtMost m l) e .1) k
+
 pub caps-same : (l : List ℕ) → allAtMost 65535 l ≡ true → caps l ≡ l
 caps-same [] e = refl
 caps-same (v ∷ l) e =

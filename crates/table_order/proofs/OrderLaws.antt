@@ -1,6 +1,6 @@
 -- Lines in rising order. Two lists that rise and have the same members are the same.
 use Prim.Native.Nat.{ℕ, _<_}
-use mathlib.Core.Path.{_≡_, refl, sym, ap₂, subst}
+use mathlib.Core.Path.{_≡_, refl, sym, ap, ap₂, subst, _∙_}
 use mathlib.Core.Logic.{_⊎_, inl, inr}
 use mathlib.Core.List.{List, [], _∷_, _++_}
 use mathlib.Core.Bool.{Bool, true, false, _&&_, _||_}
@@ -81,7 +81,7 @@ module _ {A : Type 0} (key : A → List ℕ) where
   above-all k (x ∷ l) f = (f x here, above-all k l (λ y m. f y (there m)))
 
   -- a line that follows the last line is above all of them
-  follows-all : (l : List A) (k : List ℕ) → RisingBy l → follows key l k ≡ true → (y : A) → In y l → Below (key y) k
+  pub follows-all : (l : List A) (k : List ℕ) → RisingBy l → follows key l k ≡ true → (y : A) → In y l → Below (key y) k
   follows-all [] k r e y m = elim m [ ]
   follows-all (x ∷ []) k r e y m = go (in-cons m)
     where
@@ -98,7 +98,7 @@ module _ {A : Type 0} (key : A → List ℕ) where
   above-more k [] x h b = (b, tt)
   above-more k (y ∷ l) x h b = (h .0, above-more k l x (h .1) b)
 
-  rising-on : (l : List A) (x : A) → RisingBy l → ((y : A) → In y l → Below (key y) (key x)) → RisingBy (l ++ x ∷ [])
+  pub rising-on : (l : List A) (x : A) → RisingBy l → ((y : A) → In y l → Below (key y) (key x)) → RisingBy (l ++ x ∷ [])
   rising-on [] x r f = (tt, tt)
   rising-on (y ∷ l) x r f = (above-more (key y) l x (r .0) (f y here), rising-on l x (r .1) (λ z m. f z (there m)))
 
@@ -112,11 +112,22 @@ module _ {A : Type 0} (key : A → List ℕ) where
   rising-follows (y ∷ []) x later r = true-below (key y) (key x) (r .0 .0)
   rising-follows (y ∷ z ∷ l) x later r = rising-follows (z ∷ l) x later (r .1)
 
-  -- no other line has its key
+  -- its key is above that of each of them
   pub rising-once : (earlier : List A) (x : A) (later : List A) → RisingBy (earlier ++ x ∷ later) → (y : A) → In y earlier → Below (key y) (key x)
   rising-once [] x later r y m = elim m [ ]
   rising-once (z ∷ l) x later r y here = above-in (key z) (r .0) (in-right l here)
   rising-once (z ∷ l) x later r y (there m) = rising-once l x later (r .1) y m
+
+  -- a line is the only one with its key
+  pub rising-one : (l : List A) {x y : A} → RisingBy l → In x l → In y l → key x ≡ key y → x ≡ y
+  rising-one [] r m n e = elim m [ ]
+  rising-one (z ∷ l) {x} {y} r m n e = go (in-cons m) (in-cons n) (λ p q. rising-one l (r .1) p q e)
+    where
+      go : (x ≡ z) ⊎ In x l → (y ≡ z) ⊎ In y l → (In x l → In y l → x ≡ y) → x ≡ y
+      go (inl p) (inl q) f = p ∙ sym q
+      go (inl p) (inr q) f = let b = subst (λ (k : List ℕ). Below k (key y)) (ap key (sym p) ∙ e) (above-in (key z) (r .0) q) in absurd (below-not (key y) (key y) b b)
+      go (inr p) (inl q) f = let b = subst (λ (k : List ℕ). Below k (key x)) (ap key (sym q) ∙ sym e) (above-in (key z) (r .0) p) in absurd (below-not (key x) (key x) b b)
+      go (inr p) (inr q) f = f p q
 
   -- ---- the same members
   behind : {x w : A} {l m : List A} → Above (key x) l → ((z : A) → In z (x ∷ l) → In z (x ∷ m)) → In w l → In w m

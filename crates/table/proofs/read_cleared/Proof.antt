@@ -24,7 +24,7 @@ read-book-requires : tie.Need-read-book-requires
 read-book-requires c κs = let d = c .before .before .before .before .before .before .before .before in
     let r = d .before .before .before .before .before in
     let p = r .before .before .before .before .before .before .before .before .before .before .before .before .before .pre in
-    let g = read-as _ _ (omega (arith, p .room .items-room)) (r .read-grammar .ensures .0) (r .read-grammar .kept .1 .0) (r .read-grammar .ensures .1) (d .before .h .given .1) in (
+    let g = read-as _ _ (omega (arith, p .room)) (r .read-grammar .ensures .0) (r .read-grammar .kept .1 .0) (r .read-grammar .ensures .1) (d .before .h .given .1) in (
       omega (arith, r .before .before .if1 .left),
       record {
         grammar = g .grammar;
@@ -39,7 +39,7 @@ same-length c = c .before .before .before .before .before .read-grammar .kept .1
 returns-2 : tie.Need-returns-2
 returns-2 c = let r = c .before .before .before .before .before in
     let p = r .before .before .before .before .before .before .before .before .before .before .before .before .before .pre in
-    rw (no-grammar _ _ (r .before .before .if1 .left) (read-refused _ _ (omega (arith, p .room .items-room)) (r .read-grammar .ensures .0) (c .before .why .given .1))) denied
+    rw (no-grammar _ _ (r .before .before .if1 .left) (read-refused _ _ (omega (arith, p .room)) (r .read-grammar .ensures .0) (c .before .why .given .1))) denied
 
 same-length-2 : tie.Need-same-length-2
 same-length-2 c = let b = c .before .before .before .before .before .before .before .before .before .before .before .before .before .before .before .before in b .read-book .kept .1 .1 .0 ∙ b .before .before .before .before .before .before .before .before .before .before .before .before .before .before .read-grammar .kept .1 .0
@@ -69,7 +69,7 @@ returns-3 : tie.Need-returns-3
 returns-3 c = let d = c .before .before .before .before .before .before .before .before .before .before .before .before .before .before .before .before .before .before .before .before .before .before .before .before .before in
     let r = d .before .before .before .before .before in
     let p = r .before .before .before .before .before .before .before .before .before .before .before .before .before .pre in
-    let g = read-as _ _ (omega (arith, p .room .items-room)) (r .read-grammar .ensures .0) (r .read-grammar .kept .1 .0) (r .read-grammar .ensures .1) (d .before .h .given .1) in
+    let g = read-as _ _ (omega (arith, p .room)) (r .read-grammar .ensures .0) (r .read-grammar .kept .1 .0) (r .read-grammar .ensures .1) (d .before .h .given .1) in
     let k = blank-now _ (g .book-is) p (g .holds .laid) (r .read-grammar .kept .1 .0) in
     rw (with-grammar _ _ (r .before .before .if1 .left) (g .book-is))
     (fills-alike (record { items-same = r .read-grammar .kept .1 .0; states-same = refl; kernels-same = refl; lookaheads-same = refl; kinds-same = refl; values-same = refl; gotos-same = refl; named-same = refl })

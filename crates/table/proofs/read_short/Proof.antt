@@ -36,15 +36,15 @@ read-cleared-requires : tie.Need-read-cleared-requires
 read-cleared-requires c κs = record {
   items-none = zeros-again 16640 refl;
   cleared = record {
-    states-none = zeros-again 256 refl;
-    kernels-none = zeros-again 4096 refl;
-    lookaheads-none = zeros-again 65536 refl;
-    kinds-none = zeros-again 16640 refl;
-    values-none = zeros-again 16640 refl;
-    gotos-none = zeros-again 16640 refl;
-    named-none = zeros-again 256 refl;
+    states-none = zeros-again 1 refl;
+    kernels-none = zeros-again 1 refl;
+    lookaheads-none = zeros-again 1 refl;
+    kinds-none = zeros-again 1 refl;
+    values-none = zeros-again 1 refl;
+    gotos-none = zeros-again 1 refl;
+    named-none = zeros-again 1 refl;
   };
-  room = record { items-room = search needs; kinds-room = search needs; gotos-room = search needs };
+  room = search needs;
 }
 
 enum-known-answer : tie.Need-enum-known-answer

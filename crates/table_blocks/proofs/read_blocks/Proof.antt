@@ -50,7 +50,7 @@ read-entries-requires : tie.Need-read-entries-requires
 read-entries-requires c κs = let p = c .before .before .before .before .before .before .before .before .before .before .before .before .pre in
     let w = begun-low (p .1) in (
       (p .0 .0, w .few-terminals, w .few-nonterminals, p .0 .1, omega (arith, w .few-rules, p .0 .2)),
-      (omega (arith, w .few-rules, p .0 .2, p .1 .blank .room .items-room), (begun-entries (p .1), begun-rules (p .1))),
+      (omega (arith, w .few-rules, p .0 .2, p .1 .blank .room), (begun-entries (p .1), begun-rules (p .1))),
     )
 
 enum-known-why : tie.Need-enum-known-why
@@ -87,7 +87,7 @@ read-actions-requires c κs = let d = c .before .before .before .before .before 
     let p = r .before .before .before .before .before .before .before .before .before .before .before .before .before .pre in
     let e = known-were d in
     let w = begun-low (p .1) in (
-      (p .0 .0, w .few-terminals, w .few-nonterminals, w .few-rules, p .0 .1, p .1 .blank .room .kinds-room, p .1 .blank .room .gotos-room),
+      (p .0 .0, w .few-terminals, w .few-nonterminals, w .few-rules, p .0 .1),
       (cells-start (p .1 .blank), record { test = isEntryState (e .0); flags-are = flags-at d (start d .pre .1 .grammar) e }),
     )
 

@@ -1,6 +1,7 @@
 -- `table_kernels::read_kernel` meets its contract. Assumes nothing.
-use Rattle.table_kernels.proofs.NextLaws.{code-low, none-comes, kernel-broken, kernel-other, kernel-refused, kernel-kept, KernelFine, with-fine, at-most, fine-short}
-use Rattle.table_kernels.proofs.MemoryLaws.{kernel-more, figures-by, mark-by, flags-by}
+use Rattle.table_kernels.proofs.NextLaws.{code-low, none-comes, kernel-broken, kernel-other, kernel-refused, kernel-kept, KernelFine, with-fine, key-small, fine-short}
+use Rattle.table_kernels.proofs.MemoryLaws.{kernel-more, figures-by, triple-by, flags-by}
+use Rattle.table_lines.proofs.CapLaws.{at-most}
 use Rattle.table_lines.proofs.HeldLaws.{Whole, whole-read, broken-read, held-count, held-at, numbers-take}
 use Rattle.table_lines.specs.Block.{taken, turned}
 use Rattle.table_lines.specs.Line.{lineAt}
@@ -26,7 +27,7 @@ fine-at : (c : tie.After-enum-told2) → let s = c .before .before .before .befo
     KernelFine (a .t) (a .states) (a .items) (lengthAt (now (a .m))) (s .pre .1 .1 .lines) (line-read (c .before .before .before .before .before .before) .numbers)
 fine-at c = let k = c .before .before .before .before .before .before .before .before .before .before .before .before .before .before .before .before .before .pre .1 .1 in
     let w = line-read (c .before .before .before .before .before .before) in
-    with-fine _ _ _ _ _ (k .lines) (w .numbers) (sym (c .before .before .judge-kernel .ensures (k .lines) (w .numbers) (k .count-is) (k .marked) (w .held)) ∙ c .enum-told2 .given .1) (w .held .rises)
+    with-fine _ _ _ _ _ (k .lines) (w .numbers) (sym (c .before .before .judge-kernel .ensures (k .lines) (w .numbers) (k .count-is) (k .last-is) (w .held)) ∙ c .enum-told2 .given .1) (w .held .rises)
 
 -- so its figures are small
 low-at : (c : tie.After-enum-told2) → let m = c .before .before .before .before .before .before .before .before .before .before .read-line .last .1 .1 .0 in
@@ -64,7 +65,7 @@ no-kernel-requires-2 c κs = search needs
 returns-2 : tie.Need-returns-2
 returns-2 c = λ a b l q h.
     let w = line-read (c .before .before) in
-    rw (kernel-other _ _ _ _ _ _ l (h .marked .low) (w .line-is) (w .rises) (c .before .if1 .taken)) (none-comes _ l _ (c .no-kernel2 .ensures l q) h)
+    rw (kernel-other _ _ _ _ _ _ l (h .last-is) (w .line-is) (w .rises) (c .before .if1 .taken)) (none-comes _ l _ (c .no-kernel2 .ensures l q) h)
 
 slice-aggregate-judge-kernel : tie.Need-slice-aggregate-judge-kernel
 slice-aggregate-judge-kernel c = search needs
@@ -81,7 +82,7 @@ same-length c = search needs
 returns-3 : tie.Need-returns-3
 returns-3 c = λ a b l q h.
     let w = line-read (c .before .before .before .before .before .before .before) in
-    rw (kernel-refused _ _ _ _ _ _ l (h .marked .low) (w .line-is) (w .rises) (c .before .before .before .before .before .before .if1 .left) (sym (c .before .before .before .judge-kernel .ensures l (w .numbers) q (h .marked) (w .held)) ∙ c .before .judgement .given .1)) turned
+    rw (kernel-refused _ _ _ _ _ _ l (h .last-is) (w .line-is) (w .rises) (c .before .before .before .before .before .before .if1 .left) (sym (c .before .before .before .judge-kernel .ensures l (w .numbers) q (h .last-is) (w .held)) ∙ c .before .judgement .given .1)) turned
 
 enum-told-2 : tie.Need-enum-told-2
 enum-told-2 c = search needs
@@ -112,20 +113,8 @@ store-codes-requires c κs = let f = fine-at (c .before .before .before .before 
       (λ k l d. omega (arith, held-at (w .held) k (omega (arith, d, held-count (w .held))) (omega (arith, d, fine-short (p .0 .1) f, held-count (w .held))), code-low (p .0 .1) f k l)),
     )
 
-mul-put : tie.Need-mul-put
-mul-put c = record { fits = omega (arith, low-at (c .before .before .before .before .before .before .before .before .before .before) .1) }
-
-mul-put-2 : tie.Need-mul-put-2
-mul-put-2 c = record { fits = omega (arith, low-at (c .before .before .before .before .before .before .before .before .before .before) .2) }
-
-add-put : tie.Need-add-put
-add-put c = record { fits = omega (arith, low-at (c .before .before .before .before .before .before .before .before .before .before) .1, low-at (c .before .before .before .before .before .before .before .before .before .before) .2) }
-
-add-put-2 : tie.Need-add-put-2
-add-put-2 c = let w = low-at (c .before .before .before .before .before .before .before .before .before .before) in record { fits = omega (arith, w .1, w .2, w .3) }
-
-put-requires : tie.Need-put-requires
-put-requires c κs = search needs
+keep-triple-requires : tie.Need-keep-triple-requires
+keep-triple-requires c κs = c .before .before .before .before .before .before .before .before .before .before .before .before .before .before .before .before .before .before .before .before .before .before .before .before .before .before .before .pre .0 .4
 
 same-length-2 : tie.Need-same-length-2
 same-length-2 c = search needs
@@ -141,17 +130,17 @@ returns-4 c = λ a b l q h.
     let w = line-read (c .before .before .before .before .before .before .before .before .before .before .before .before .before .before .before .before .before .before .before) in
     let p = c .before .before .before .before .before .before .before .before .before .before .before .before .before .before .before .before .before .before .before .before .before .before .before .before .before .before .before .before .before .before .pre in
     let g = c .before .before .before .before .before .before .before .before .before .before .before .before .before .before .before .before .before .before .before .before .before .before .before .before .before .before .before .before .before .before .args in
-    let j = sym (c .before .before .before .before .before .before .before .before .before .before .before .before .before .before .before .judge-kernel .ensures l (w .numbers) q (h .marked) (w .held)) ∙ c .before .before .before .before .before .before .before .before .before .before .before .before .before .enum-told2 .given .1 in
+    let j = sym (c .before .before .before .before .before .before .before .before .before .before .before .before .before .before .before .judge-kernel .ensures l (w .numbers) q (h .last-is) (w .held)) ∙ c .before .before .before .before .before .before .before .before .before .before .before .before .before .enum-told2 .given .1 in
     let f = with-fine _ (g .t) (g .states) (g .items) (lengthAt (now (g .m))) l (w .numbers) j (w .held .rises) in
     let n0 = sym (held-at (w .held) 0 (omega (arith, f .long)) (search needs)) in
     let n1 = sym (held-at (w .held) 1 (omega (arith, f .long)) (search needs)) in
     let n2 = sym (held-at (w .held) 2 (omega (arith, f .long)) (search needs)) in
-    rw (kernel-kept _ _ _ _ _ _ l (h .marked .low) (w .line-is) (w .rises) (c .before .before .before .before .before .before .before .before .before .before .before .before .before .before .before .before .before .before .if1 .left) j)
-    (taken (kernel-more h _ _ _ (drop 3 (w .numbers)) (omega (arith, f .state-in .1, p .0 .2)) (omega (arith, f .item-in .1, p .0 .3)) (omega (arith, f .dot-in, p .1 .0 .lengths _ (f .item-in .1)))
+    rw (kernel-kept _ _ _ _ _ _ l (h .last-is) (w .line-is) (w .rises) (c .before .before .before .before .before .before .before .before .before .before .before .before .before .before .before .before .before .before .if1 .left) j)
+    (taken (kernel-more h _ _ _ (drop 3 (w .numbers)) (key-small (w .numbers) (f .small))
     (λ k. omega (arith, at-most _ (drop 3 (w .numbers)) (f .codes-in) k, p .0 .1))
     (c .before .before .before .before .before .before .before .before .before .before .before .store-figures .ensures ∙ figures-by (now (g .kernels)) (sym q) n0 n1 n2)
     (c .before .before .before .before .before .before .store-codes .ensures ∙ flags-by (now (g .lookaheads)) (sym q) (ap (drop 3) (numbers-take (w .held .numbers) (omega (arith, fine-short (p .0 .1) f, held-count (w .held))))))
-    (c .before .before .put .ensures ∙ mark-by (now (g .marks)) n0 n1 n2)))
+    (c .before .before .keep-triple .ensures ∙ triple-by n0 n1 n2)))
 
 pub read-kernel-spec : {M : Type 1} → statement M
 read-kernel-spec =
@@ -178,11 +167,7 @@ read-kernel-spec =
     mul-store-codes
     slice-aggregate-store-codes
     store-codes-requires
-    mul-put
-    mul-put-2
-    add-put
-    add-put-2
-    put-requires
+    keep-triple-requires
     same-length-2
     same-length-3
     same-length-4

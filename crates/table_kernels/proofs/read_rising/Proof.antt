@@ -1,4 +1,4 @@
--- `table_kernels::read_marked` meets its contract. Assumes nothing.
+-- `table_kernels::read_rising` meets its contract. Assumes nothing.
 use Rattle.table_kernels.specs.Memory.{KernelMemory}
 use Rattle.table_kernels.specs.Kernels.{kernelNext, kernelsFrom}
 use Rattle.table_lines.proofs.BlockLaws.{Loop, lines-start, loop-end, loop-take, loop-stop, loop-refuse}
@@ -9,17 +9,17 @@ use Prim.Native.Nat.{_≤_, _-_}
 use native.Mathlib.Omega.{arith}
 use lib.ListN.{length}
 use borrow.Author.Needs.{needs}
-use Rattle.table_kernels.proofs.read_marked.Statement.{statement}
-use Rattle.table_kernels.proofs.read_marked.Tie as tie
+use Rattle.table_kernels.proofs.read_rising.Statement.{statement}
+use Rattle.table_kernels.proofs.read_rising.Tie as tie
 
 abbrev Inv-loop : tie.InvT-loop
-Inv-loop s first t states items m kernels₀ lookaheads₀ marks₀ at₀ k₀ kernels lookaheads marks at k =
-    (k ≤ 1024) × (length kernels ≡ length kernels₀) × (length lookaheads ≡ length lookaheads₀) × (length marks ≡ length marks₀)
+Inv-loop s first t states items m kernels₀ lookaheads₀ last₀ at₀ k₀ kernels lookaheads last at k =
+    (k ≤ 1024) × (length kernels ≡ length kernels₀) × (length lookaheads ≡ length lookaheads₀) × (length last ≡ length last₀)
     × Loop (kernelsFrom s t states items (lengthAt m) at₀) (kernelNext s t states items (lengthAt m)) (1024 - k) at k
-    (λ l. KernelMemory (length kernels₀) (length lookaheads₀) l kernels lookaheads marks)
+    (λ l. KernelMemory (length kernels₀) (length lookaheads₀) l kernels lookaheads last)
 
 abbrev μ-loop : tie.MeasureT-loop
-μ-loop s first t states items m kernels₀ lookaheads₀ marks₀ at₀ k₀ kernels lookaheads marks at k = 1024 - k
+μ-loop s first t states items m kernels₀ lookaheads₀ last₀ at₀ k₀ kernels lookaheads last at k = 1024 - k
 
 loop-holds : tie.Need-loop-holds Inv-loop μ-loop
 loop-holds c = (search needs, search needs, search needs, search needs, record { lines = []; count-is = refl; reading = lines-start _ _ _ _; memory = c .before .before .before .before .before .pre .1 .1 })
@@ -28,7 +28,7 @@ read-kernel-requires : tie.Need-read-kernel-requires Inv-loop μ-loop
 read-kernel-requires c κs = let g = c .before .before .before .before .loop .inv .4 in
     let p = c .before .before .before .before .before .before .before .before .before .before .pre in (
       (p .0 .0, p .0 .1, p .0 .2, p .0 .3, omega (arith, p .0 .4, c .before .before .before .before .loop .inv .3)),
-      (p .1 .0, record { lines = g .lines; count-is = g .count-is; marked = g .memory .marked }),
+      (p .1 .0, record { lines = g .lines; count-is = g .count-is; last-is = g .memory .last-is }),
     )
 
 enum-known-next : tie.Need-enum-known-next Inv-loop μ-loop
@@ -91,8 +91,8 @@ same-length-9 c = search needs
 returns-3 : tie.Need-returns-3 Inv-loop μ-loop
 returns-3 c = loop-end (c .before .loop .inv .4) (search needs)
 
-pub read-marked-spec : {M : Type 1} → statement M
-read-marked-spec =
+pub read-rising-spec : {M : Type 1} → statement M
+read-rising-spec =
     tie.close
     (tie.spec
     Inv-loop

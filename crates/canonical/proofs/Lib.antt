@@ -1,0 +1,10 @@
+pub mod Line
+pub mod Block
+pub mod Judged
+pub mod Entries
+pub mod Kernels
+pub mod Actions
+pub mod Book
+pub mod Groups
+pub mod Same
+pub mod Promise
