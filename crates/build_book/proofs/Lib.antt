@@ -1,4 +1,5 @@
 pub mod Once
+pub mod EntryOrder
 pub mod Readable
 pub mod CellLaws
 pub mod CellCases

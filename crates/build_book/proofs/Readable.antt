@@ -16,6 +16,7 @@ use Rattle.leftcorner.specs.Construction.{EntryAt, KernelAt, ActionAt, MovedBy,
 use Rattle.leftcorner.proofs.ItemStrings.{wanted-declared}
 use Rattle.table_order.specs.Order.{kernelKey, actionKey}
 use Rattle.table_order.proofs.OrderLaws.{RisingBy}
+use Rattle.table_order.proofs.UseLaws.{EntriesFollow}
 use Rattle.build_states.specs.Strings.{entryStrings, entryLines}
 use Rattle.build_states.proofs.Distinct.{in-at}
 use Rattle.build_states.proofs.EntryLaws.{goal-at, some-entry, strings-distinct, entry-at, entry-line, lines-length}
@@ -30,6 +31,7 @@ use Rattle.build_book.proofs.Carried.{looked, first-low, look-low}
 use Rattle.build_book.proofs.Live.{in-one}
 use Rattle.build_book.proofs.CellLaws.{cell-asked}
 use Rattle.build_book.proofs.Once.{Once, SameEntry, entries-once, kernels-rise, kernels-count, actions-rise}
+use Rattle.build_book.proofs.EntryOrder.{entries-follow}
 use Rattle.build_book.proofs.BuiltForm.{fullTable, built-entries, states-both, built-line, action-is}
 use Rattle.build_book.proofs.MeetsBuilt.{entry-has, target}
 
@@ -65,6 +67,7 @@ pub record Readable (g : Grammar) (t : Table) : Type 0 where
   pub some-kernel : 1 ≤ length (t .kernels)
   pub few-kernels : length (t .kernels) ≤ 1023
   pub entries-once : Once SameEntry (t .entries)
+  pub entries-follow : EntriesFollow (g .rules) (t .entries)
   pub kernels-rise : RisingBy kernelKey (t .kernels)
   pub actions-rise : RisingBy actionKey (t .actions)
   pub entry : (s : ℕ) (γ : List ℕ) → In (E s γ) (t .entries) → EntryForm g t s γ
@@ -193,6 +196,7 @@ module _ (g : Grammar) (F : List ℕ → ℕ → ℕ → Type 0) (F? : (β : Lis
     some-kernel = goal-line;
     few-kernels = omega (arith, lines-many, L .few-lines);
     entries-once = subst (Once SameEntry) (sym same) (entries-once 1 (entryStrings g) (strings-distinct g));
+    entries-follow = subst (EntriesFollow (g .rules)) (sym same) (entries-follow g);
     kernels-rise = lines-rise;
     actions-rise = cells-rise;
     entry = entry-form;

@@ -17,6 +17,7 @@ use Rattle.symbol.specs.Symbol.{isDeclared}
 use Rattle.symbol.proofs.KindLaws.{terminal-is, nonterminal-is}
 use Rattle.leftcorner.specs.Table.{EntryLine, E, Table, sameString, entryFrom}
 use Rattle.leftcorner.proofs.ReadOff.{same-string}
+use Rattle.table_order.proofs.UseLaws.{EntriesFollow, follow-each}
 use Rattle.table_lines.specs.Line.{allAtMost}
 use Rattle.table_lines.specs.Block.{takes, read}
 use Rattle.table_entries.specs.Entries.{allDeclared, entryNext, entriesFrom}
@@ -66,18 +67,18 @@ module _ (g : Grammar) (t : Table) (W : grammar.WellFormed g) (R : Readable g t)
   numbers-low u γ f = simp (le-leb u 65535 (omega (arith, f .state .1, R .few-states)), all-at-most 65535 γ (λ X n. symbol-low X (f .symbols X n)))
 
   line-taken : (earlier : List EntryLine) (x : EntryLine) (later : List EntryLine) → t .entries ≡ earlier ++ x ∷ later → (at past : ℕ) (w : List ℕ) → Rest s at (lineOf x ++ w) → Rest s past w
-      → entryNext s (g .terminals) (g .nonterminals) (t .states) at earlier ≡ takes x past
+      → entryNext s (g .terminals) (g .nonterminals) (g .rules) (t .states) at earlier ≡ takes x past
   line-taken earlier (E u γ) later e at past w r n =
       let f = R .entry u γ (subst (In (E u γ)) (sym e) (in-right earlier here)) in
       let o = once-before SameEntry earlier (E u γ) later (subst (Once SameEntry) e (R .entries-once)) in
       let a = numbers-low u γ f in
-      entry-taken s (g .terminals) (g .nonterminals) (t .states) at earlier
+      entry-taken s (g .terminals) (g .nonterminals) (g .rules) (t .states) at earlier
       (line-read s 69 (u ∷ γ) w (omega arith) (omega arith) a r n)
-      (sym (fine (g .terminals) (g .nonterminals) (t .states) earlier 69 (u ∷ γ) refl (omega (arith, f .some-symbol))
-      (no-entry earlier u γ 1 o) a (omega (arith, f .short)) (true-within 1 u (t .states) (f .state .0) (f .state .1)) (all-declared g γ (f .symbols))))
+      (sym (fine (g .terminals) (g .nonterminals) (g .rules) (t .states) earlier 69 (u ∷ γ) refl (omega (arith, f .some-symbol))
+      (no-entry earlier u γ 1 o) (follow-each (g .rules) earlier u γ later (subst (EntriesFollow (g .rules)) e (R .entries-follow))) a (omega (arith, f .short)) (true-within 1 u (t .states) (f .state .0) (f .state .1)) (all-declared g γ (f .symbols))))
 
   pub entries-read : {at end : ℕ} (w : List ℕ) → Rest s at (entryText (t .entries) ++ w) → Rest s end w
-      → entriesFrom (length (t .entries)) s (g .terminals) (g .nonterminals) (t .states) at ≡ read (t .entries) end
+      → entriesFrom (length (t .entries)) s (g .terminals) (g .nonterminals) (g .rules) (t .states) at ≡ read (t .entries) end
   entries-read w r n =
-      lines-full s lineOf (entryNext s (g .terminals) (g .nonterminals) (t .states)) (t .entries) line-taken w
+      lines-full s lineOf (entryNext s (g .terminals) (g .nonterminals) (g .rules) (t .states)) (t .entries) line-taken w
       (rest-as (ap (λ (z : List ℕ). z ++ w) (text-is (t .entries))) r) n

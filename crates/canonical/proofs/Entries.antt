@@ -22,17 +22,17 @@ text-more : (x : EntryLine) (l : List EntryLine) → entryText (x ∷ l) ≡ byt
 text-more (E s γ) l = refl
 
 module _ (g : Grammar) (s : List ℕ) (states : ℕ) where
-  entry-written : (at : ℕ) (l : List EntryLine) (x : EntryLine) (past : ℕ) → entryNext s (g .terminals) (g .nonterminals) states at l ≡ takes x past
+  entry-written : (at : ℕ) (l : List EntryLine) (x : EntryLine) (past : ℕ) → entryNext s (g .terminals) (g .nonterminals) (g .rules) states at l ≡ takes x past
       → drop at s ≡ bytesOf x ++ drop past s
   entry-written at l x past e =
       let c = entry-came g s states at l x past e in
       let ns = c .numbers in
-      let f = entry-fine (g .terminals) (g .nonterminals) states l (c .letter) ns (c .fine) in
+      let f = entry-fine (g .terminals) (g .nonterminals) (g .rules) states l (c .letter) ns (c .fine) in
       subst (λ (y : EntryLine). drop at s ≡ bytesOf y ++ drop past s) (c .made)
-      (line-written s at (c .line-is) (entry-small (g .terminals) (g .nonterminals) states l (c .letter) ns (c .fine))
-      ∙ ap₂ (λ (b : ℕ) (vs : List ℕ). line b vs ++ drop past s) (entry-letter (g .terminals) (g .nonterminals) states l (c .letter) ns (c .fine))
+      (line-written s at (c .line-is) (entry-small (g .terminals) (g .nonterminals) (g .rules) states l (c .letter) ns (c .fine))
+      ∙ ap₂ (λ (b : ℕ) (vs : List ℕ). line b vs ++ drop past s) (entry-letter (g .terminals) (g .nonterminals) (g .rules) states l (c .letter) ns (c .fine))
       (one-more ns 0 (omega (arith, f .long)) refl))
 
-  pub entries-written : (count at : ℕ) {es : List EntryLine} {end : ℕ} → entriesFrom count s (g .terminals) (g .nonterminals) states at ≡ read es end
+  pub entries-written : (count at : ℕ) {es : List EntryLine} {end : ℕ} → entriesFrom count s (g .terminals) (g .nonterminals) (g .rules) states at ≡ read es end
       → drop at s ≡ entryText es ++ drop end s
-  entries-written count at e = block-written s bytesOf entryText refl text-more (entryNext s (g .terminals) (g .nonterminals) states) entry-written count at e
+  entries-written count at e = block-written s bytesOf entryText refl text-more (entryNext s (g .terminals) (g .nonterminals) (g .rules) states) entry-written count at e

@@ -5,6 +5,7 @@ use mathlib.Core.List.{List}
 use mathlib.Core.Bool.{Bool, true, false, cond}
 use borrow.Author.Tests.{eqb-true}
 use lib.Dec.{eqb}
+use Rattle.language.specs.Grammar.{Rule}
 use Rattle.reply.specs.declared.Kind.{Kind}
 use Rattle.leftcorner.specs.Table.{EntryLine, KernelLine, ActionLine}
 use Rattle.table_lines.specs.declared.Judgement.{Judgement}
@@ -39,7 +40,7 @@ needed true e h = refl
 needed false e h = sym (h refl) ∙ ap isFine e
 
 -- ---- entry lines
-module _ (t n states : ℕ) (l : List EntryLine) (letter : ℕ) (ns : List ℕ) (e : judgeEntry t n states l letter ns ≡ Fine) where
+module _ (t n : ℕ) (rs : List Rule) (states : ℕ) (l : List EntryLine) (letter : ℕ) (ns : List ℕ) (e : judgeEntry t n rs states l letter ns ≡ Fine) where
   pub entry-letter : letter ≡ 69
   unfolding judgeEntry
   entry-letter = eqb-true letter 69 (needed (eqb letter 69) e (λ p. simp (p, fine-faulty)))

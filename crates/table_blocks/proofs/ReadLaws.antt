@@ -29,15 +29,15 @@ lines-few {A} next (suc k) at l {m} {end} e = go (next at l) e (λ x past. lines
 
 module _ (g : Grammar) (s : List ℕ) (states : ℕ) {h : Heading} (q : h ≡ headingOf g) where
   module _ (entries first : ℕ) where
-    as-entries : {x : Lines EntryLine} → entriesFrom entries s (h .terminals) (h .nonterminals) states first ≡ x
-        → entriesFrom entries s (g .terminals) (g .nonterminals) states first ≡ x
-    as-entries {x} e = subst (λ (k : Heading). entriesFrom entries s (k .terminals) (k .nonterminals) states first ≡ x) q e
+    as-entries : {x : Lines EntryLine} → entriesFrom entries s (h .terminals) (h .nonterminals) (g .rules) states first ≡ x
+        → entriesFrom entries s (g .terminals) (g .nonterminals) (g .rules) states first ≡ x
+    as-entries {x} e = subst (λ (k : Heading). entriesFrom entries s (k .terminals) (k .nonterminals) (g .rules) states first ≡ x) q e
 
-    pub entries-refused : {why : Refusal} → entriesFrom entries s (h .terminals) (h .nonterminals) states first ≡ refused why → entriesOf g s states entries first ≡ rejected why
+    pub entries-refused : {why : Refusal} → entriesFrom entries s (h .terminals) (h .nonterminals) (g .rules) states first ≡ refused why → entriesOf g s states entries first ≡ rejected why
     unfolding entriesOf
     entries-refused e = simp (as-entries e)
 
-    pub entries-read : {es : List EntryLine} {at : ℕ} → entriesFrom entries s (h .terminals) (h .nonterminals) states first ≡ read es at
+    pub entries-read : {es : List EntryLine} {at : ℕ} → entriesFrom entries s (h .terminals) (h .nonterminals) (g .rules) states first ≡ read es at
         → entriesOf g s states entries first ≡ kernelsOf g s states es at
     unfolding entriesOf
     entries-read e = simp (as-entries e)

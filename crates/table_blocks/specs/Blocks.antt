@@ -35,4 +35,4 @@ module _ (g : Grammar) (s : List ℕ) (states : ℕ) where
       onLines (kernelsFrom s (g .terminals) states (length (g .rules) + length es) (lengthsOf g es) at) (actionsOf es) rejected
 
   unfoldable pub entriesOf : ℕ → ℕ → Reading
-  entriesOf entries at = onLines (entriesFrom entries s (g .terminals) (g .nonterminals) states at) kernelsOf rejected
+  entriesOf entries at = onLines (entriesFrom entries s (g .terminals) (g .nonterminals) (g .rules) states at) kernelsOf rejected

@@ -3,4 +3,5 @@ pub mod RowLaws
 pub mod JudgeLaws
 pub mod MemoryLaws
 pub mod CapLaws
+pub mod OrderLaws
 pub mod NextLaws

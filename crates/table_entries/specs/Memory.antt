@@ -1,15 +1,17 @@
--- Entry lines in memory: their strings as items behind the rules, and their states by entry number.
+-- Entry lines in memory: their strings as items behind the rules, their states by entry number, and what the next line must follow.
 use Prim.Native.Nat.{ℕ, zero, suc, _+_, _*_, _≤_}
 use mathlib.Core.Path.{_≡_}
 use mathlib.Core.List.{List, [], _∷_}
 use mathlib.Core.Bool.{Bool, false, _||_}
 use mathlib.Core.Option.{some}
 use lib.Dec.{eqb}
-use lib.ListN.{length, getD}
+use lib.ListN.{length, getD, drop}
 use lib.Seq.{sets}
-use Rattle.language.specs.Grammar.{at, concat}
+use Rattle.language.specs.Grammar.{Grammar, Rule, at, concat}
+use Rattle.language.specs.WellFormed.{WellFormed}
 use Rattle.leftcorner.specs.Table.{EntryLine, E, stateOf}
-use Rattle.items.specs.Layout.{entryRows, EntryIn, Shaped}
+use Rattle.items.specs.Layout.{entryRows, EntryIn, Holds, Shaped}
+use Rattle.table_order.specs.Order.{firstUse, groupLines}
 use Rattle.table_lines.specs.Image.{image, flag}
 
 abbrev pub stringsOf : List EntryLine → List (List ℕ)
@@ -34,11 +36,33 @@ withEntries m rules l = sets m (suc rules * 64) (concat (entryRows (stringsOf l)
 pub record Rows (m : List ℕ) (rules : ℕ) (l : List EntryLine) : Type 0 where
   pub row-in : (k : ℕ) {s : ℕ} {γ : List ℕ} → at l k ≡ some (E s γ) → EntryIn m (suc (rules + k)) γ
 
--- m holds so many entries behind the rules
-pub record HoldsEntries (m : List ℕ) (rules entries : ℕ) : Type 0 where
+-- m holds the rules of g
+pub record RulesIn (g : Grammar) (m : List ℕ) (rules : ℕ) : Type 0 where
+  pub formed : WellFormed g
+  pub holds : Holds m rules g
+
+pub record HoldsRules (m : List ℕ) (rules : ℕ) : Type 0 where
+  pub grammar : Grammar
+  pub rules-in : RulesIn grammar m rules
+
+-- the first use of the last of the lines
+abbrev pub useOfLast : List Rule → List EntryLine → ℕ
+useOfLast rs [] = 0
+useOfLast rs (E s γ ∷ []) = firstUse rs γ
+useOfLast rs (x ∷ y ∷ l) = useOfLast rs (y ∷ l)
+
+-- the first use of the last line of a group after the first line; 0 where there is none
+abbrev pub lastUse : List Rule → List EntryLine → ℕ
+lastUse rs l = useOfLast rs (groupLines rs (drop 1 l))
+
+-- m holds so many entries behind the rules, and `last` the first use that binds the next one
+pub record HoldsEntries (m : List ℕ) (rules entries : ℕ) (last : List ℕ) : Type 0 where
+  pub grammar : Grammar
+  pub rules-in : RulesIn grammar m rules
   pub lines : List EntryLine
   pub count-is : length lines ≡ entries
   pub rows : Rows m rules lines
+  pub last-is : last ≡ lastUse (grammar .rules) lines ∷ []
 
 -- from row i on nothing is stored
 abbrev pub Empty : List ℕ → ℕ → Type 0

@@ -1,4 +1,4 @@
--- Entry lines that are read: as many as the book's first line says, their states and symbols declared, no string twice.
+-- Entry lines that are read: as many as the book's first line says, their states and symbols declared, no string twice, in order of first use.
 use Prim.Native.Nat.{ℕ, _≤_}
 use mathlib.Core.Path.{_≡_, ap, subst, _∙_}
 use mathlib.Core.Logic.{_⊎_, ⊎-elim}
@@ -14,6 +14,7 @@ use Rattle.symbol.specs.Symbol.{isDeclared}
 use Rattle.symbol.proofs.KindLaws.{is-declared}
 use Rattle.leftcorner.specs.Table.{EntryLine, E, stringOf, entryFrom}
 use Rattle.leftcorner.proofs.ReadOff.{clash, entry-found}
+use Rattle.table_order.proofs.UseLaws.{EntriesFollow, follow-more}
 use Rattle.table_lines.specs.declared.Judgement.{Judgement}
 use Rattle.table_lines.specs.Line.{lineAt}
 use Rattle.table_lines.specs.Block.{Outcome, takes, stops, read}
@@ -40,7 +41,7 @@ module _ (g : Grammar) (states : ℕ) where
   declared-in {X} e (here {l = γ}) = is-declared g X (both-true (isDeclared (g .terminals) (g .nonterminals) X) (allDeclared (g .terminals) (g .nonterminals) γ) e .0)
   declared-in e (there {y = Y} {l = γ} m) = declared-in (both-true (isDeclared (g .terminals) (g .nonterminals) Y) (allDeclared (g .terminals) (g .nonterminals) γ) e .1) m
 
-  fine-declared : (l : List EntryLine) (ns : List ℕ) → EntryFine (g .terminals) (g .nonterminals) states l ns → EntryDeclared (getD ns 0 0) (drop 1 ns)
+  fine-declared : (l : List EntryLine) (ns : List ℕ) → EntryFine (g .terminals) (g .nonterminals) (g .rules) states l ns → EntryDeclared (getD ns 0 0) (drop 1 ns)
   fine-declared l ns f = record {
     state-in = (f .some-state, f .few-states);
     some-symbol = omega (arith, f .long, length-drop 1 ns);
@@ -57,10 +58,10 @@ new-string l γ e = record { each = λ k {x = y} h q. other k y h q }
 
 module _ (g : Grammar) (s : List ℕ) (states : ℕ) where
   abbrev next : ℕ → List EntryLine → Outcome EntryLine
-  next = entryNext s (g .terminals) (g .nonterminals) states
+  next = entryNext s (g .terminals) (g .nonterminals) (g .rules) states
 
   abbrev judged-as : List EntryLine → ℕ → List ℕ → Judgement
-  judged-as = judgeEntry (g .terminals) (g .nonterminals) states
+  judged-as = judgeEntry (g .terminals) (g .nonterminals) (g .rules) states
 
   abbrev made-of : ℕ → List ℕ → EntryLine
   made-of letter ns = E (getD ns 0 0) (drop 1 ns)
@@ -76,24 +77,30 @@ module _ (g : Grammar) (s : List ℕ) (states : ℕ) where
       all-line (λ o. o ≡ stops → ⊥) (lineAt s at) (λ letter ns past e. judged-goes (judged-as l letter ns) at (made-of letter ns) past) (λ q. clash cc)
 
   abbrev Kept : List EntryLine → Type 0
-  Kept l = Each (Declared g states) l × Once entryString l
+  Kept l = Each (Declared g states) l × Once entryString l × EntriesFollow (g .rules) l
 
   entry-kept : (at : ℕ) (l : List EntryLine) (x : EntryLine) (past : ℕ) → Kept l → next at l ≡ takes x past → Kept (l ++ x ∷ [])
   entry-kept at l x past h e =
       let c = entry-came at l x past e in
-      let f = entry-fine (g .terminals) (g .nonterminals) states l (c .letter) (c .numbers) (c .fine) in
-      subst (λ (y : EntryLine). Kept (l ++ y ∷ [])) (c .made)
-      (each-more (Declared g states) (h .0) (fine-declared g states l (c .numbers) f), once-more entryString (h .1) (new-string l (drop 1 (c .numbers)) (f .new)))
+      let f = entry-fine (g .terminals) (g .nonterminals) (g .rules) states l (c .letter) (c .numbers) (c .fine) in
+      subst (λ (y : EntryLine). Kept (l ++ y ∷ [])) (c .made) (
+        each-more (Declared g states) (h .0) (fine-declared g states l (c .numbers) f),
+        once-more entryString (h .1) (new-string l (drop 1 (c .numbers)) (f .new)),
+        follow-more (g .rules) l (getD (c .numbers) 0 0) (drop 1 (c .numbers)) (h .2) (f .in-order),
+      )
 
-  module _ (count at : ℕ) {es : List EntryLine} {end : ℕ} (e : entriesFrom count s (g .terminals) (g .nonterminals) states at ≡ read es end) where
+  module _ (count at : ℕ) {es : List EntryLine} {end : ℕ} (e : entriesFrom count s (g .terminals) (g .nonterminals) (g .rules) states at ≡ read es end) where
     kept : Kept es
-    kept = lines-keep Kept next entry-kept count at [] (each-none (Declared g states), once-none entryString) es end e
+    kept = lines-keep Kept next entry-kept count at [] (each-none (Declared g states), once-none entryString, tt) es end e
 
     pub entries-declared : Each (Declared g states) es
     entries-declared = kept .0
 
     pub entries-once : Once entryString es
     entries-once = kept .1
+
+    pub entries-follow : EntriesFollow (g .rules) es
+    entries-follow = kept .2
 
     pub entries-counted : length es ≡ count
     entries-counted =

@@ -27,7 +27,7 @@ pub record Parts (gs s : List ℕ) (g : Grammar) (t : Table) : Type 0 where
   pub end : ℕ
   pub grammar-is : grammarOf gs ≡ accepted g
   pub head-is : headOf s ≡ head.Read (t .states) count first
-  pub entries-are : entriesFrom count s (g .terminals) (g .nonterminals) (t .states) first ≡ read (t .entries) second
+  pub entries-are : entriesFrom count s (g .terminals) (g .nonterminals) (g .rules) (t .states) first ≡ read (t .entries) second
   pub kernels-are : kernelsFrom s (g .terminals) (t .states) (length (g .rules) + length (t .entries)) (lengthsOf g (t .entries)) second ≡ read (t .kernels) third
   pub actions-are : actionsFrom s (g .terminals) (g .nonterminals) (length (g .rules)) (t .states) third ≡ read (t .actions) end
 
@@ -56,7 +56,7 @@ module _ (gs s : List ℕ) where
   blocks-parted : (g : Grammar) → grammarOf gs ≡ accepted g → (states count first : ℕ) → headOf s ≡ head.Read states count first → PartsOf (entriesOf g s states count first)
   unfolding entriesOf kernelsOf actionsOf
   blocks-parted g a states count first h =
-      all-lines PartsOf turned (entriesFrom count s (g .terminals) (g .nonterminals) states first)
+      all-lines PartsOf turned (entriesFrom count s (g .terminals) (g .nonterminals) (g .rules) states first)
       (λ es second i. all-lines PartsOf turned (kernelsFrom s (g .terminals) states (length (g .rules) + length es) (lengthsOf g es) second)
       (λ ks third j. all-lines PartsOf turned (actionsFrom s (g .terminals) (g .nonterminals) (length (g .rules)) states third) (λ xs end k. record {
         count = count;

@@ -118,7 +118,7 @@ module _ (g : Grammar) (t : Table) where
 -- ---- both books
 module _ (gs s : List ℕ) {g : Grammar} (a : grammarOf gs ≡ accepted g) {states count first : ℕ} (h : headOf s ≡ head.Read states count first) where
   blocks-sound : {es : List EntryLine} {ks : List KernelLine} {xs : List ActionLine} {second third end : ℕ}
-      → entriesFrom count s (g .terminals) (g .nonterminals) states first ≡ read es second
+      → entriesFrom count s (g .terminals) (g .nonterminals) (g .rules) states first ≡ read es second
       → kernelsFrom s (g .terminals) states (length (g .rules) + length es) (lengthsOf g es) second ≡ read ks third
       → actionsFrom s (g .terminals) (g .nonterminals) (length (g .rules)) states third ≡ read xs end → Sound g (tableWith states es ks xs)
   blocks-sound {es} {ks} {xs} {second} {third} {end} i j k =
@@ -138,6 +138,7 @@ module _ (gs s : List ℕ) {g : Grammar} (a : grammarOf gs ≡ accepted g) {stat
         some-state = w .0 .0;
         some-entry = omega (arith, n, w .1);
         some-kernel = kernels.kernels-some s (g .terminals) states items lens second j;
+        entries-follow = entries.entries-follow g s states count first i;
         kernels-rise = kernels.kernels-rise s (g .terminals) states items lens second j;
         actions-rise = actions.actions-rise s (g .terminals) (g .nonterminals) (length (g .rules)) states third k;
       }

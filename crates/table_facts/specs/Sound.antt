@@ -8,6 +8,7 @@ use Rattle.leftcorner.specs.Table.{Table}
 use Rattle.leftcorner.specs.Construction.{WellFormed}
 use Rattle.table_order.specs.Order.{kernelKey, actionKey}
 use Rattle.table_order.proofs.OrderLaws.{RisingBy}
+use Rattle.table_order.proofs.UseLaws.{EntriesFollow}
 use Rattle.memory.specs.Fits.{Fits}
 
 pub record Sound (g : Grammar) (t : Table) : Type 0 where
@@ -19,5 +20,6 @@ pub record Sound (g : Grammar) (t : Table) : Type 0 where
   pub some-entry : 1 ≤ length (t .entries)
   pub some-kernel : 1 ≤ length (t .kernels)
   -- document 02, S-5: the order of lines
+  pub entries-follow : EntriesFollow (g .rules) (t .entries)
   pub kernels-rise : RisingBy kernelKey (t .kernels)
   pub actions-rise : RisingBy actionKey (t .actions)

@@ -1,3 +1,4 @@
 pub mod OrderLaws
 pub mod KeyLaws
 pub mod LastLaws
+pub mod UseLaws

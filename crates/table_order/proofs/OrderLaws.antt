@@ -98,7 +98,7 @@ module _ {A : Type 0} (key : A → List ℕ) where
   above-more k [] x h b = (b, tt)
   above-more k (y ∷ l) x h b = (h .0, above-more k l x (h .1) b)
 
-  rising-on : (l : List A) (x : A) → RisingBy l → ((y : A) → In y l → Below (key y) (key x)) → RisingBy (l ++ x ∷ [])
+  pub rising-on : (l : List A) (x : A) → RisingBy l → ((y : A) → In y l → Below (key y) (key x)) → RisingBy (l ++ x ∷ [])
   rising-on [] x r f = (tt, tt)
   rising-on (y ∷ l) x r f = (above-more (key y) l x (r .0) (f y here), rising-on l x (r .1) (λ z m. f z (there m)))
 
