@@ -7,17 +7,18 @@ use mathlib.Core.Path.{_≡_}
 use mathlib.Core.List.{List, [], _∷_, _++_}
 use mathlib.Core.Bool.{true, false}
 use lib.ListN.{getD, drop}
-use Rattle.language.specs.Grammar.{Grammar}
+use Rattle.language.specs.Grammar.{Rule, Grammar}
 use Rattle.language.specs.Sentence.{In}
-use Rattle.leftcorner.specs.Table.{KernelLine, ActionLine, Table}
+use Rattle.leftcorner.specs.Table.{EntryLine, KernelLine, ActionLine, Table}
 use Rattle.leftcorner.specs.Claim.{_↔_}
 use Rattle.reply.specs.declared.Kind.the-variants.{Malformed}
 use Rattle.reply.specs.declared.Reply.the-variants.{Accepted}
 use Rattle.grammar.specs.Book.{accepted, grammarOf}
-use Rattle.table_order.specs.Order.{below, follows, kernelKey, actionKey, groupLines, useKey}
+use Rattle.table_order.specs.Order.{below, follows, kernelKey, actionKey, groupLines, useKey, entryFollows}
 use Rattle.table_lines.specs.Line.{lineAt}
 use Rattle.table_lines.specs.Line as line
 use Rattle.table_lines.specs.Block.{fault}
+use Rattle.table_entries.specs.Entries.{entryNext}
 use Rattle.table_kernels.specs.Kernels.{kernelNext}
 use Rattle.table_actions.specs.Actions.{actionNext}
 use Rattle.table.specs.Book.{whole, tablesOf}
@@ -42,6 +43,7 @@ pub record Torn (s : List ℕ) (at letter : ℕ) (ns : List ℕ) : Type 0 where
   pub kernel : letter ≡ 75 → (t states items : ℕ) (lens : ℕ → ℕ) (l : List KernelLine) → follows kernelKey l (getD ns 0 0 ∷ getD ns 1 0 ∷ getD ns 2 0 ∷ []) ≡ false
       → kernelNext s t states items lens at l ≡ fault Malformed at
   pub action : (t n rules states : ℕ) (l : List ActionLine) → follows actionKey l (getD ns 0 0 ∷ getD ns 1 0 ∷ []) ≡ false → actionNext s t n rules states at l ≡ fault Malformed at
+  pub entry : (t n : ℕ) (rs : List Rule) (states : ℕ) (l : List EntryLine) → entryFollows rs l (drop 1 ns) ≡ false → entryNext s t n rs states at l ≡ fault Malformed at
 
 -- each line of one is a line of the other, wherever it stands
 abbrev pub SameLines : {A : Type 0} → List A → List A → Type 0
