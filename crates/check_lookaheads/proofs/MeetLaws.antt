@@ -9,7 +9,7 @@ use lib.ListN.{getD, set, replicate, length-replicate}
 use Rattle.language.specs.Grammar.{Grammar}
 use Rattle.language.specs.Sentence.{In}
 use Rattle.leftcorner.specs.Table.{EntryLine, E, Table, entryAt}
-use Rattle.leftcorner.specs.Construction.{entryItem, EntryAt, KernelAt}
+use Rattle.leftcorner.specs.Construction.{entryItem, EntryAt, KernelAt, WellFormed, LookaheadsMeet}
 use Rattle.fixpoint.specs.Flags.{On, Marks}
 use Rattle.fixpoint.proofs.CountLaws.{on-set}
 use Rattle.fixpoint.proofs.PassLaws.{all-off}
@@ -28,7 +28,7 @@ use Rattle.inclusions.specs.Included.{by-move, by-group, Includes, FlagAsked}
 use Rattle.inclusions.proofs.FlagLaws.{flag-map, flag-at, flag-line}
 use Rattle.check_lookaheads.specs.Narrow.{Narrows}
 use Rattle.check_lookaheads.specs.Memory.{StateCovers, GoalAsks}
-use Rattle.check_lookaheads.specs.Sources.{LookaheadsFrom, included-in, GoalMeets, LookaheadsBelow, IncludesBelow}
+use Rattle.check_lookaheads.specs.Sources.{LookaheadsFrom, included-in, GoalMeets, LookaheadsBelow, IncludesBelow, lookaheads-all, lookaheads-below, lookaheads-goal}
 use Rattle.check_lookaheads.proofs.NarrowLaws.{narrows-map}
 
 -- flags that were all clear
@@ -78,6 +78,37 @@ module _ (g : Grammar) (t : Table) {items entries kernels lookaheads kinds value
       let r = line-at g t (H .holds-kernels) (H .line-count) (record { within = low; state = refl; item = refl; dot = refl }) in
       H .holds-kernels .code-on l (stateAt kernels l) (itemAt kernels l) (dotAt kernels l) c (r .2) (f (r .0) (r .1))
 
+  -- ---- the goal: code 0 of its entry's line
+  module _ {included₀ included : List ℕ} (a : Adds (GoalAsks kernels entries rules lines) included₀ included) where
+    pub goal-from : {codes : ℕ} → 1 ≤ codes → codes ≤ 64 → (q : ℕ) → StateCovers kernels included lookaheads lines codes q → GoalMeets g t q
+    goal-from one few q h = record {
+      of-goal = λ γ σ ent m. covered-in h few one m (λ l w. a .every (l * 64 + 0) (record {
+        line = l;
+        is-line = record {
+          low = w .within;
+          state = w .state ∙ sym (H .holds-entries .state-is 1 q ent);
+          item = w .item ∙ ap (λ (r : ℕ). r + 1) (H .rule-count);
+          dot = w .dot;
+        };
+        is = omega arith;
+      }));
+    }
+
+  goal-in : 1 ≤ strings → {l c q : ℕ} → l < lines → stateAt kernels l ≡ q → c < 64 → GoalAsks kernels entries rules lines (l * 64 + c) → GoalMeets g t q → On lookaheads (l * 64 + c)
+  goal-in some-entry {l} {c} {q} low e lc o m = go (entry-at t (H .entry-count) 1 (omega arith) (omega (arith, some-entry)))
+    where
+      go : (x : EntryLine) × (entryAt t 1 ≡ some x) → On lookaheads (l * 64 + c)
+      go (E u γ, ent) =
+          let z : o .line ≡ l = omega (arith, lc, o .is) in
+          let w : IsLine kernels lines (getD entries 1 0) (rules + 1) 0 l = subst (IsLine kernels lines (getD entries 1 0) (rules + 1) 0) z (o .is-line) in
+          let eu : u ≡ q = sym (H .holds-entries .state-is 1 u ent) ∙ (sym (w .state) ∙ e) in
+          let ec : 0 ≡ c = omega (arith, lc, o .is) in
+          subst (λ (x : ℕ). On lookaheads (l * 64 + x)) ec
+          (in-covered 0 low (λ σ ker. m .of-goal γ σ (subst (λ (x : ℕ). EntryAt g t 1 x γ) eu ent)
+          (subst (λ (x : ℕ). KernelAt g t x (entryItem g t 1) zero σ) e
+          (subst (λ (x : ℕ). KernelAt g t (stateAt kernels l) x zero σ) (w .item ∙ sym (ap (λ (r : ℕ). r + 1) (H .rule-count)))
+          (subst (λ (x : ℕ). KernelAt g t (stateAt kernels l) (itemAt kernels l) x σ) (w .dot) ker)))))
+
   module _ {codes : ℕ} (nul fst : List ℕ) (count : codes ≡ suc (g .terminals)) where
     few : codes ≤ 64
     few = omega (arith, H .formed .few-terminals)
@@ -95,62 +126,31 @@ module _ (g : Grammar) (t : Table) {items entries kernels lookaheads kinds value
         asked-in : {i k c : ℕ} {σ : List ℕ} → c < codes → KernelAt g t q i k σ → Includes g t (FirstBy codes nul fst) p q i k c → In c σ
         asked-in {c = c} low m x = covered-in h few low m (λ l w. every (l * 64 + c) (flag-at l w low refl x))
 
-    -- ---- the states below n
-    module _ {n : ℕ} {included : List ℕ} (a : Marks (FlagAsked (IncludesBelow g t (FirstBy codes nul fst) n) kernels lines codes) included) where
-      meets : (q : ℕ) → StateCovers kernels included lookaheads lines codes q → LookaheadsBelow g t (FirstBy codes nul fst) n q
-      meets q h = record {
-        from = λ p above below.
-            from-covers (λ y f. a .every y (flag-map (λ s i k c x. record { state = p; above = above; below = below; includes = x }) f)) h;
+    -- ---- the states below n, and the goal
+    module _ {n : ℕ} {included₀ included : List ℕ} (a : Marks (FlagAsked (IncludesBelow g t (FirstBy codes nul fst) n) kernels lines codes) included₀)
+        (b : Adds (GoalAsks kernels entries rules lines) included₀ included) where
+      below : (q : ℕ) → StateCovers kernels included lookaheads lines codes q → LookaheadsBelow g t (FirstBy codes nul fst) n q
+      below q h = record {
+        from = λ p above low.
+            from-covers (λ y f. b .kept y (a .every y (flag-map (λ s i k c x. record { state = p; above = above; below = low; includes = x }) f))) h;
       }
 
-      covers : (q : ℕ) → LookaheadsBelow g t (FirstBy codes nul fst) n q → StateCovers kernels included lookaheads lines codes q
-      covers q L = record {
+      covers : 1 ≤ strings → (q : ℕ) → LookaheadsBelow g t (FirstBy codes nul fst) n q → GoalMeets g t q → StateCovers kernels included lookaheads lines codes q
+      covers some-entry q L m = record {
         each = λ l low e. record {
-          covered = λ c lc on.
-              let x = flag-line l c few (omega (arith, lc, few)) (a .only (l * 64 + c) on) .1 in
-              in-covered c low (included-in g t (FirstBy codes nul fst) (subst (LookaheadsBelow g t (FirstBy codes nul fst) n) (sym e) L .from (x .state) (x .above) (x .below)) (x .includes));
+          covered = λ c lc on. go l c low e (omega (arith, lc, few)) (b .only (l * 64 + c) on);
         };
       }
+        where
+          go : (l c : ℕ) → l < lines → stateAt kernels l ≡ q → c < 64 → On included₀ (l * 64 + c) ⊎ GoalAsks kernels entries rules lines (l * 64 + c) → On lookaheads (l * 64 + c)
+          go l c low e lc (inl on) =
+              let x = flag-line l c few lc (a .only (l * 64 + c) on) .1 in
+              in-covered c low (included-in g t (FirstBy codes nul fst) (subst (LookaheadsBelow g t (FirstBy codes nul fst) n) (sym e) L .from (x .state) (x .above) (x .below)) (x .includes))
+          go l c low e lc (inr o) = goal-in some-entry low e lc o m
 
       -- states whose lines are asked for more than they have are those whose lookaheads are too few
-      pub narrows-below : {fs fs′ : List ℕ} → Narrows (StateCovers kernels included lookaheads lines codes) fs fs′ → Narrows (LookaheadsBelow g t (FirstBy codes nul fst) n) fs fs′
-      narrows-below w = narrows-map meets covers w
-
-  -- ---- the goal
-  module _ (some-entry : 1 ≤ strings) {none included : List ℕ} (n : ℕ) (is-none : none ≡ replicate n 0) (a : Adds (GoalAsks kernels entries rules lines) none included) where
-    pub goal-from : (q : ℕ) → StateCovers kernels included lookaheads lines 1 q → GoalMeets g t q
-    goal-from q h = record {
-      of-goal = λ γ σ ent m. covered-in h (omega arith) (omega arith) m (λ l w. a .every (l * 64 + 0) (record {
-        line = l;
-        is-line = record {
-          low = w .within;
-          state = w .state ∙ sym (H .holds-entries .state-is 1 q ent);
-          item = w .item ∙ ap (λ (r : ℕ). r + 1) (H .rule-count);
-          dot = w .dot;
-        };
-        is = omega arith;
-      }));
-    }
-
-    goal-to : (q : ℕ) → GoalMeets g t q → StateCovers kernels included lookaheads lines 1 q
-    goal-to q m = record {
-      each = λ l low e. record {
-        covered = λ c lc on. go l c low e lc (new-only n is-none a (l * 64 + c) on) (entry-at t (H .entry-count) 1 (omega arith) (omega arith));
-      };
-    }
-      where
-        go : (l c : ℕ) → l < lines → stateAt kernels l ≡ q → c < 1 → GoalAsks kernels entries rules lines (l * 64 + c)
-            → (x : EntryLine) × (entryAt t 1 ≡ some x) → On lookaheads (l * 64 + c)
-        go l c low e lc o (E u γ, ent) =
-            let z : o .line ≡ l = omega (arith, lc, o .is) in
-            let w : IsLine kernels lines (getD entries 1 0) (rules + 1) 0 l = subst (IsLine kernels lines (getD entries 1 0) (rules + 1) 0) z (o .is-line) in
-            let eu : u ≡ q = sym (H .holds-entries .state-is 1 u ent) ∙ (sym (w .state) ∙ e) in
-            let ec : 0 ≡ c = omega (arith, lc) in
-            subst (λ (x : ℕ). On lookaheads (l * 64 + x)) ec
-            (in-covered 0 low (λ σ ker. m .of-goal γ σ (subst (λ (x : ℕ). EntryAt g t 1 x γ) eu ent)
-            (subst (λ (x : ℕ). KernelAt g t x (entryItem g t 1) zero σ) e
-            (subst (λ (x : ℕ). KernelAt g t (stateAt kernels l) x zero σ) (w .item ∙ sym (ap (λ (r : ℕ). r + 1) (H .rule-count)))
-            (subst (λ (x : ℕ). KernelAt g t (stateAt kernels l) (itemAt kernels l) x σ) (w .dot) ker)))))
-
-    pub goal-narrows : {fs fs′ : List ℕ} → Narrows (StateCovers kernels included lookaheads lines 1) fs fs′ → Narrows (GoalMeets g t) fs fs′
-    goal-narrows w = narrows-map goal-from goal-to w
+      pub narrows-all : WellFormed g t → t .states < n → 1 ≤ strings → {fs fs′ : List ℕ} → Narrows (StateCovers kernels included lookaheads lines codes) fs fs′
+          → Narrows (LookaheadsMeet g t (FirstBy codes nul fst)) fs fs′
+      narrows-all W above some-entry w = narrows-map
+          (λ q h. lookaheads-all g t (FirstBy codes nul fst) W above q (below q h) (goal-from b (omega (arith, count)) few q h))
+          (λ q m. covers some-entry q (lookaheads-below g t (FirstBy codes nul fst) n q m) (lookaheads-goal g t (FirstBy codes nul fst) q m)) w

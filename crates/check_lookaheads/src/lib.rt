@@ -3,18 +3,13 @@
 use symbol::CODES;
 use symbol::Symbol;
 ghost use mathlib.Core.Path.{_≡_};
-ghost use mathlib.Core.List.{List};
-ghost use Prim.Native.Nat.{ℕ, _*_, _<_, _≤_};
+ghost use Prim.Native.Nat.{_*_, _<_, _≤_};
 ghost use lib.ListN.{length};
-ghost use Rattle.language.specs.Grammar.{Grammar};
-ghost use Rattle.leftcorner.specs.Table.{Table};
 ghost use Rattle.fixpoint.specs.Flags.{Decides};
-ghost use Rattle.memory.specs.Held.{HoldsTable};
 ghost use Rattle.kernel_lines.specs.Lines.{Lines, Linked};
 ghost use Rattle.analysis.specs.Adds.{Adds};
 ghost use Rattle.check_lookaheads.specs.Narrow.{Narrows};
 ghost use Rattle.check_lookaheads.specs.Memory.{Covers, StateCovers, GoalAsks};
-ghost use Rattle.check_lookaheads.specs.Sources.{GoalMeets};
 
 fn wide(x: u8) -> usize
     ensures { λ r. ⌜ (r ≡ x) × (r < 256) ⌝ }
@@ -98,27 +93,4 @@ pub fn ask_goal(
         0,
         included,
     );
-}
-
-// Flags the state of the goal's entry where it does not have code 0.
-pub fn mark_goal(
-    kernels: &[u8],
-    links: &[usize],
-    lookaheads: &[u8],
-    entries: &[u8],
-    lines: usize,
-    count: usize,
-    rules: usize,
-    strings: usize,
-    narrow: &mut [u8],
-)
-    requires { ⌜ Lines (now kernels) lines count ⌝ }
-    requires { ⌜ Linked (now kernels) (now links) lines ⌝ }
-    requires { ⌜ (rules ≤ 127) × (lines * 64 ≤ length (now lookaheads)) × (2 ≤ length (now entries)) × (length (now narrow) ≡ 256) ⌝ }
-    ensures { λ _. ⌜ length (now (narrow .exit)) ≡ 256 ⌝ }
-    ensures { λ _. ⌜ ((g : Grammar) (t : Table) (items kinds values gotos : List ℕ) → 1 ≤ strings → HoldsTable g t items (now (entries .entry)) (now (kernels .entry)) (now (lookaheads .entry)) kinds values gotos rules strings lines → Narrows (GoalMeets g t) (now (narrow .entry)) (now (narrow .exit))) ⌝ }
-{
-    let mut included = [0u8; 65536];
-    ask_goal(kernels, links, entries, lines, count, rules, &mut included);
-    mark_narrow(kernels, &included, lookaheads, lines, count, 1, narrow);
 }

@@ -1,18 +1,15 @@
 -- The lowest fault, state by state.
 use Prim.Native.Nat.{ℕ, zero, suc, _+_, _≤_, _<_}
 use native.Mathlib.Omega.{arith}
-use native.Mathlib.Decide.{ℕ-discrete, decLt}
+use native.Mathlib.Decide.{decLt}
 use mathlib.Core.Path.{_≡_, refl, subst}
 use mathlib.Core.Logic.{_⊎_, inl, inr}
 use mathlib.Core.Bool.{Bool, true, false}
 use mathlib.Core.List.{List}
-use lib.ListN.{getD}
 use Rattle.language.specs.Grammar.{Grammar}
 use Rattle.leftcorner.specs.Table.{Table}
-use Rattle.leftcorner.specs.Construction.{WellFormed, LookaheadsMeet}
 use Rattle.fixpoint.specs.Flags.{On, Off, Decides}
-use Rattle.check_lookaheads.specs.Narrow.{Narrowing, Narrows}
-use Rattle.check_lookaheads.specs.Sources.{GoalMeets, LookaheadsBelow, lookaheads-all, lookaheads-below, lookaheads-goal}
+use Rattle.check_lookaheads.specs.Narrow.{Narrows}
 use Rattle.check_lookaheads.proofs.BelowLaws.{below-start, below-state}
 use Rattle.check_memory.specs.Faults.{Fault, noted, StateChecked, Found}
 
@@ -57,13 +54,6 @@ noted-none zero true q one e = (refl, refl)
 noted-none zero false q one e = absurd (omega (arith, e, one))
 noted-none (suc at) b q one e = absurd (omega (arith, e))
 
-was-off : {M : ℕ → Type 0} {fs₀ fs : List ℕ} → Narrowing M fs₀ fs → (x : ℕ) → Off fs x → Off fs₀ x
-was-off {fs₀ = fs₀} n x off = go (ℕ-discrete (getD fs₀ x 0) 0)
-  where
-    go : Dec (Off fs₀ x) → Off fs₀ x
-    go (yes e) = e
-    go (no e) = absurd (n .kept x (record { nonzero = e }) .nonzero off)
-
 module _ (g : Grammar) (t : Table) (F : List ℕ → ℕ → ℕ → Type 0) (kernels : List ℕ) (lines codes : ℕ) where
   pub found-start : {included : List ℕ} → ((y : ℕ) → Off included y) → Found g t F kernels lines codes 1 0 0 0 included
   found-start z = record {
@@ -82,24 +72,15 @@ module _ (g : Grammar) (t : Table) (F : List ℕ → ℕ → ℕ → Type 0) (ke
     asked = below-state g t F kernels lines codes one (f .asked) (s .adds);
   }
 
-module _ (g : Grammar) (t : Table) (F : List ℕ → ℕ → ℕ → Type 0) where
-  -- the flags tell where lookaheads are too few
-  pub record Flags (narrow : List ℕ) : Type 0 where
-    pub on : (q : ℕ) → On narrow q → LookaheadsMeet g t F q → ⊥
-    pub off : (q : ℕ) → Off narrow q → LookaheadsMeet g t F q
-
-  -- those of what the states ask, and the goal's
-  pub flags-all : WellFormed g t → {n : ℕ} {none narrow₀ narrow : List ℕ} → t .states < n → ((q : ℕ) → Off none q) → Narrows (LookaheadsBelow g t F n) none narrow₀
-      → Narrows (GoalMeets g t) narrow₀ narrow → Flags narrow
-  flags-all W {n} {none} {narrow₀} above z b s = record {
-    on = λ q on m. by-goal q m (s .narrowing .only q on);
-    off = λ q off. lookaheads-all g t F W above q (b .rest q (was-off (s .narrowing) q off)) (s .rest q off);
-  }
-    where
-      by-states : (q : ℕ) → LookaheadsMeet g t F q → On none q ⊎ (LookaheadsBelow g t F n q → ⊥) → ⊥
-      by-states q m (inl on) = on .nonzero (z q)
-      by-states q m (inr h) = h (lookaheads-below g t F n q m)
-
-      by-goal : (q : ℕ) → LookaheadsMeet g t F q → On narrow₀ q ⊎ (GoalMeets g t q → ⊥) → ⊥
-      by-goal q m (inl on) = by-states q m (b .narrowing .only q on)
-      by-goal q m (inr h) = h (lookaheads-goal g t F q m)
+-- flags set by what is not met, and by nothing else
+pub narrow-fault : {Φ : ℕ → Type 0} {none narrow : List ℕ} {n at : ℕ} → ((q : ℕ) → Off none q) → Narrows Φ none narrow → Fault (Off narrow) n at → Fault Φ n at
+narrow-fault {Φ} {none} {narrow} {at = at} z w f = record {
+  low = f .low;
+  none = λ e k a l. w .rest k (f .none e k a l);
+  before = λ k a l. w .rest k (f .before k a l);
+  fails = λ a m. go m (w .narrowing .only at (record { nonzero = f .fails a }));
+}
+  where
+    go : Φ at → On none at ⊎ (Φ at → ⊥) → ⊥
+    go m (inl on) = on .nonzero (z at)
+    go m (inr h) = h m

@@ -12,16 +12,16 @@ use Rattle.items.specs.Layout.{Shaped, Holds}
 use Rattle.fixpoint.specs.Flags.{Off}
 use Rattle.analysis.specs.InMemory.{SetsOf}
 use Rattle.analysis.specs.FirstBy.{FirstBy}
+use Rattle.analysis.specs.Adds.{Adds}
 use Rattle.check_lookaheads.specs.Narrow.{Narrows}
-use Rattle.check_lookaheads.specs.Memory.{StateCovers}
-use Rattle.check_lookaheads.specs.Sources.{GoalMeets}
-use Rattle.check_lookaheads.proofs.MeetLaws.{narrows-below}
+use Rattle.check_lookaheads.specs.Memory.{StateCovers, GoalAsks}
+use Rattle.check_lookaheads.proofs.MeetLaws.{narrows-all}
 use Rattle.check_entries.proofs.ListLaws.{zeros-of}
 use Rattle.memory.specs.Held.{HoldsTable}
 use Rattle.check_memory.specs.Accepts.{tableVerdict}
 use Rattle.check_memory.specs.Faults.{Fault, noted, answerOf, StateChecked, Found}
 use Rattle.check_memory.specs.Given.{Given}
-use Rattle.check_memory.proofs.FaultLaws.{found-more, Flags, flags-all}
+use Rattle.check_memory.proofs.FaultLaws.{found-more, narrow-fault}
 use Rattle.check_memory.proofs.VerdictLaws.{found-verdict}
 
 pub low-state : {q n : ℕ} → q ≤ n → n ≤ 255 → q < 256
@@ -37,15 +37,6 @@ module _ (g : Grammar) (t : Table) (F : List ℕ → ℕ → ℕ → Type 0) {ke
 
   pub found-end : {q n x y z : ℕ} {included : List ℕ} → q ≤ n + 1 → n < q → Found g t F kernels lines codes q x y z included → Found g t F kernels lines codes (n + 1) x y z included
   found-end {q} {n} {x} {y} {z} {included} a b f = subst (λ (m : ℕ). Found g t F kernels lines codes m x y z included) (let e : q ≡ n + 1 = omega (arith, a, b) in e) f
-
--- the lowest flag is the lowest state whose lookaheads are too few
-pub narrow-fault : (g : Grammar) (t : Table) (F : List ℕ → ℕ → ℕ → Type 0) {narrow : List ℕ} {n at : ℕ} → Flags g t F narrow → Fault (Off narrow) n at → Fault (LookaheadsMeet g t F) n at
-narrow-fault g t F {narrow} {n} {at} w f = record {
-  low = f .low;
-  none = λ e k a l. w .off k (f .none e k a l);
-  before = λ k a l. w .off k (f .before k a l);
-  fails = λ a m. w .on at (record { nonzero = f .fails a }) m;
-}
 
 -- room for the flags of all lines
 pub lines-room : {lines n : ℕ} → lines ≤ 1023 → n ≡ 65536 → lines * 64 ≤ n
@@ -73,17 +64,17 @@ holds-of H = record { count = H .rule-count; rule-in = H .holds-items .rule-row 
 pub terminals-are : {n m : ℕ} → n ≡ suc m → m ≡ n - 1
 terminals-are e = omega (arith, e)
 
--- the reply to what the pass found
-pub pass-verdict : (g : Grammar) (t : Table) {items entries kernels lookaheads kinds values gotos named nul fst included none narrow₀ narrow : List ℕ} {rules strings lines states codes : ℕ}
-    → Given g t items entries kernels lookaheads kinds values gotos named rules strings lines states codes → EntriesMeet g t → SetsOf g nul fst
-    → (a b c d : ℕ) → Found g t (FirstBy codes nul fst) kernels lines codes (states + 1) a c d included → (n : ℕ) → none ≡ replicate n 0
-    → Narrows (StateCovers kernels included lookaheads lines codes) none narrow₀ → Narrows (GoalMeets g t) narrow₀ narrow → Fault (Off narrow) (states + 1) b
+-- the reply to what the pass found, and to what the goal asks besides
+pub pass-verdict : (g : Grammar) (t : Table) {items entries kernels lookaheads kinds values gotos named nul fst included₀ included none narrow : List ℕ} {rules strings lines states codes : ℕ}
+    → Given g t items entries kernels lookaheads kinds values gotos named rules strings lines states codes → 1 ≤ strings → EntriesMeet g t → SetsOf g nul fst
+    → (a b c d : ℕ) → Found g t (FirstBy codes nul fst) kernels lines codes (states + 1) a c d included₀ → Adds (GoalAsks kernels entries rules lines) included₀ included
+    → (n : ℕ) → none ≡ replicate n 0 → Narrows (StateCovers kernels included lookaheads lines codes) none narrow → Fault (Off narrow) (states + 1) b
     → answerOf a b c d ≡ tableVerdict g t
-pass-verdict g t {kernels = kernels} {nul = nul} {fst = fst} {included = included} {lines = lines} {states = states} {codes = codes} G E S a b c d f n z w m l =
+pass-verdict g t {kernels = kernels} {nul = nul} {fst = fst} {included₀ = included₀} {lines = lines} {states = states} {codes = codes} G some-entry E S a b c d f asks n z w l =
     let H = G .held in
     let F : List ℕ → ℕ → ℕ → Type 0 = FirstBy codes nul fst in
     let e : states + 1 ≡ suc (t .states) = omega (arith, G .state-count) in
-    let flags = flags-all g t F (H .fits .form) (omega (arith, G .state-count)) (zeros-of n z) (narrows-below g t H nul fst (G .code-count) (f .asked) w) m in
+    let narrows = narrows-all g t H nul fst (G .code-count) (f .asked) asks (H .fits .form) (omega (arith, G .state-count)) some-entry w in
     found-verdict g t (H .formed) (H .fits .form) E (G .code-count) S a b c d
-    (subst (λ (k : ℕ). Found g t F kernels lines codes k a c d included) e f)
-    (subst (λ (k : ℕ). Fault (LookaheadsMeet g t F) k b) e (narrow-fault g t F flags l))
+    (subst (λ (k : ℕ). Found g t F kernels lines codes k a c d included₀) e f)
+    (subst (λ (k : ℕ). Fault (LookaheadsMeet g t F) k b) e (narrow-fault (zeros-of n z) narrows l))

@@ -6,13 +6,12 @@ use reply::Reply;
 use symbol::CODES;
 use symbol::SYMBOLS;
 ghost use mathlib.Core.Path.{_≡_};
-ghost use mathlib.Core.List.{List};
-ghost use Prim.Native.Nat.{ℕ, suc, _+_, _<_, _≤_};
+ghost use Prim.Native.Nat.{ℕ, _+_, _<_, _≤_};
 ghost use lib.ListN.{length, replicate};
 ghost use Rattle.language.specs.Grammar.{Grammar};
 ghost use Rattle.leftcorner.specs.Table.{Table};
 ghost use Rattle.leftcorner.specs.Construction.{EntriesMeet};
-ghost use Rattle.fixpoint.specs.Flags.{On, Off};
+ghost use Rattle.fixpoint.specs.Flags.{Off};
 ghost use Rattle.analysis.specs.FirstBy.{FirstBy};
 ghost use Rattle.check_entries.specs.Uses.{HoldsUses};
 ghost use Rattle.check_memory.specs.Accepts.{tableVerdict};
@@ -316,6 +315,15 @@ fn check_entered(
         totals,
         &mut asked,
     );
+    check_lookaheads::ask_goal(
+        kernels,
+        &links,
+        entries,
+        totals.lines,
+        totals.items,
+        totals.rules,
+        &mut asked,
+    );
     check_lookaheads::mark_narrow(
         kernels,
         &asked,
@@ -323,17 +331,6 @@ fn check_entered(
         totals.lines,
         totals.items,
         totals.codes,
-        &mut narrow,
-    );
-    check_lookaheads::mark_goal(
-        kernels,
-        &links,
-        lookaheads,
-        entries,
-        totals.lines,
-        totals.items,
-        totals.rules,
-        totals.entries,
         &mut narrow,
     );
     let low = lowest_set(&narrow, totals.states);

@@ -115,7 +115,7 @@ module _ (g : Grammar) (t : Table) {items entries kernels lookaheads kinds value
   -- the goal's entry asks it
   module _ (some-entry : 1 ≤ strings) {none asked : List ℕ} (n : ℕ) (is-none : none ≡ replicate n 0) (A : Adds (GoalAsks kernels entries rules lines) none asked) where
     pub goal-missing : {F : List ℕ → ℕ → ℕ → Type 0} {q : ℕ} (r : MissingCode) → MissingIn kernels lookaheads asked lines 1 q 0 r → MissingIs g t F (GoalMeets g t q) q r
-    goal-missing {F} {q} r h = missing-is r h asks (goal-from g t H some-entry n is-none A q)
+    goal-missing {F} {q} r h = missing-is r h asks (goal-from g t H A (omega arith) (omega arith) q)
       where
         go : (l c : ℕ) → MissingLine kernels lookaheads lines 1 q l c → GoalAsks kernels entries rules lines (l * 64 + c) → (x : EntryLine) × (entryAt t 1 ≡ some x)
             → AskedFrom g t F 0 q (itemAt kernels l) (dotAt kernels l) c

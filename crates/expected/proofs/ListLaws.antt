@@ -6,7 +6,7 @@ use mathlib.Core.Path.{_≡_, refl, sym, ap, subst, _∙_}
 use mathlib.Core.Bool.{Bool, true, false, cond}
 use mathlib.Core.List.{List, [], _∷_, _++_}
 use borrow.Author.Tests.{lt-ltb, le-ltb}
-use lib.Dec.{ltb, eqb}
+use lib.Dec.{eqb}
 use lib.ListN.{length, getD, take, drop, set, replicate, take-append-drop}
 use lib.Seq.{take-suc, take-suc-set}
 use Rattle.language.specs.Grammar.{Grammar}
@@ -21,6 +21,7 @@ use Rattle.grammar.specs.Book.{onFound}
 use Rattle.reply.specs.Reply.{kindNumber, placeOf}
 use Rattle.reply.specs.declared.Kind.the-variants.{LimitExceeded, Undeclared}
 use Rattle.reply.specs.declared.Refusal.{Refusal}
+use Rattle.reply.specs.declared.Reply.{Reply}
 use Rattle.table.specs.Book.{Reading, whole, rejected}
 use Rattle.checker.specs.Checked.{checkedOf}
 use Rattle.stray_tokens.specs.Stray.{strayFrom}
@@ -45,6 +46,7 @@ use Rattle.expected_trials.specs.declared.ExpectedReply.the-variants.{Refused}
 use Rattle.expected_trials.specs.Trials.{Expected, noted, tried, refusedBy, answeredAt, ListTold}
 use Rattle.expected_trials.proofs.CodeLaws.{trials}
 use Rattle.expected.specs.Expected.{EndsAt, onReply, listFor, expected, Driven, Tells}
+use Rattle.expected.specs.Read.{overTable, afterRead}
 use Rattle.expected.proofs.PlaceLaws.{on-ends, on-others}
 
 -- one token more is copied
@@ -182,6 +184,18 @@ others-told n k room {x} {why} list T e other zeros =
       listing-is = T .listing-is ∙ ap (λ (y : Session). y .listing) e;
     })
 
+-- ---- tokens that are refused, or read
+module _ (g : Grammar) (t : Table) (n k room : ℕ) {v : Reply} (w : List ℕ) {a : ExpectedReply} {stack listing codes : List ℕ} where
+  pub read-refused : {why : Refusal} → v ≡ Reply.Refused why → Tells n k (refusedBy room why) a stack listing codes → Tells n k (overTable n k room g t v w) a stack listing codes
+  read-refused e T = tells-as refl refl (ap (λ (x : Reply). overTable n k room g t x w) e) T
+
+  -- with the list slice of the length that it has kept
+  pub read-listed : {m i : ℕ} → v ≡ Reply.Accepted m → i ≡ room
+      → Tells n k (onReply i (tableSession n k g t (take m w) .reply) (listFor i n k (whole g t) (take m w))) a stack listing codes → Tells n k (overTable n k room g t v w) a stack listing codes
+  read-listed {m} e rs T =
+      tells-as refl refl
+      (ap (λ (x : Reply). overTable n k room g t x w) e ∙ ap (λ (l : ℕ). onReply l (tableSession n k g t (take m w) .reply) (listFor l n k (whole g t) (take m w))) (sym rs)) T
+
 -- ---- the books
 cond-both : {A : Type 0} (b : Bool) (x : A) → cond b x x ≡ x
 cond-both true x = refl
@@ -195,26 +209,27 @@ module _ (kinds values gotos rows : List ℕ) {r : MachineReply} where
       (g, t, subst (λ (z : Machine). Drives g t kinds values gotos rows z) q (i .2))
   driven (rejected y) i e = clash cc
 
-  module _ (n k room : ℕ) (w : List ℕ) {a : ExpectedReply} {stack listing codes : List ℕ} where
+  module _ (n k room : ℕ) (v : Reply) (w : List ℕ) {a : ExpectedReply} {stack listing codes : List ℕ} where
     pub books-refused : (x : Reading) {why : Refusal} → MachineIs x r kinds values gotos rows → r ≡ reply.Refused why → Tells n k (refusedBy room why) a stack listing codes
-        → Tells n k (onReply room (afterBooks n k x w .reply) (listFor room n k x w)) a stack listing codes
-    unfolding listFor
+        → Tells n k (afterRead n k room x v w) a stack listing codes
     books-refused (whole g t) i e T = let f = i .1 in clash cc
-    books-refused (rejected y) {why} i e T =
-        let q : why ≡ y = cc in
-        tells-as refl refl (cond-both (eqb (kindNumber (y .kind)) 12) (refusedBy room y) ∙ ap (refusedBy room) (sym q)) T
+    books-refused (rejected y) {why} i e T = tells-as refl refl (let q : why ≡ y = cc in ap (refusedBy room) (sym q)) T
 
-    -- with the list slice of the length that it has kept
-    pub books-listed : (x : Reading) {m : Machine} {i : ℕ} → i ≡ room → MachineIs x r kinds values gotos rows → r ≡ reply.Ready m
-        → ((g : Grammar) (t : Table) → Drives g t kinds values gotos rows m
-        → Tells n k (onReply i (tableSession n k g t w .reply) (listFor i n k (whole g t) w)) a stack listing codes)
-        → Tells n k (onReply room (afterBooks n k x w .reply) (listFor room n k x w)) a stack listing codes
-    books-listed (whole g t) {m} rs i e T =
+    pub books-listed : (x : Reading) {m : Machine} → MachineIs x r kinds values gotos rows → r ≡ reply.Ready m
+        → ((g : Grammar) (t : Table) → Drives g t kinds values gotos rows m → Tells n k (overTable n k room g t v w) a stack listing codes)
+        → Tells n k (afterRead n k room x v w) a stack listing codes
+    books-listed (whole g t) {m} i e T =
         let f = i .1 in
         let q : i .0 ≡ m = cc in
-        subst (λ (l : ℕ). Tells n k (onReply l (tableSession n k g t w .reply) (listFor l n k (whole g t) w)) a stack listing codes) rs
-        (T g t (subst (λ (z : Machine). Drives g t kinds values gotos rows z) q (i .2)))
-    books-listed (rejected y) rs i e T = clash cc
+        T g t (subst (λ (z : Machine). Drives g t kinds values gotos rows z) q (i .2))
+    books-listed (rejected y) i e T = clash cc
+
+-- the first tokens of a slice
+pub books-read : (n k room : ℕ) (x : Reading) (m : ℕ) (w : List ℕ) {l : List ℕ} {a : ExpectedReply} {stack listing codes : List ℕ} → take m w ≡ l
+    → Tells n k (afterRead n k room x (Reply.Accepted m) w) a stack listing codes → Tells n k (onReply room (afterBooks n k x l .reply) (listFor room n k x l)) a stack listing codes
+unfolding listFor
+books-read n k room (whole g t) m w e T = tells-as refl refl (ap (λ (v : List ℕ). onReply room (tableSession n k g t v .reply) (listFor room n k (whole g t) v)) (sym e)) T
+books-read n k room (rejected why) m w e T = tells-as refl refl (cond-both (eqb (kindNumber (why .kind)) 12) (refusedBy room why)) T
 
 -- ---- the number of tokens comes first
 module _ (gs s w : List ℕ) (n k room : ℕ) where

@@ -1,5 +1,5 @@
 // What could have come: the codes that would have fitted where a session ends.
-// The door is `list_expected`; `as_reply` and `code_count` are for whoever calls it, `refuse` is inner.
+// The door is `list_expected`; `as_reply` and `code_count` are for whoever calls it, `refuse` and `list_books` are inner.
 use expected_trials::ExpectedReply;
 use machine::Machine;
 use machine::MachineReply;
@@ -19,10 +19,12 @@ ghost use Rattle.walk_tables.specs.Memory.{Shaped};
 ghost use Rattle.walker.specs.Walked.{memoryWalk};
 ghost use Rattle.machine.specs.Machine.{Drives};
 ghost use Rattle.table.specs.Book.{whole};
-ghost use Rattle.session.specs.Session.{tableSession, afterBooks};
+ghost use Rattle.session.specs.Session.{tableSession};
+ghost use Rattle.session.specs.Read.{ReadIn};
 ghost use Rattle.expected_trial.specs.Trial.{asTokens, trialOf};
-ghost use Rattle.expected_trials.specs.Trials.{tried, refusedBy, answeredAt, ListTold};
+ghost use Rattle.expected_trials.specs.Trials.{tried, refusedBy, answeredAt};
 ghost use Rattle.expected.specs.Expected.{onReply, listFor, expected, asReply, codeCount, Driven, Tells};
+ghost use Rattle.expected.specs.Read.{overTable, afterRead};
 
 // The answer without its count.
 pub fn as_reply(answer: ExpectedReply) -> Reply
@@ -56,7 +58,7 @@ fn copy_front(tokens: &[u8], count: usize, out: &mut [u8])
     }
 }
 
-// Lists the codes that could come after the first tokens.
+// Lists the codes that could come after the first tokens. `trial` is lent for the tokens that are tried, and left free.
 fn list_at(
     kinds: &[u8],
     values: &[u8],
@@ -65,23 +67,23 @@ fn list_at(
     machine: Machine,
     tokens: &[u8],
     place: usize,
+    trial: &mut [u8],
     stack: &mut [u8],
     listing: &mut [u8],
     codes: &mut [u8],
 ) -> ExpectedReply
     requires { ⌜ Shaped (now kinds) (now values) (now gotos) (now rows) ⌝ }
-    requires { ⌜ (place ≤ length (now tokens)) × (place < 65536) × (machine .terminals ≤ 63) × (now codes ≡ replicate (length (now codes)) 0) ⌝ }
+    requires { ⌜ (place ≤ length (now tokens)) × (place < length (now trial)) × (machine .terminals ≤ 63) × (now codes ≡ replicate (length (now codes)) 0) ⌝ }
     ensures { λ r. ⌜ Tells (length (now (stack .entry))) (length (now (listing .entry))) (answeredAt (length (now (codes .entry))) place (tried (λ c. trialOf place (memoryWalk (now (kinds .entry)) (now (values .entry)) (now (gotos .entry)) (now (rows .entry)) (machine .start) (length (now (stack .entry))) (length (now (listing .entry))) (take place (now (tokens .entry)) ++ asTokens c))) (suc (machine .terminals)) 0)) r (now (stack .exit)) (now (listing .exit)) (now (codes .exit)) ⌝ }
 {
-    let mut trial = [0u8; 65536];
-    copy_front(tokens, place, &mut trial);
+    copy_front(tokens, place, trial);
     let answer = expected_trials::try_codes(
         kinds,
         values,
         gotos,
         rows,
         machine,
-        &mut trial,
+        trial,
         place,
         stack,
         listing,
@@ -99,13 +101,14 @@ fn list_machine(
     rows: &[u8],
     machine: Machine,
     tokens: &[u8],
+    trial: &mut [u8],
     stack: &mut [u8],
     listing: &mut [u8],
     codes: &mut [u8],
 ) -> ExpectedReply
     requires { ⌜ Shaped (now kinds) (now values) (now gotos) (now rows) ⌝ }
     requires { ⌜ Driven (now kinds) (now values) (now gotos) (now rows) machine ⌝ }
-    requires { ⌜ (length (now tokens) ≤ 65535) × (now codes ≡ replicate (length (now codes)) 0) ⌝ }
+    requires { ⌜ (length (now tokens) < length (now trial)) × (now codes ≡ replicate (length (now codes)) 0) ⌝ }
     ensures { λ r. ⌜ ((g : Grammar) (t : Table) → Drives g t (now (kinds .entry)) (now (values .entry)) (now (gotos .entry)) (now (rows .entry)) machine
         → Tells (length (now (stack .entry))) (length (now (listing .entry))) (onReply (length (now (codes .entry))) (tableSession (length (now (stack .entry))) (length (now (listing .entry))) g t (now (tokens .entry)) .reply) (listFor (length (now (codes .entry))) (length (now (stack .entry))) (length (now (listing .entry))) (whole g t) (now (tokens .entry)))) r (now (stack .exit)) (now (listing .exit)) (now (codes .exit))) ⌝ }
 {
@@ -121,6 +124,7 @@ fn list_machine(
                 machine,
                 tokens,
                 place,
+                trial,
                 stack,
                 listing,
                 codes,
@@ -140,6 +144,7 @@ fn list_machine(
                 machine,
                 tokens,
                 place,
+                trial,
                 stack,
                 listing,
                 codes,
@@ -157,22 +162,67 @@ pub fn refuse(why: Refusal, stack: &mut [u8], listing: &mut [u8], codes: &mut [u
     ExpectedReply::Refused(why)
 }
 
-// Reads and checks both books, and lists what could have come where they are accepted.
-fn list_books(
+// By what reading the tokens came to: walks so many of them over a machine in memory, and lists what could have come; or refuses.
+fn list_read(
+    kinds: &[u8],
+    values: &[u8],
+    gotos: &[u8],
+    rows: &[u8],
+    machine: Machine,
+    read: Reply,
+    tokens: &[u8],
+    trial: &mut [u8],
+    stack: &mut [u8],
+    listing: &mut [u8],
+    codes: &mut [u8],
+) -> ExpectedReply
+    requires { ⌜ Shaped (now kinds) (now values) (now gotos) (now rows) ⌝ }
+    requires { ⌜ Driven (now kinds) (now values) (now gotos) (now rows) machine ⌝ }
+    requires { ⌜ ReadIn read (now tokens) ⌝ }
+    requires { ⌜ length (now tokens) < length (now trial) ⌝ }
+    ensures { λ r. ⌜ ((g : Grammar) (t : Table) → Drives g t (now (kinds .entry)) (now (values .entry)) (now (gotos .entry)) (now (rows .entry)) machine
+        → Tells (length (now (stack .entry))) (length (now (listing .entry))) (overTable (length (now (stack .entry))) (length (now (listing .entry))) (length (now (codes .entry))) g t read (now (tokens .entry))) r (now (stack .exit)) (now (listing .exit)) (now (codes .exit))) ⌝ }
+{
+    match read {
+        Reply::Refused(why) => refuse(why, stack, listing, codes),
+        Reply::Accepted(count) => {
+            clear(codes);
+            list_machine(
+                kinds,
+                values,
+                gotos,
+                rows,
+                machine,
+                &tokens[..count],
+                trial,
+                stack,
+                listing,
+                codes,
+            )
+        }
+    }
+}
+
+// Reads and checks both books. Where they are accepted, lists what could have come over so many tokens as `read` tells, or refuses as
+// it does. The trials work where the loading has worked.
+pub fn list_books(
     grammar: &[u8],
     tables: &[u8],
+    read: Reply,
     tokens: &[u8],
     stack: &mut [u8],
     listing: &mut [u8],
     codes: &mut [u8],
 ) -> ExpectedReply
+    requires { ⌜ ReadIn read (now tokens) ⌝ }
     requires { ⌜ length (now tokens) ≤ 65535 ⌝ }
-    ensures { λ r. ⌜ Tells (length (now (stack .entry))) (length (now (listing .entry))) (onReply (length (now (codes .entry))) (afterBooks (length (now (stack .entry))) (length (now (listing .entry))) (checkedOf (now (grammar .entry)) (now (tables .entry))) (now (tokens .entry)) .reply) (listFor (length (now (codes .entry))) (length (now (stack .entry))) (length (now (listing .entry))) (checkedOf (now (grammar .entry)) (now (tables .entry))) (now (tokens .entry)))) r (now (stack .exit)) (now (listing .exit)) (now (codes .exit)) ⌝ }
+    ensures { λ r. ⌜ Tells (length (now (stack .entry))) (length (now (listing .entry))) (afterRead (length (now (stack .entry))) (length (now (listing .entry))) (length (now (codes .entry))) (checkedOf (now (grammar .entry)) (now (tables .entry))) read (now (tokens .entry))) r (now (stack .exit)) (now (listing .exit)) (now (codes .exit)) ⌝ }
 {
     let mut kinds = [0u8; machine::CELLS];
     let mut values = [0u8; machine::CELLS];
     let mut gotos = [0u8; machine::CELLS];
     let mut rows = [0u8; machine::ROWS];
+    let mut work = [0u8; machine::WORK];
     let loaded = machine::load_machine(
         grammar,
         tables,
@@ -180,23 +230,23 @@ fn list_books(
         &mut values,
         &mut gotos,
         &mut rows,
+        &mut work,
     );
     match loaded {
         MachineReply::Refused(why) => refuse(why, stack, listing, codes),
-        MachineReply::Ready(machine) => {
-            clear(codes);
-            list_machine(
-                &kinds,
-                &values,
-                &gotos,
-                &rows,
-                machine,
-                tokens,
-                stack,
-                listing,
-                codes,
-            )
-        }
+        MachineReply::Ready(machine) => list_read(
+            &kinds,
+            &values,
+            &gotos,
+            &rows,
+            machine,
+            read,
+            tokens,
+            &mut work,
+            stack,
+            listing,
+            codes,
+        ),
     }
 }
 
@@ -228,5 +278,13 @@ pub fn list_expected(
             codes,
         );
     }
-    list_books(grammar, tables, tokens, stack, listing, codes)
+    list_books(
+        grammar,
+        tables,
+        Reply::Accepted(tokens.len()),
+        tokens,
+        stack,
+        listing,
+        codes,
+    )
 }

@@ -3,7 +3,6 @@
 use expected_trials::ExpectedReply;
 use reply::Kind;
 use reply::Refusal;
-use reply::Reply;
 use scans::TOKENS;
 ghost use mathlib.Core.Path.{_≡_};
 ghost use Prim.Native.Nat.{_≤_};
@@ -12,7 +11,7 @@ ghost use Rattle.scans.specs.File.{scanned, house};
 ghost use Rattle.expected.specs.Expected.{Tells};
 ghost use Rattle.expected_scans.specs.ExpectedScans.{afterScans, expectedScans};
 
-// Reads a scan file that is not too long, and lists what could have come where its tokens end.
+// Reads a scan file that is not too long. Its tokens, or its refusal, come after the books.
 fn list_scans(
     grammar: &[u8],
     tables: &[u8],
@@ -26,15 +25,7 @@ fn list_scans(
 {
     let mut tokens = [0u8; TOKENS];
     let read = scans::read_scans(file, &mut tokens);
-    match read {
-        Reply::Accepted(n) => {
-            expected::list_expected(grammar, tables, &tokens[..n], stack, listing, codes)
-        }
-        Reply::Refused(why) => {
-            let first = scan_session::first_refusal(grammar, tables, why);
-            expected::refuse(first, stack, listing, codes)
-        }
-    }
+    expected::list_books(grammar, tables, read, &tokens, stack, listing, codes)
 }
 
 // What could have come after the scans of a file with the house letters, as `expected::list_expected` tells it of their tokens.

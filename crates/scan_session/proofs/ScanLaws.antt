@@ -1,4 +1,4 @@
--- What reading a scan file and checking both books tell of the session over them.
+-- What reading a scan file tells of the session over it.
 use Prim.Native.Nat.{ℕ, _-_, _≤_, _<_}
 use native.Mathlib.Omega.{arith}
 use mathlib.Core.Path.{_≡_, refl, sym, ap, subst, _∙_}
@@ -15,30 +15,12 @@ use Rattle.scans.specs.File.{Scanned, tokens, refused, house, scanned, outcomeO
 use Rattle.scans.proofs.Promise.{tokens-few}
 use Rattle.scans.proofs.TokenLaws.{scans-listed}
 use Rattle.table.specs.Book.{Reading, whole, rejected}
-use Rattle.table.specs.Memory.{replyOf, asReply}
-use Rattle.checker.specs.Checked.{checkedOf, verdictOf}
+use Rattle.checker.specs.Checked.{checkedOf}
 use Rattle.walker.specs.declared.Walked.{Walked}
 use Rattle.session.specs.Session.{refusedBy, refusedAt, session, Tells}
-use Rattle.session.proofs.BookLaws.{too-long, not-long}
+use Rattle.session.specs.Read.{ReadIn, afterRead}
+use Rattle.session.proofs.BookLaws.{too-long, not-long, not-many, books-read}
 use Rattle.scan_session.specs.ScanSession.{firstRefusal, afterScans, scanSession}
-
--- ---- a refusal of the scan file, by the verdict on the books
-module _ (gs s : List ℕ) (why : Refusal) {r : Reply} (v : r ≡ verdictOf gs s) where
-  pub books-accepted : {m : ℕ} → r ≡ reply.Accepted m → why ≡ firstRefusal (checkedOf gs s) why
-  unfolding verdictOf
-  books-accepted {m} e = go (checkedOf gs s) (sym e ∙ v)
-    where
-      go : (x : Reading) → reply.Accepted m ≡ asReply (replyOf x) → why ≡ firstRefusal x why
-      go (whole g t) q = refl
-      go (rejected y) q = clash cc
-
-  pub books-refused : {first : Refusal} → r ≡ reply.Refused first → first ≡ firstRefusal (checkedOf gs s) why
-  unfolding verdictOf
-  books-refused {first} e = go (checkedOf gs s) (sym e ∙ v)
-    where
-      go : (x : Reading) → reply.Refused first ≡ asReply (replyOf x) → first ≡ firstRefusal x why
-      go (whole g t) q = clash cc
-      go (rejected y) q = cc
 
 -- ---- a scan file that is read, or refused: a slice of 10,922 tokens has room for every file
 module _ (file : List ℕ) {r : Reply} (read : r ≡ scansOf file 10922 .reply) where
@@ -58,14 +40,26 @@ module _ (file : List ℕ) {r : Reply} (read : r ≡ scansOf file 10922 .reply) 
       let front : take m held ≡ L .list = ap (take m) (h ∙ L .held) ∙ take-at (L .list) (replicate (10922 - m) 0) m (L .counted) in
       L .read ∙ ap tokens (sym front)
 
--- ---- the session over it
-module _ (n k : ℕ) (gs s : List ℕ) {x : Scanned} {a : Walked} {stack listing : List ℕ} where
-  pub session-over : {y : Scanned} → x ≡ y → Tells (afterScans n k gs s y) a stack listing → Tells (afterScans n k gs s x) a stack listing
-  session-over e T = subst (λ (z : Scanned). Tells (afterScans n k gs s z) a stack listing) (sym e) T
+-- its tokens stand in the slice
+pub scans-in : (file held : List ℕ) (r : Reply) → r ≡ scansOf file 10922 .reply → length held ≡ 10922 → ReadIn r held
+scans-in file held (Reply.Accepted m) e h = omega (arith, scans-listed file 10922 m (sym e) .fits, h)
+scans-in file held (Reply.Refused why) e h = tt
 
-  pub refused-over : {why first : Refusal} → x ≡ refused why → first ≡ firstRefusal (checkedOf gs s) why → Tells (refusedBy n k first) a stack listing
-      → Tells (afterScans n k gs s x) a stack listing
-  refused-over e f T = session-over e (subst (λ (z : Refusal). Tells (refusedBy n k z) a stack listing) f T)
+-- ---- the session over it: the books, then what reading it came to
+module _ (n k : ℕ) (gs s : List ℕ) (held : List ℕ) {a : Walked} {stack listing : List ℕ} where
+  refused-over : (x : Reading) (why : Refusal) → Tells (afterRead n k x (Reply.Refused why) held) a stack listing → Tells (refusedBy n k (firstRefusal x why)) a stack listing
+  refused-over (whole g t) why T = T
+  refused-over (rejected first) why T = T
+
+  over : {x y : Scanned} → x ≡ y → Tells (afterScans n k gs s y) a stack listing → Tells (afterScans n k gs s x) a stack listing
+  over e T = subst (λ (z : Scanned). Tells (afterScans n k gs s z) a stack listing) (sym e) T
+
+  pub session-over : (file : List ℕ) (r : Reply) → r ≡ scansOf file 10922 .reply → held ≡ scansOf file 10922 .tokens → length file ≤ 65536
+      → Tells (afterRead n k (checkedOf gs s) r held) a stack listing → Tells (afterScans n k gs s (scanned house file)) a stack listing
+  session-over file (Reply.Accepted m) e h few T =
+      let q = scans-read file e held refl h in
+      over q (not-many gs s (take m held) n k (omega (arith, tokens-few house file (take m held) q, few)) (books-read n k (checkedOf gs s) m held refl T))
+  session-over file (Reply.Refused why) e h few T = over (scans-refused file e few refl) (refused-over (checkedOf gs s) why T)
 
 -- ---- its length comes first
 module _ (gs s file : List ℕ) (n k : ℕ) {a : Walked} {stack listing : List ℕ} where

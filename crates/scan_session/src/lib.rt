@@ -1,30 +1,17 @@
 // A session over a scan file.
-// The door is `run_scans`; `first_refusal` is inner.
+// The door is `run_scans`.
 use reply::Kind;
 use reply::Refusal;
-use reply::Reply;
 use scans::TOKENS;
 use session::SessionReply;
 ghost use mathlib.Core.Path.{_≡_};
 ghost use Prim.Native.Nat.{_≤_};
 ghost use lib.ListN.{length};
 ghost use Rattle.scans.specs.File.{scanned, house};
-ghost use Rattle.checker.specs.Checked.{checkedOf};
 ghost use Rattle.session.specs.Session.{Tells};
-ghost use Rattle.scan_session.specs.ScanSession.{firstRefusal, afterScans, scanSession};
+ghost use Rattle.scan_session.specs.ScanSession.{afterScans, scanSession};
 
-// The refusal of a scan file, where both books are accepted; else theirs.
-pub fn first_refusal(grammar: &[u8], tables: &[u8], why: Refusal) -> Refusal
-    ensures { λ r. ⌜ r ≡ firstRefusal (checkedOf (now (grammar .entry)) (now (tables .entry))) why ⌝ }
-{
-    let verdict = checker::check_tables(grammar, tables);
-    match verdict {
-        Reply::Accepted(_) => why,
-        Reply::Refused(first) => first,
-    }
-}
-
-// Reads a scan file that is not too long, and walks its tokens.
+// Reads a scan file that is not too long. Its tokens, or its refusal, come after the books.
 fn walk_scans(
     grammar: &[u8],
     tables: &[u8],
@@ -37,13 +24,7 @@ fn walk_scans(
 {
     let mut tokens = [0u8; TOKENS];
     let read = scans::read_scans(file, &mut tokens);
-    match read {
-        Reply::Accepted(n) => session::run_session(grammar, tables, &tokens[..n], stack, listing),
-        Reply::Refused(why) => {
-            let first = first_refusal(grammar, tables, why);
-            session::refuse(first, stack, listing)
-        }
-    }
+    session::walk_books(grammar, tables, read, &tokens, stack, listing)
 }
 
 // A session over a scan file with the house letters: reads and checks both books, reads the scans, then walks their tokens. What is

@@ -1,2 +1,3 @@
 pub mod Session
+pub mod Read
 pub mod Demand3

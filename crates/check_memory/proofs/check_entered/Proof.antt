@@ -80,6 +80,18 @@ check-states-requires c κs =
     let m = c .before .before .before .before .before .before .before .before .before .before .before .prepare-rules in
     (S, (record { linked = c .before .before .before .before .before .before .before .link-lines .ensures; uses-room = p .3; nul-room = k .1 .1 .1 .0; fst-room = k .1 .1 .1 .1 .0; starts-room = m .kept .1 .1 .1 .1 .1 .1 .0; through-room = m .kept .1 .1 .1 .1 .1 .1 .1 .0; prepared = m .ensures; few-codes = p .1 }, (p .2, refl)))
 
+slice-aggregate-ask-goal : tie.Need-slice-aggregate-ask-goal
+slice-aggregate-ask-goal c = search needs
+
+slice-aggregate-ask-goal-2 : tie.Need-slice-aggregate-ask-goal-2
+slice-aggregate-ask-goal-2 c = search needs
+
+ask-goal-requires : tie.Need-ask-goal-requires
+ask-goal-requires c κs =
+    let s = c .before .before .before .before .before .before .before .before .before .before .before .before .before .before .before .before .before .before .before .before .before .before .before .before .before .before .before .before .before .before .before .before .before .before .before in
+    let S = s .pre .0 in
+    (S .some-lines, (c .before .before .before .before .before .before .before .before .before .before .before .link-lines .ensures, (S .few-rules, two-of (S .entries-room), lines-room (S .some-lines .few) (c .before .before .before .check-states .ensures .0))))
+
 slice-aggregate-mark-narrow : tie.Need-slice-aggregate-mark-narrow
 slice-aggregate-mark-narrow c = search needs
 
@@ -88,23 +100,11 @@ slice-aggregate-mark-narrow-2 c = search needs
 
 mark-narrow-requires : tie.Need-mark-narrow-requires
 mark-narrow-requires c κs =
-    let s = c .before .before .before .before .before .before .before .before .before .before .before .before .before .before .before .before .before .before .before .before .before .before .before .before .before .before .before .before .before .before .before .before .before .before .before in
-    let S = s .pre .0 in
-    let p = s .pre .1 in
-    (S .some-lines, (p .1, lines-room (S .some-lines .few) (c .before .before .before .check-states .ensures .0), S .codes-room, refl))
-
-slice-aggregate-mark-goal : tie.Need-slice-aggregate-mark-goal
-slice-aggregate-mark-goal c = search needs
-
-slice-aggregate-mark-goal-2 : tie.Need-slice-aggregate-mark-goal-2
-slice-aggregate-mark-goal-2 c = search needs
-
-mark-goal-requires : tie.Need-mark-goal-requires
-mark-goal-requires c κs =
     let s = c .before .before .before .before .before .before .before .before .before .before .before .before .before .before .before .before .before .before .before .before .before .before .before .before .before .before .before .before .before .before .before .before .before .before .before .before .before .before .before in
     let S = s .pre .0 in
     let p = s .pre .1 in
-    (S .some-lines, (c .before .before .before .before .before .before .before .before .before .before .before .before .before .before .before .link-lines .ensures, (S .few-rules, S .codes-room, two-of (S .entries-room), c .before .before .before .mark-narrow .ensures .narrowing .long ∙ length-replicate {A = ℕ} 256 0)))
+    let at-ask-goal = c .before .before .before in
+    (S .some-lines, (p .1, lines-room (S .some-lines .few) (at-ask-goal .ask-goal .ensures .long ∙ at-ask-goal .before .before .before .before .check-states .ensures .0), S .codes-room, refl))
 
 slice-aggregate-lowest-set : tie.Need-slice-aggregate-lowest-set
 slice-aggregate-lowest-set c = search needs
@@ -114,19 +114,20 @@ lowest-set-requires c κs =
     let s = c .before .before .before .before .before .before .before .before .before .before .before .before .before .before .before .before .before .before .before .before .before .before .before .before .before .before .before .before .before .before .before .before .before .before .before .before .before .before .before .before .before .before in
     let S = s .pre .0 in
     let p = s .pre .1 in
-    (p .2, c .before .before .mark-goal .ensures .0)
+    (p .2, c .before .before .mark-narrow .ensures .narrowing .long ∙ length-replicate {A = ℕ} 256 0)
 
 answer-requires : tie.Need-answer-requires
 answer-requires c κs = search needs
 
 returns : tie.Need-returns
 returns c =
-    let at-mark-narrow = c .before .before .before .before .before .before .before .before in
-    let at-check-states = at-mark-narrow .before .before .before .before in
+    let at-mark-narrow = c .before .before .before .before in
+    let at-ask-goal = at-mark-narrow .before .before .before .before in
+    let at-check-states = at-ask-goal .before .before .before .before in
     let at-find-sets = at-check-states .before .before .before .before .before .before .before .before .before .before .before .before .before .before .before .before .before .before .before in
     let start = at-find-sets .before .before .before .before .before .before .before .before .before .before .before .before .before in
-    λ g t G U E. c .answer .ensures ∙ pass-verdict g t G E (at-find-sets .find-sets .ensures g (holds-of (G .held)) (terminals-are (G .code-count))) _ _ _ _
-    (at-check-states .check-states .ensures .1 g t G U) 256 refl (at-mark-narrow .mark-narrow .ensures) (c .before .before .before .before .mark-goal .ensures .1 g t _ _ _ _ (start .pre .0 .some-strings) (G .held)) (c .before .lowest-set .ensures)
+    λ g t G U E. c .answer .ensures ∙ pass-verdict g t G (start .pre .0 .some-strings) E (at-find-sets .find-sets .ensures g (holds-of (G .held)) (terminals-are (G .code-count))) _ _ _ _
+    (at-check-states .check-states .ensures .1 g t G U) (at-ask-goal .ask-goal .ensures) 256 refl (at-mark-narrow .mark-narrow .ensures) (c .before .lowest-set .ensures)
 
 pub check-entered-spec : {M : Type 1} → statement M
 check-entered-spec =
@@ -150,12 +151,12 @@ check-entered-spec =
     slice-aggregate-check-states-5
     slice-aggregate-check-states-6
     check-states-requires
+    slice-aggregate-ask-goal
+    slice-aggregate-ask-goal-2
+    ask-goal-requires
     slice-aggregate-mark-narrow
     slice-aggregate-mark-narrow-2
     mark-narrow-requires
-    slice-aggregate-mark-goal
-    slice-aggregate-mark-goal-2
-    mark-goal-requires
     slice-aggregate-lowest-set
     lowest-set-requires
     answer-requires

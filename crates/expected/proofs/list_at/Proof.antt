@@ -7,14 +7,8 @@ use Rattle.expected_trials.proofs.CodeLaws.{list-told}
 use Rattle.expected.proofs.list_at.Statement.{statement}
 use Rattle.expected.proofs.list_at.Tie as tie
 
-slice-aggregate-copy-front : tie.Need-slice-aggregate-copy-front
-slice-aggregate-copy-front c = search needs
-
 copy-front-requires : tie.Need-copy-front-requires
 copy-front-requires c κs = search needs
-
-slice-aggregate-try-codes : tie.Need-slice-aggregate-try-codes
-slice-aggregate-try-codes c = search needs
 
 try-codes-requires : tie.Need-try-codes-requires
 try-codes-requires c κs = search needs
@@ -31,12 +25,15 @@ same-length-2 c = search needs
 same-length-3 : tie.Need-same-length-3
 same-length-3 c = search needs
 
+same-length-4 : tie.Need-same-length-4
+same-length-4 c = search needs
+
 returns : tie.Need-returns
 returns c =
     let at-clear = c .before .before .before .before in
-    let at-try = at-clear .before .before .before .before .before .before .before .before .before .before in
-    let at-copy = at-try .before .before .before .before .before .before in
-    let k = at-copy .before .before .before .before .before .before .before .before .before .before .args in
+    let at-try = at-clear .before .before .before .before .before .before .before .before .before .before .before in
+    let at-copy = at-try .before .before .before .before .before .before .before in
+    let k = at-copy .before .before .before .before .before .before .before .before .before .before .before .args in
     let t = at-try .try-codes in
     record {
       told = list-told (k .kinds .now) (k .values .now) (k .gotos .now) (k .rows .now) (k .machine) (length (k .stack .now)) (length (k .listing .now)) (k .place)
@@ -49,12 +46,11 @@ pub list-at-spec : {M : Type 1} → statement M
 list-at-spec =
     tie.close
     (tie.spec
-    slice-aggregate-copy-front
     copy-front-requires
-    slice-aggregate-try-codes
     try-codes-requires
     clear-walks-requires
     same-length
     same-length-2
     same-length-3
+    same-length-4
     returns)

@@ -1,8 +1,9 @@
 -- The number of tokens, then the books.
-use native.Mathlib.Omega.{arith}
 use lib.ListN.{length}
+use lib.Seq.{take-length}
 use borrow.Author.Needs.{needs}
-use Rattle.expected.proofs.ListLaws.{too-many, not-many}
+use Rattle.checker.specs.Checked.{checkedOf}
+use Rattle.expected.proofs.ListLaws.{too-many, not-many, books-read}
 use Rattle.expected.proofs.list_expected.Statement.{statement}
 use Rattle.expected.proofs.list_expected.Tie as tie
 
@@ -39,7 +40,12 @@ same-length-6 c = search needs
 returns-2 : tie.Need-returns-2
 returns-2 c =
     let k = c .before .before .before .before .before .before .before .before .before .before .before .before .before .before .before .before .before .args in
-    let T = not-many (k .grammar .now) (k .tables .now) (k .tokens .now) (length (k .stack .now)) (length (k .listing .now)) (length (k .codes .now)) (c .before .before .before .before .before .before .before .before .before .before .if1 .left) (c .before .before .before .before .before .before .list-books .ensures) in
+    let n = length (k .stack .now) in
+    let m = length (k .listing .now) in
+    let room = length (k .codes .now) in
+    let w = k .tokens .now in
+    let T = not-many (k .grammar .now) (k .tables .now) w n m room (c .before .before .before .before .before .before .before .before .before .before .if1 .left)
+    (books-read n m room (checkedOf (k .grammar .now) (k .tables .now)) (length w) w (take-length w) (c .before .before .before .before .before .before .list-books .ensures)) in
     (T .told .reply-is, (T .told .codes-is, (T .listing-is, T .stack-is)))
 
 pub list-expected-spec : {M : Type 1} → statement M

@@ -17,12 +17,12 @@ enum-known-walked c = search needs
 
 list-at-requires : tie.Need-list-at-requires
 list-at-requires c κs =
-    let at-walk = c .before .before .before .before .before .before .before .before .before .before in
-    let start = at-walk .before .before .before .before .before .before .before .before .before .before .before in
+    let at-walk = c .before .before .before .before .before .before .before .before .before .before .before in
+    let start = at-walk .before .before .before .before .before .before .before .before .before .before .before .before in
     let k = start .args in
     let D = start .pre .1 .0 in
     let told = at-walk .walk-machine .ensures (D .0) (D .1) (D .2) .reply-is in
-    let low = ends-within (D .0) (D .1) (length (k .stack .now)) (length (k .listing .now)) (k .tokens .now) (D .2) told _ (ends-whole (c .before .before .before .before .walked .given .1)) in
+    let low = ends-within (D .0) (D .1) (length (k .stack .now)) (length (k .listing .now)) (k .tokens .now) (D .2) told _ (ends-whole (c .before .before .before .before .before .walked .given .1)) in
     (start .pre .0, (low, omega (arith, low, start .pre .1 .1 .0), omega (arith, D .2 .terminals-is, D .2 .few-terminals), start .pre .1 .1 .1))
 
 enum-known-walked-2 : tie.Need-enum-known-walked-2
@@ -40,7 +40,7 @@ same-length-2 c = search needs
 returns : tie.Need-returns
 returns c = λ g t D.
     let at-walk = c .before .before .before .before .before .before .before .before .before in
-    let start = at-walk .before .before .before .before .before .before .before .before .before .before .before in
+    let start = at-walk .before .before .before .before .before .before .before .before .before .before .before .before in
     let k = start .args in
     let n = length (k .stack .now) in
     let m = length (k .listing .now) in
@@ -51,12 +51,12 @@ returns c = λ g t D.
 
 list-at-requires-2 : tie.Need-list-at-requires-2
 list-at-requires-2 c κs =
-    let at-walk = c .before .before .before .before .before .before .before .before .before .before .before .before in
-    let start = at-walk .before .before .before .before .before .before .before .before .before .before .before in
+    let at-walk = c .before .before .before .before .before .before .before .before .before .before .before .before .before in
+    let start = at-walk .before .before .before .before .before .before .before .before .before .before .before .before in
     let k = start .args in
     let D = start .pre .1 .0 in
     let told = at-walk .walk-machine .ensures (D .0) (D .1) (D .2) .reply-is in
-    let low = ends-within (D .0) (D .1) (length (k .stack .now)) (length (k .listing .now)) (k .tokens .now) (D .2) told _ (ends-wrong (c .before .before .before .before .before .before .walked2 .given .1) (sym (c .before .before .before .before .kind-number .ensures) ∙ c .before .before .before .if1 .left)) in
+    let low = ends-within (D .0) (D .1) (length (k .stack .now)) (length (k .listing .now)) (k .tokens .now) (D .2) told _ (ends-wrong (c .before .before .before .before .before .before .before .walked2 .given .1) (sym (c .before .before .before .before .before .kind-number .ensures) ∙ c .before .before .before .before .if1 .left)) in
     (start .pre .0, (low, omega (arith, low, start .pre .1 .1 .0), omega (arith, D .2 .terminals-is, D .2 .few-terminals), start .pre .1 .1 .1))
 
 same-length-3 : tie.Need-same-length-3
@@ -68,12 +68,15 @@ same-length-4 c = search needs
 same-length-5 : tie.Need-same-length-5
 same-length-5 c = search needs
 
+same-length-6 : tie.Need-same-length-6
+same-length-6 c = search needs
+
 returns-2 : tie.Need-returns-2
 returns-2 c = λ g t D.
-    let at-list = c .before .before .before .before .before .before in
-    let at-reply = at-list .before .before .before .before .before in
+    let at-list = c .before .before .before .before .before .before .before .before in
+    let at-reply = at-list .before .before .before .before .before .before in
     let at-walk = at-reply .before .before .before .before .before .before in
-    let k = at-walk .before .before .before .before .before .before .before .before .before .before .before .args in
+    let k = at-walk .before .before .before .before .before .before .before .before .before .before .before .before .args in
     let w = at-walk .walk-machine in
     let p = at-reply .walked .given .0 .0 .tokens in
     let ends = ends-whole (at-reply .walked .given .1) in
@@ -81,22 +84,25 @@ returns-2 c = λ g t D.
     (w .kept .1 .1 .1 .1 .1 .1 .0) (w .kept .1 .1 .1 .1 .1 .1 .1 .0)
     (list-is g t (length (k .stack .now)) (length (k .listing .now)) (k .tokens .now) D (w .ensures g t D .reply-is) p ends (length (k .codes .now))) (at-list .list-at .ensures)
 
-same-length-6 : tie.Need-same-length-6
-same-length-6 c = search needs
-
 same-length-7 : tie.Need-same-length-7
 same-length-7 c = search needs
 
 same-length-8 : tie.Need-same-length-8
 same-length-8 c = search needs
 
+same-length-9 : tie.Need-same-length-9
+same-length-9 c = search needs
+
+same-length-10 : tie.Need-same-length-10
+same-length-10 c = search needs
+
 returns-3 : tie.Need-returns-3
 returns-3 c = λ g t D.
-    let at-list = c .before .before .before .before .before .before in
-    let at-if = at-list .before .before .before .before in
+    let at-list = c .before .before .before .before .before .before .before .before in
+    let at-if = at-list .before .before .before .before .before in
     let at-reply = at-if .before .before .before in
     let at-walk = at-reply .before .before .before .before .before .before in
-    let k = at-walk .before .before .before .before .before .before .before .before .before .before .before .args in
+    let k = at-walk .before .before .before .before .before .before .before .before .before .before .before .before .args in
     let w = at-walk .walk-machine in
     let p = at-reply .walked2 .given .0 .0 .place in
     let ends = ends-wrong (at-reply .walked2 .given .1) (sym (at-if .before .kind-number .ensures) ∙ at-if .if1 .left) in
@@ -120,8 +126,10 @@ list-machine-spec =
     same-length-3
     same-length-4
     same-length-5
-    returns-2
     same-length-6
+    returns-2
     same-length-7
     same-length-8
+    same-length-9
+    same-length-10
     returns-3)
