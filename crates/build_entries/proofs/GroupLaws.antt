@@ -4,16 +4,15 @@ use mathlib.Core.Path.{_≡_, refl, sym, ap, subst, _∙_}
 use mathlib.Core.List.{List, [], _∷_, _++_, append-assoc}
 use mathlib.Core.Option.{some}
 use native.Mathlib.Omega.{arith}
-use lib.ListN.{length, getD}
-use Rattle.language.specs.Grammar.{Grammar, Rule, right, ruleAt}
+use Rattle.language.specs.Grammar.{Grammar, Rule, ruleAt}
 use Rattle.language.specs.WellFormed.{RuleFormed}
 use Rattle.items.specs.Layout.{lengthAt, markAt, RuleIn}
-use Rattle.check_entries.specs.Parts.{GroupEnd}
-use Rattle.check_entries.proofs.GroupLaws.{baseOf, base-more, symbol-at, Current, current, none-left}
+use Rattle.item_groups.specs.Groups.{GroupEnd, PartIs}
+use Rattle.item_groups.proofs.GroupLaws.{baseOf, base-more, Current, current, current-part, none-left}
 use Rattle.build_states.specs.Strings.{addString, addGroups}
 use Rattle.build_states.proofs.Distinct.{Extends}
 use Rattle.build_states.proofs.EntryLaws.{groups-extend}
-use Rattle.build_entries.specs.Memory.{Stored, PartIs, Reached}
+use Rattle.build_entries.specs.Memory.{Stored, Reached}
 use Rattle.build_entries.proofs.StoreLaws.{rule-in}
 
 -- the groups `done` of r have joined l; the next one begins at `from`
@@ -42,16 +41,6 @@ module _ {g : Grammar} (i : ℕ) {r : Rule} (is-rule : ruleAt g i ≡ some r) {l
       c : Current r (J .done) (J .todo) to
       c = current formed row (J .done) (J .todo) (J .split) (J .place) low h
 
-      width : length (c .group) ≡ to - from
-      width = omega (arith, c .end, J .place)
-
-      part : PartIs items i from (to - from) (c .group)
-      part = record {
-        width = width;
-        symbols = λ j b. row .symbol-is (from + j) (omega (arith, b, h .within, row .length-is, formed .short))
-            ∙ (ap (λ (k : ℕ). getD (right r) (k + j) 0) (J .place) ∙ symbol-at r (J .done) (c .group) (c .others) (c .split) j (omega (arith, b, width)));
-      }
-
       pub joining-more : {items′ : List ℕ} {n′ : ℕ}
           → ((k : List (List ℕ)) (γ : List ℕ) → Stored g k size items rules n → PartIs items i from (to - from) γ → Stored g (addString k γ) size items′ rules n′)
           → Joining g r l size items′ rules to n′
@@ -62,7 +51,7 @@ module _ {g : Grammar} (i : ℕ) {r : Rule} (is-rule : ruleAt g i ≡ some r) {l
         split = c .split ∙ sym (append-assoc (J .done) (c .group ∷ []) (c .others));
         place = omega (arith, c .end, base-more r (J .done) (c .group));
         strings = addString (J .strings) (c .group);
-        stored = add (J .strings) (c .group) (J .stored) part;
+        stored = add (J .strings) (c .group) (J .stored) (current-part formed row (J .done) (J .todo) (J .split) (J .place) c h);
         whole = J .whole ∙ ap (addGroups (J .strings)) (c .next);
       }
 

@@ -10,7 +10,7 @@ use lib.ListN.{length, drop, drop-of-length-le}
 use Rattle.language.specs.Grammar.{Grammar, Rule, ruleAt}
 use Rattle.language.proofs.GrammarLaws.{at-below}
 use Rattle.items.specs.Layout.{itemTable}
-use Rattle.table_entries.proofs.StringLaws.{drop-at}
+use Rattle.item_groups.proofs.UseLaws.{drop-at}
 use Rattle.build_states.specs.Strings.{addString, addGroups, addRules, entryStrings}
 use Rattle.build_states.proofs.Distinct.{Extends, extends-trans, longer}
 use Rattle.build_states.proofs.EntryLaws.{rules-extend, strings-extend}

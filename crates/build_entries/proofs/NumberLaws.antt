@@ -12,7 +12,8 @@ use Rattle.items.proofs.StoreLaws.{read-zeros}
 use Rattle.table_lines.specs.Block.{Numbers}
 use Rattle.table_lines.proofs.HeldLaws.{numbers-take}
 use Rattle.table_entries.proofs.StringLaws.{symbol-at}
-use Rattle.build_entries.specs.Memory.{Fitting, PartIs}
+use Rattle.item_groups.specs.Groups.{PartIs}
+use Rattle.build_entries.specs.Memory.{Fitting}
 
 pub zeros-low : (n k : ℕ) → getD {A = ℕ} (replicate n 0) k 0 < 128
 zeros-low n k = omega (arith, read-zeros n k)

@@ -7,7 +7,7 @@ use lib.ListN.{length, getD}
 use Rattle.language.specs.Grammar.{Grammar}
 use Rattle.language.specs.Sentence.{In}
 use Rattle.language.specs.WellFormed.{WellFormed}
-use Rattle.items.specs.Layout.{itemTable, layout, symbolAt, Shaped}
+use Rattle.items.specs.Layout.{itemTable, layout, Shaped}
 use Rattle.table_entries.specs.Memory.{Empty}
 use Rattle.build_states.specs.Strings.{entryStrings}
 use Rattle.build_states.proofs.Distinct.{Extends}
@@ -56,11 +56,6 @@ pub record Grown (items₀ items : List ℕ) (rules strings r : ℕ) : Type 0 wh
   pub ready : EntryRoom items rules r
   pub more : r ≤ strings + 1
   pub rows : (j : ℕ) → j < (rules + 1) * 64 → getD items j 0 ≡ getD items₀ j 0
-
--- γ is n symbols of item i, from `from` on
-pub record PartIs (items : List ℕ) (i from n : ℕ) (γ : List ℕ) : Type 0 where
-  pub width : length γ ≡ n
-  pub symbols : (j : ℕ) → j < n → symbolAt items i (from + j) ≡ getD γ j 0
 
 -- of the strings l the first r are stored; up to 127 they are all
 pub record Reached (g : Grammar) (l : List (List ℕ)) (size : ℕ) (items : List ℕ) (rules r : ℕ) : Type 0 where

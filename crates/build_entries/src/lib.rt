@@ -7,8 +7,9 @@ ghost use Prim.Native.Nat.{ℕ, _+_, _≤_, _<_};
 ghost use lib.ListN.{length, getD, take, drop};
 ghost use Rattle.language.specs.Grammar.{Grammar, Rule, ruleAt};
 ghost use Rattle.items.specs.Layout.{Shaped, symbolAt};
+ghost use Rattle.item_groups.specs.Groups.{PartIs};
 ghost use Rattle.build_states.specs.Strings.{addString, addGroups};
-ghost use Rattle.build_entries.specs.Memory.{HoldsRules, RulesOnly, Listed, Stored, EntryRoom, Grown, PartIs, Reached};
+ghost use Rattle.build_entries.specs.Memory.{HoldsRules, RulesOnly, Listed, Stored, EntryRoom, Grown, Reached};
 
 // n symbols of item i, from `from` on, as the numbers from the second on.
 fn load_part(items: &[u8], count: usize, i: usize, from: usize, n: usize, numbers: &mut [usize])
@@ -82,7 +83,7 @@ fn add_groups(items: &mut [u8], rules: usize, strings: usize, i: usize) -> usize
         if 127 < n {
             return n;
         }
-        let to = check_entries::group_end(items, rules + n, i, from, length);
+        let to = item_groups::group_end(items, rules + n, i, from, length);
         n = add_part(items, rules, n, i, from, to - from);
         from = to;
     }

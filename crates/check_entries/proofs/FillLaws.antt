@@ -15,10 +15,11 @@ use Rattle.leftcorner.specs.Construction.{EntryAt, of-group}
 use Rattle.items.specs.Layout.{lengthAt, markAt}
 use Rattle.fixpoint.specs.Flags.{On}
 use Rattle.fixpoint.proofs.CountLaws.{on-set, only-set, keep-set}
-use Rattle.check_entries.specs.Parts.{FindsEntry, GroupEnd}
+use Rattle.item_groups.specs.Groups.{GroupEnd}
+use Rattle.item_groups.proofs.GroupLaws.{baseOf, base-more, Current, current, none-left}
+use Rattle.check_entries.specs.Parts.{FindsEntry}
 use Rattle.check_entries.specs.declared.EntryFault.{EntryFault}
 use Rattle.check_entries.specs.Uses.{HoldsStrings, WantedEntry, FilledRule}
-use Rattle.check_entries.proofs.GroupLaws.{baseOf, base-more, Current, current, none-left}
 use Rattle.check_entries.proofs.PartLaws.{found-entry, found-number, found-none}
 
 -- ---- one more at the end of a list

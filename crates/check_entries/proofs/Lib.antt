@@ -1,4 +1,3 @@
-pub mod GroupLaws
 pub mod PartLaws
 pub mod FaultLaws
 pub mod FillLaws

@@ -12,9 +12,9 @@ use Rattle.leftcorner.specs.Construction.{entryItem, EntryAt}
 use Rattle.leftcorner.proofs.ReadOff.{entry-is}
 use Rattle.items.specs.Layout.{symbolAt, EntryIn}
 use Rattle.memory.proofs.RangeLaws.{entry-at, entry-range}
+use Rattle.item_groups.proofs.GroupLaws.{baseOf, symbol-at, right-length}
 use Rattle.check_entries.specs.Parts.{SamePart, FindsEntry}
 use Rattle.check_entries.specs.Uses.{HoldsStrings}
-use Rattle.check_entries.proofs.GroupLaws.{baseOf, symbol-at, right-length}
 
 module _ (g : Grammar) (t : Table) {items : List ℕ} {rules strings : ℕ} (S : HoldsStrings g t items rules strings) where
   pub entry-row : (k : ℕ) {s : ℕ} {γ : List ℕ} → EntryAt g t k s γ → EntryIn items (rules + k) γ

@@ -1,8 +1,8 @@
--- Parts of items in memory: the groups of rules, and the entries with their strings.
+-- Parts of items in memory, and the entries with their strings.
 use Prim.Native.Nat.{ℕ, _+_, _≤_, _<_}
 use mathlib.Core.Path.{_≡_}
 use mathlib.Core.List.{List}
-use Rattle.items.specs.Layout.{lengthAt, symbolAt, startAt}
+use Rattle.items.specs.Layout.{lengthAt, symbolAt}
 
 -- item e's string is n symbols of item i, from `from` on
 pub record SamePart (items : List ℕ) (i from n e : ℕ) : Type 0 where
@@ -14,10 +14,3 @@ pub record FindsEntry (items : List ℕ) (rules strings i from n r : ℕ) : Type
   pub low : r ≤ strings
   pub none : r ≡ 0 → (k : ℕ) → 1 ≤ k → k < strings + 1 → SamePart items i from n (rules + k) → ⊥
   pub some : (r ≡ 0 → ⊥) → SamePart items i from n (rules + r)
-
--- the group of item i that begins at `from` ends before `to`
-pub record GroupEnd (items : List ℕ) (i from to : ℕ) : Type 0 where
-  pub past : from < to
-  pub within : to ≤ lengthAt items i
-  pub inside : (k : ℕ) → from < k → k < to → startAt items i k ≡ 0
-  pub edge : to < lengthAt items i → startAt items i to ≡ 0 → ⊥

@@ -12,7 +12,7 @@ ghost use Rattle.leftcorner.specs.Table.{Table};
 ghost use Rattle.leftcorner.specs.Construction.{EntriesMeet};
 ghost use Rattle.items.specs.Layout.{Shaped, lengthAt, symbolAt};
 ghost use Rattle.fixpoint.specs.Flags.{Decides};
-ghost use Rattle.check_entries.specs.Parts.{SamePart, FindsEntry, GroupEnd};
+ghost use Rattle.check_entries.specs.Parts.{SamePart, FindsEntry};
 ghost use Rattle.check_entries.specs.Faults.{EntryFaultIs, InRange};
 ghost use Rattle.check_entries.specs.Uses.{HoldsStrings, HoldsUses, FilledRule, Filled};
 
@@ -65,22 +65,6 @@ fn entry_of(items: &[u8], rules: usize, strings: usize, i: usize, from: usize, n
     0
 }
 
-// The end of the group of item i, whose string has that length, that begins at `from`.
-pub fn group_end(items: &[u8], count: usize, i: usize, from: usize, length: usize) -> usize
-    requires { ⌜ Shaped (now items) count ⌝ }
-    requires { ⌜ (i ≤ count) × (from < length) × (length ≡ lengthAt (now items) i) × (length ≤ 15) ⌝ }
-    ensures { λ r. ⌜ GroupEnd (now (items .entry)) i from r ⌝ }
-{
-    let mut k = from + 1;
-    while k < length {
-        if items::start_of(items, count, i, k) != 0 {
-            return k;
-        }
-        k += 1;
-    }
-    length
-}
-
 // Notes the entries that the groups of rule i use, and flags those entries; the first group that has none.
 fn fill_rule(
     items: &[u8],
@@ -102,7 +86,7 @@ fn fill_rule(
     let mut from = items::mark_of(items, count, i);
     let mut j: usize = 0;
     while from < length {
-        let to = group_end(items, count, i, from, length);
+        let to = item_groups::group_end(items, count, i, from, length);
         let e = entry_of(items, rules, strings, i, from, to - from);
         if e == 0 {
             return EntryFault::Bare(i, from, to);

@@ -18,7 +18,7 @@ use Rattle.moves.specs.Moves.{symbolAfter, nextAt}
 use Rattle.item_first.specs.Rows.{FirstsAt, RowOf}
 use Rattle.item_first.specs.Rows as rows
 use Rattle.item_first.proofs.FirstLaws.{at-zero}
-use Rattle.check_entries.specs.Parts.{GroupEnd}
+use Rattle.item_groups.specs.Groups.{GroupEnd}
 use Rattle.inclusions.specs.Groups.{groupEnd, groupFrom, groupBegin}
 use Rattle.inclusions.specs.Asks.{LineAsks, LinesAsk, MoveAsks, GroupAsks, GroupsAsk, ItemAsks, by-move, by-group, KernelAsks, RuleAsks, RulesAsk, StateAsks}
 use Rattle.closure.proofs.AddingLaws.{Adding, adding-none, adding-then, adds-all}

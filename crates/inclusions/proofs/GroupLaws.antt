@@ -8,7 +8,7 @@ use native.Mathlib.Omega.{arith}
 use borrow.Author.Tests.{eq-eqb, ne-eqb}
 use lib.Dec.{eqb}
 use Rattle.items.specs.Layout.{lengthAt, startAt}
-use Rattle.check_entries.specs.Parts.{GroupEnd}
+use Rattle.item_groups.specs.Groups.{GroupEnd}
 use Rattle.inclusions.specs.Groups.{beginFrom, groupEnd, groupFrom}
 
 module _ (items : List ℕ) (i : ℕ) where

@@ -22,8 +22,8 @@ use Rattle.memory.specs.Held.{HoldsTable}
 use Rattle.analysis.specs.Rests.{restAt}
 use Rattle.closure.proofs.ItemLaws.{item-held}
 use Rattle.check_entries.specs.Uses.{HoldsUses}
-use Rattle.check_entries.proofs.GroupLaws.{baseOf, right-length}
-use Rattle.check_entries.proofs.GroupLaws as groups
+use Rattle.item_groups.proofs.GroupLaws.{baseOf, right-length}
+use Rattle.item_groups.proofs.GroupLaws as groups
 use Rattle.inclusions.specs.Groups.{groupEnd, groupFrom, groupBegin}
 use Rattle.inclusions.proofs.GroupLaws.{end-is, group-next, group-order}
 

@@ -199,7 +199,7 @@ fn add_groups(
     let mut a = items::mark_of(items, totals.items, i);
     let mut j: usize = 0;
     while a < n {
-        let b = check_entries::group_end(items, totals.items, i, a, n);
+        let b = item_groups::group_end(items, totals.items, i, a, n);
         let e = wide(uses[i * 16 + j]);
         add_group(
             items,

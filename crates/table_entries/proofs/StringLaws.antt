@@ -1,56 +1,22 @@
 -- Strings compared, and entries found by their strings.
-use Prim.Native.Nat.{ℕ, zero, suc, _+_, _≤_, _<_}
-use mathlib.Core.Path.{_≡_, refl, sym, ap, subst, _∙_}
+use Prim.Native.Nat.{ℕ, suc, _+_, _≤_, _<_}
+use mathlib.Core.Path.{_≡_, sym, ap, subst, _∙_}
 use mathlib.Core.Logic.{_≢_}
-use mathlib.Core.List.{List, [], _∷_}
-use mathlib.Core.Bool.{Bool, true, false, _&&_}
+use mathlib.Core.List.{List}
+use mathlib.Core.Bool.{Bool, true, false}
 use mathlib.Core.Option.{some}
-use native.Mathlib.Nat.{not-suc-le-zero, le-of-suc-le-suc}
 use native.Mathlib.Numerals.{add-one}
 use native.Mathlib.Omega.{arith}
-use borrow.Author.Tests.{eq-eqb, ne-eqb, eqb-true}
-use lib.Dec.{eqb}
 use lib.ListN.{length, getD, drop, length-drop, drop-of-length-le}
 use lib.Seq.{getD-drop}
 use Rattle.language.specs.Grammar.{at}
 use Rattle.leftcorner.specs.Table.{EntryLine, E, sameString, entryFrom}
 use Rattle.items.specs.Layout.{EntryIn, lengthAt, symbolAt}
 use Rattle.language.proofs.GrammarLaws.{at-below}
+use Rattle.item_groups.proofs.StringLaws.{same-long, same-no, same-yes}
+use Rattle.item_groups.proofs.UseLaws.{drop-at}
 use Rattle.table_lines.specs.Block.{Numbers}
 use Rattle.table_entries.specs.Memory.{Rows}
-
-and-false : (b : Bool) → b && false ≡ false
-and-false true = refl
-and-false false = refl
-
-pub same-long : (γ δ : List ℕ) → (length γ ≡ length δ → ⊥) → sameString γ δ ≡ false
-same-long [] [] h = absurd (h refl)
-same-long [] (y ∷ δ) h = refl
-same-long (x ∷ γ) [] h = refl
-same-long (x ∷ γ) (y ∷ δ) h = ap (λ (b : Bool). eqb x y && b) (same-long γ δ (λ e. h (ap suc e))) ∙ and-false (eqb x y)
-
-pub same-no : (γ δ : List ℕ) (k : ℕ) → k < length γ → (getD γ k 0 ≡ getD δ k 0 → ⊥) → sameString γ δ ≡ false
-same-no [] δ k h f = absurd (not-suc-le-zero h)
-same-no (x ∷ γ) [] k h f = refl
-same-no (x ∷ γ) (y ∷ δ) zero h f = simp (ne-eqb x y f)
-same-no (x ∷ γ) (y ∷ δ) (suc k) h f = ap (λ (b : Bool). eqb x y && b) (same-no γ δ k (le-of-suc-le-suc h) f) ∙ and-false (eqb x y)
-
-pub same-yes : (γ δ : List ℕ) → length γ ≡ length δ → ((k : ℕ) → k < length γ → getD γ k 0 ≡ getD δ k 0) → sameString γ δ ≡ true
-same-yes [] [] e h = refl
-same-yes [] (y ∷ δ) e h = absurd (omega (arith, e))
-same-yes (x ∷ γ) [] e h = absurd (omega (arith, e))
-same-yes (x ∷ γ) (y ∷ δ) e h = simp (eq-eqb x y (h zero (omega arith)), same-yes γ δ (omega (arith, e)) (λ k l. h (suc k) (omega arith)))
-
--- and back
-pub string-same : (γ δ : List ℕ) → sameString γ δ ≡ true → γ ≡ δ
-string-same [] [] e = refl
-string-same [] (y ∷ δ) e = let z : _≡_ {A = ℕ} 0 1 = cc in absurd (omega arith)
-string-same (x ∷ γ) [] e = let z : _≡_ {A = ℕ} 0 1 = cc in absurd (omega arith)
-string-same (x ∷ γ) (y ∷ δ) e = go (eqb x y) refl e (string-same γ δ)
-  where
-    go : (b : Bool) → eqb x y ≡ b → b && sameString γ δ ≡ true → (sameString γ δ ≡ true → γ ≡ δ) → x ∷ γ ≡ y ∷ δ
-    go true p q f = let a : x ≡ y = eqb-true x y p in let b : γ ≡ δ = f q in cc
-    go false p q f = let z : _≡_ {A = ℕ} 0 1 = cc in absurd (omega arith)
 
 -- the symbols of a line's numbers
 pub symbol-at : (ns : List ℕ) (k : ℕ) → getD (drop 1 ns) k 0 ≡ getD ns (k + 1) 0
@@ -60,11 +26,6 @@ symbol-at ns k = getD-drop 1 ns k 0 ∙ ap (λ (n : ℕ). getD ns n 0) (swap k)
     swap k = omega arith
 
 -- ---- the entries looked at one after the other
-pub drop-at : {A : Type 0} (l : List A) (k : ℕ) {x : A} → at l k ≡ some x → drop k l ≡ x ∷ drop (suc k) l
-drop-at [] k e = let z : _≡_ {A = ℕ} 0 1 = cc in absurd (omega arith)
-drop-at (y ∷ l) zero {x} e = let q : y ≡ x = cc in ap (λ (z : _). z ∷ l) q
-drop-at (y ∷ l) (suc k) e = drop-at l k e
-
 module _ (l : List EntryLine) (δ : List ℕ) (k : ℕ) {s : ℕ} {γ : List ℕ} (e : at l k ≡ some (E s γ)) where
   pub found-here : sameString γ δ ≡ true → entryFrom (suc k) (drop k l) δ ≡ suc k
   found-here h = ap (λ (m : List EntryLine). entryFrom (suc k) m δ) (drop-at l k e) ∙ simp h

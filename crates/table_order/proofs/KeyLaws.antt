@@ -8,11 +8,6 @@ use borrow.Author.Tests.{lt-ltb, le-ltb, eq-eqb, ne-eqb}
 use lib.ListN.{length, getD, take, drop}
 use Rattle.table_order.specs.Order.{below}
 
--- the keys a and b from figure k on, where the figures before it agree
-module _ (a b : List ℕ) where
-  abbrev pub Alike : ℕ → Type 0
-  Alike k = below a b ≡ below (drop k a) (drop k b)
-
 -- one figure
 pub below-less : (a b : List ℕ) (k : ℕ) → k < length a → k < length b → getD a k 0 < getD b k 0 → below (drop k a) (drop k b) ≡ true
 below-less [] b k h n l = absurd (omega arith)

@@ -8,7 +8,9 @@ use native.Mathlib.Omega.{arith}
 use borrow.Author.Tests.{ltb-true, eqb-true, lt-ltb, eq-eqb}
 use lib.Dec.{ltb, eqb}
 use Rattle.language.specs.Sentence.{In, here, there}
+use Rattle.language.proofs.TestLaws.{both-true}
 use Rattle.language.proofs.Member.{in-cons, in-right}
+use Rattle.leftcorner.proofs.ReadOff.{clash}
 use Rattle.table_order.specs.Order.{below, follows}
 
 -- ---- keys
@@ -17,18 +19,14 @@ Below [] b = ⊥
 Below (x ∷ a) [] = ⊥
 Below (x ∷ a) (y ∷ b) = (x < y) ⊎ ((x ≡ y) × Below a b)
 
-both : (a b : Bool) → a && b ≡ true → (a ≡ true) × (b ≡ true)
-both true b e = (refl, e)
-both false b e = absurd (let f : false ≡ true = e in cc)
-
 pub below-true : (a b : List ℕ) → below a b ≡ true → Below a b
-below-true [] b e = let f : false ≡ true = e in cc
-below-true (x ∷ a) [] e = let f : false ≡ true = e in cc
+below-true [] b e = clash cc
+below-true (x ∷ a) [] e = clash cc
 below-true (x ∷ a) (y ∷ b) e = go (ltb x y) refl e (λ h. below-true a b h)
   where
     go : (t : Bool) → ltb x y ≡ t → t || (eqb x y && below a b) ≡ true → (below a b ≡ true → Below a b) → (x < y) ⊎ ((x ≡ y) × Below a b)
     go true p e f = inl (ltb-true x y p)
-    go false p e f = let h = both (eqb x y) (below a b) e in inr (eqb-true x y (h .0), f (h .1))
+    go false p e f = let h = both-true (eqb x y) (below a b) e in inr (eqb-true x y (h .0), f (h .1))
 
 or-true : (b : Bool) → b || true ≡ true
 or-true true = refl

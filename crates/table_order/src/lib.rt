@@ -2,7 +2,7 @@
 // Inner: for the readers of table books.
 ghost use mathlib.Core.Path.{_≡_};
 ghost use Prim.Native.Nat.{_≤_};
-ghost use lib.ListN.{length, take};
+ghost use lib.ListN.{length};
 ghost use Rattle.table_order.specs.Order.{below};
 
 // Whether the key `last` is below the numbers that a line begins with.
@@ -21,16 +21,4 @@ pub fn is_below(last: &[usize], numbers: &[usize]) -> bool
         k += 1;
     }
     false
-}
-
-// The numbers that a line begins with are the last key.
-pub fn keep_key(last: &mut [usize], numbers: &[usize])
-    requires { ⌜ length (now last) ≤ length (now numbers) ⌝ }
-    ensures { λ r. ⌜ now (last .exit) ≡ take (length (now (last .entry))) (now (numbers .entry)) ⌝ }
-{
-    let mut k = 0;
-    while k < last.len() {
-        last[k] = numbers[k];
-        k += 1;
-    }
 }

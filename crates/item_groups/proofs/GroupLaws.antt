@@ -14,7 +14,7 @@ use Rattle.language.proofs.Lists.{concat-++}
 use Rattle.items.specs.Layout.{groupStart, groupStarts, startsOf, lengthAt, RuleIn}
 use Rattle.items.proofs.GrowLaws.{start-length, starts-length}
 use Rattle.items.proofs.StoreLaws.{read-zeros}
-use Rattle.check_entries.specs.Parts.{GroupEnd}
+use Rattle.item_groups.specs.Groups.{GroupEnd, PartIs}
 
 starts-++ : (δs εs : List (List ℕ)) → groupStarts (δs ++ εs) ≡ groupStarts δs ++ groupStarts εs
 starts-++ [] εs = refl
@@ -134,6 +134,17 @@ module _ {g : Grammar} {r : Rule} (formed : RuleFormed g r) {items : List ℕ} {
             end = end-is r done γ εs e w (formed .short) (λ ε m. formed .filled ε (subst (In ε) (sym e) (in-right done (there m))))
                 (positive γ (formed .filled γ inside)) place h;
           }
+
+  -- it is the part of the row up to its end
+  pub current-part : {to : ℕ} (c : Current r done todo to) → GroupEnd items i from to → PartIs items i from (to - from) (c .group)
+  current-part {to} c h = record {
+    width = width;
+    symbols = λ j b. w .symbol-is (from + j) (omega (arith, b, h .within, w .length-is, formed .short))
+        ∙ (ap (λ (k : ℕ). getD (right r) (k + j) 0) place ∙ symbol-at r done (c .group) (c .others) (c .split) j (omega (arith, b, width)));
+  }
+    where
+      width : length (c .group) ≡ to - from
+      width = omega (arith, c .end, place)
 
   pub none-left : lengthAt items i ≤ from → todo ≡ []
   none-left l = go todo split

@@ -6,8 +6,8 @@ use borrow.Author.Needs.{needs}
 use lib.ListN.{length}
 use Rattle.items.specs.Layout.{startAt}
 use Rattle.fixpoint.proofs.PassLaws.{from-more}
-use Rattle.check_entries.proofs.group_end.Statement.{statement}
-use Rattle.check_entries.proofs.group_end.Tie as tie
+use Rattle.item_groups.proofs.group_end.Statement.{statement}
+use Rattle.item_groups.proofs.group_end.Tie as tie
 
 abbrev Inv-loop : tie.InvT-loop
 Inv-loop items count i from length k₀ k = (from < k) × (k ≤ length) × ((m : ℕ) → from < m → m < k → startAt items i m ≡ 0)

@@ -1,0 +1,3 @@
+pub mod StringLaws
+pub mod GroupLaws
+pub mod UseLaws
