@@ -21,7 +21,7 @@ static const char grammar[] = "G,63,1,1,64\nR,64,^,1,1,1,1,1,1,1,1,1,1,1,1,1,1,1
 static size_t table_book(size_t size) {
     size_t at = sprintf((char *)book, "T,255,1\nE,1,64\n");
     for (int i = 0; at + 224 < size; i++) {
-        at += sprintf((char *)book + at, "K,%d,1,%d", 1 + i % 255, i / 255);
+        at += sprintf((char *)book + at, "K,%d,1,%d", 1 + i / 2, i % 2);
         for (int c = 0; c < 64; c++) at += sprintf((char *)book + at, ",%d", c);
         book[at++] = '\n';
     }

@@ -139,6 +139,18 @@ def least(step):
         s = more
 
 
+def in_order(g, earlier, string):
+    """Document 02, S-5: whether an entry string may stand after these. The first is not asked and binds none; one that is no group is passed over."""
+    groups = [group for r in g.rules for group in r.groups]
+    uses = [groups.index(s) for s in [*earlier[1:], string] if s in groups]
+    return not earlier or string not in groups or all(use < uses[-1] for use in uses[:-1])
+
+
+def rises(earlier, key):
+    """Document 02, S-5: whether a line's key is above that of the line before it."""
+    return not earlier or next(reversed(earlier)) < key
+
+
 def read_table(book, g):
     lines, r = Lines(book), len(g.rules)
     at, f = lines.take()
@@ -149,7 +161,8 @@ def read_table(book, g):
     entries, kernels, actions = [], {}, {}
     for _ in range(count):
         at, f = lines.take()
-        need(at, 1, f and f[0] == 'E' and len(f) > 2 and numbers(f[1:]) and f[2:] not in [s for _, s in entries])
+        strings = [s for _, s in entries]
+        need(at, 1, f and f[0] == 'E' and len(f) > 2 and numbers(f[1:]) and f[2:] not in strings and in_order(g, strings, f[2:]))
         need(at, 2, max(f[1:]) <= MOST and len(f) <= 17)
         need(at, 3, state(f[1]) and all(symbol(g, x) for x in f[2:]))
         entries.append((f[1], f[2:]))
@@ -157,14 +170,14 @@ def read_table(book, g):
     while (lines.peek()[1] or ['?'])[0] == 'K':
         at, f = lines.take()
         codes = f[4:]
-        need(at, 1, len(f) > 4 and numbers(f[1:]) and all(a < b for a, b in zip(codes, codes[1:])) and tuple(f[1:4]) not in kernels)
+        need(at, 1, len(f) > 4 and numbers(f[1:]) and all(a < b for a, b in zip(codes, codes[1:])) and rises(kernels, tuple(f[1:4])))
         need(at, 2, max(f[1:]) <= MOST and len(kernels) < 1023)
         need(at, 3, state(f[1]) and 1 <= f[2] <= r + count and f[3] <= len(string_of(g, t, f[2])) and max(codes) <= g.t)
         kernels[tuple(f[1:4])] = set(codes)
     need(lines.peek()[0], 1, kernels)
     while lines.next < lines.over:
         at, f = lines.take()
-        need(at, 1, f and f[0] in ('S', 'N', 'A', 'P') and len(f) == 4 and numbers(f[1:]) and tuple(f[1:3]) not in actions)
+        need(at, 1, f and f[0] in ('S', 'N', 'A', 'P') and len(f) == 4 and numbers(f[1:]) and rises(actions, tuple(f[1:3])))
         need(at, 2, max(f[1:]) <= MOST)
         letter, q, x, v = f
         need(at, 3, state(q) and {'S': terminal(g, x) and state(v), 'N': nonterminal(g, x) and state(v), 'A': x <= g.t and 1 <= v <= r, 'P': x <= g.t}[letter])

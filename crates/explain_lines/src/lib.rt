@@ -9,8 +9,11 @@ use symbol::Symbol;
 use table_lines::Line;
 use text::Cursor;
 use text::Field;
+ghost use mathlib.Core.Path.{_≡_};
+ghost use mathlib.Core.Bool.{true};
 ghost use Prim.Native.Nat.{_<_, _≤_};
 ghost use lib.ListN.{length};
+ghost use Rattle.items.specs.Layout.{Shaped};
 
 // A field: its kind, b'0' for a number, b'A' for a letter, b'^' for a mark, 0 for a broken one; its value; and the
 // cursor past it.
@@ -595,6 +598,91 @@ fn explain_second(out: &mut [u8; OUTPUT], line: u8, n: usize) -> bool {
     true
 }
 
+// Whether the string of an entry line with these numbers is a group.
+fn is_group(items: &[u8], rules: usize, numbers: &[usize], count: usize) -> bool
+    requires { ⌜ (Shaped (now items) rules) × (rules ≤ 127) × (length (now numbers) ≡ 67) ⌝ }
+{
+    if count < 2 {
+        return false;
+    }
+    if 16 < count {
+        return false;
+    }
+    item_groups::first_use(items, rules, rules, &numbers[1..count]) != 0
+}
+
+// The number of the last entry line before `place` whose group that at `place` must follow; 0 where there is none. The first entry line,
+// line 2, binds no other.
+fn find_group(items: &[u8], rules: usize, book: &[u8], place: usize) -> usize
+    requires { ⌜ (Shaped (now items) rules) × (rules ≤ 127) ⌝ }
+    requires { ⌜ length (now book) ≤ 65536 ⌝ }
+{
+    let mut at = 0;
+    let mut n = 1;
+    let mut last = 0;
+    let mut left = book.len();
+    while 0 < left {
+        left -= 1;
+        if place <= at {
+            return last;
+        }
+        let mut numbers = [0usize; 67];
+        let Line::Whole(_, p, next) = table_lines::read_line(book, at, &mut numbers) else {
+            return last;
+        };
+        at = next;
+        if 2 < n {
+            if is_group(items, rules, &numbers, p.count) {
+                last = n;
+            }
+        }
+        n += 1;
+    }
+    last
+}
+
+// The number of the line that one of that family at `place` must follow; 0 where there is none.
+fn find_before(items: &[u8], rules: usize, book: &[u8], place: usize, line: u8) -> usize
+    requires { ⌜ (Shaped (now items) rules) × (rules ≤ 127) ⌝ }
+    requires { ⌜ (length (now book) ≤ 65536) × (place ≤ length (now book)) ⌝ }
+{
+    if line == b'E' {
+        return find_group(items, rules, book, place);
+    }
+    line_number(book, place) - 1
+}
+
+// A line that is out of order, with the number n of the one that it must follow.
+fn explain_order(out: &mut [u8; OUTPUT], line: u8, n: usize) -> bool {
+    if n == 0 {
+        return false;
+    }
+    match line {
+        b'E' => print_words(
+            out,
+            b"out of order: in the rules its group comes before that of line #\n",
+            n,
+            0,
+            0,
+        ),
+        b'K' => print_words(
+            out,
+            b"out of order: its state, item and dot come before those of line #\n",
+            n,
+            0,
+            0,
+        ),
+        _ => print_words(
+            out,
+            b"out of order: its state and symbol come before those of line #\n",
+            n,
+            0,
+            0,
+        ),
+    }
+    true
+}
+
 // Whether a line of a table book has codes, and they do not rise.
 fn has_fall(letter: u8, rising: bool) -> bool {
     if letter != b'K' {
@@ -603,9 +691,16 @@ fn has_fall(letter: u8, rising: bool) -> bool {
     !rising
 }
 
-// What else breaks a line of a table book whose fields are of their kinds.
-fn explain_numbers(out: &mut [u8; OUTPUT], book: &[u8], place: usize) -> bool
-    requires { ⌜ length (now book) ≤ 65536 ⌝ }
+// What else breaks a line of a table book whose fields are of their kinds: codes that do not rise, that it is a second line, or its order.
+fn explain_numbers(
+    out: &mut [u8; OUTPUT],
+    items: &[u8],
+    rules: usize,
+    book: &[u8],
+    place: usize,
+) -> bool
+    requires { ⌜ (Shaped (now items) rules) × (rules ≤ 127) ⌝ }
+    requires { ⌜ (length (now book) ≤ 65536) × (place ≤ length (now book)) ⌝ }
 {
     let mut numbers = [0usize; 67];
     let Line::Whole(letter, p, _) = table_lines::read_line(book, place, &mut numbers) else {
@@ -616,7 +711,11 @@ fn explain_numbers(out: &mut [u8; OUTPUT], book: &[u8], place: usize) -> bool
     }
     let line = family(wide(letter));
     let n = find_second(book, place, line, &numbers, p.count);
-    explain_second(out, line, n)
+    if explain_second(out, line, n) {
+        return true;
+    }
+    let before = find_before(items, rules, book, place, line);
+    explain_order(out, line, before)
 }
 
 // What number k, from 2 on, of a line stands for.
@@ -1115,7 +1214,15 @@ fn table_due(book: &[u8], place: usize, entries: usize) -> u8
 }
 
 // Reply 1 at a line of a table book.
-fn explain_table_form(out: &mut [u8; OUTPUT], book: &[u8], place: usize, entries: usize)
+fn explain_table_form(
+    out: &mut [u8; OUTPUT],
+    items: &[u8],
+    rules: usize,
+    book: &[u8],
+    place: usize,
+    entries: usize,
+)
+    requires { ⌜ (Shaped (now items) rules) × (rules ≤ 127) ⌝ }
     requires { ⌜ (length (now book) ≤ 65536) × (place < length (now book)) ⌝ }
 {
     let due = table_due(book, place, entries);
@@ -1123,7 +1230,7 @@ fn explain_table_form(out: &mut [u8; OUTPUT], book: &[u8], place: usize, entries
         explain_letter(out, book, place, entries, due);
         return;
     }
-    if explain_numbers(out, book, place) {
+    if explain_numbers(out, items, rules, book, place) {
         return;
     }
     print_meaning(out);
@@ -1156,19 +1263,8 @@ fn explain_letter(out: &mut [u8; OUTPUT], book: &[u8], place: usize, entries: us
     );
 }
 
-// Reply 1 at a line of a book.
-fn explain_line(out: &mut [u8; OUTPUT], header: u8, book: &[u8], place: usize, said: usize)
-    requires { ⌜ (length (now book) ≤ 65536) × (place < length (now book)) ⌝ }
-{
-    if header == b'G' {
-        explain_grammar_form(out, book, place, said);
-        return;
-    }
-    explain_table_form(out, book, place, said);
-}
-
 // A book that is too long.
-fn explain_length(out: &mut [u8; OUTPUT], header: u8) {
+pub fn explain_length(out: &mut [u8; OUTPUT], header: u8) {
     print_name(out, header);
     print_text(out, b": it is longer than 65536 bytes\n");
 }
@@ -1192,7 +1288,8 @@ fn read_header(book: &[u8]) -> Header
     }
 }
 
-// A refusal of a book with 1 to 4, whose header says that so many lines follow it.
+// A refusal of a book with 1 to 4, whose header says that so many lines follow it; whether it is 1 at a line, and what breaks that is still to
+// be told.
 fn explain_book(
     out: &mut [u8; OUTPUT],
     header: u8,
@@ -1201,19 +1298,20 @@ fn explain_book(
     place: usize,
     said: usize,
     d: Declared,
-)
+) -> bool
     requires { ⌜ length (now book) ≤ 65536 ⌝ }
+    ensures { λ r. ⌜ (r ≡ true → place < length (now (book .entry))) ⌝ }
 {
     if book.len() <= place {
         explain_end(out, header, book, said);
-        return;
+        return false;
     }
     print_place(out, header, book, place);
     if number == 1 {
-        explain_line(out, header, book, place, said);
-        return;
+        return true;
     }
     explain_figures(out, book, number, place, d);
+    false
 }
 
 // The last of so many nonterminals.
@@ -1240,31 +1338,35 @@ pub fn explain_grammar_book(out: &mut [u8; OUTPUT], book: &[u8], number: u64, pl
         items: h.third,
         states: 0,
     };
-    explain_book(out, b'G', book, number, place, h.third, d);
+    if explain_book(out, b'G', book, number, place, h.third, d) {
+        explain_grammar_form(out, book, place, h.third);
+    }
 }
 
-// A refusal of a table book as it is read, 1 to 3, by a grammar with these figures.
+// A refusal of a table book as it is read, 1 to 3, by a grammar with these figures, whose rules are in the item table.
 pub fn explain_table_book(
     out: &mut [u8; OUTPUT],
+    items: &[u8],
     terminals: usize,
     nonterminals: usize,
     rules: usize,
     book: &[u8],
     number: u64,
     place: usize,
-) {
-    if 65536 < book.len() {
-        explain_length(out, b'T');
-        return;
-    }
+)
+    requires { ⌜ (Shaped (now items) rules) × (rules ≤ 127) ⌝ }
+    requires { ⌜ length (now book) ≤ 65536 ⌝ }
+{
     // the numbers of states and of entries
     let h = read_header(book);
     let d = Declared {
         terminals,
         nonterminals: nonterminals,
         rules,
-        items: clipped(rules) + clipped(h.second),
+        items: rules + clipped(h.second),
         states: h.first,
     };
-    explain_book(out, b'T', book, number, place, h.second, d);
+    if explain_book(out, b'T', book, number, place, h.second, d) {
+        explain_table_form(out, items, rules, book, place, h.second);
+    }
 }

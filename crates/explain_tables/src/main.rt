@@ -55,7 +55,7 @@ fn explain_tables(
 fn explain_book(out: &mut [u8; OUTPUT], grammar: &[u8], book: &[u8], number: u64, place: usize) {
     // Both lengths come before all else.
     if book.len() > 65536 {
-        explain_lines::explain_table_book(out, 0, 0, 0, book, number, place);
+        explain_lines::explain_length(out, b'T');
         return;
     }
     let mut items = [0u8; grammar::TABLE];
@@ -66,6 +66,7 @@ fn explain_book(out: &mut [u8; OUTPUT], grammar: &[u8], book: &[u8], number: u64
     };
     explain_lines::explain_table_book(
         out,
+        &items,
         h.terminals,
         h.nonterminals,
         h.rules,
