@@ -24,6 +24,8 @@ use Rattle.expected_promise.specs.Promise as expected
 use Rattle.expected_promise.proofs.Promise as listed
 use Rattle.generate_promise.specs.Promise.{GeneratorPromise}
 use Rattle.generate_promise.proofs.Promise as loads
+use Rattle.canonical.specs.Promise.{OrderPromise}
+use Rattle.canonical.proofs.Promise as order
 use Rattle.build_promise.specs.Promise.{Promise}
 use Rattle.build_promise.proofs.Promise as builder
 use Rattle.worked_examples.specs.Books.{smallest, g1, g1-cut, d}
@@ -63,6 +65,10 @@ scans-promise = scans.scans-promise
 -- Document 02, S-4, of every load that is made from a number: `Promise` has its sentences, one by one
 pub generator-promise : GeneratorPromise
 generator-promise = loads.generator-promise
+
+-- Document 02, S-5, of every table book: `Promise` has its sentences, one by one
+pub order-promise : OrderPromise
+order-promise = order.order-promise
 
 -- None of them speaks of nothing: the books of document 01 are built and accepted, and its starred sessions answer what is told
 pub built : Each Built (smallest ∷ g1 ∷ g1-cut ∷ d ∷ [])
