@@ -2,10 +2,13 @@
 # Builds and runs what the arguments name of read, check, session, expected, load, build, lend and stack; all of them where nothing is named. From
 # the repository's root, after
 #     rt staticlib buraigue_c && rt check build_tables
+# A number is the KiB of machine stack that `stack`, where it is named after it, gives each call; else it gives 320.
 set -e
 out=target/bench
 mkdir -p $out
 books="hospital bank-2 bank-4 bank-8 bank-16 bank-31 alike chain chain-refused"
+limits="lines full full-uncelled full-narrow"
+kib=320
 
 make() {
     name=$1
@@ -15,9 +18,9 @@ make() {
 
 # the grammar book and the table book of each name
 pairs() {
-    cp examples/hospital.grammar examples/hospital.tables $out
+    cp examples/d.grammar examples/d.tables examples/hospital.grammar examples/hospital.tables $out
     python3 tools/bench_tables.py $out > $out/books
-    for book in $books; do echo $out/$book.grammar $out/$book.tables; done
+    for book in "$@"; do echo $out/$book.grammar $out/$book.tables; done
 }
 
 for what in ${*:-lend stack read check session expected load build}; do
@@ -26,9 +29,16 @@ for what in ${*:-lend stack read check session expected load build}; do
         make $what
         $out/$what
         ;;
-    check | stack)
-        make $what
-        $out/$what $(pairs)
+    check)
+        make check
+        $out/check $(pairs $books)
+        ;;
+    stack)
+        make stack
+        $out/stack $kib $(pairs d $books $limits)
+        ;;
+    [1-9]*)
+        kib=$what
         ;;
     session)
         for grammar in d hospital; do
