@@ -7,7 +7,7 @@ use mathlib.Core.List.{List, [], _∷_, _++_, map}
 use borrow.Author.Tests.{le-leb, lt-ltb}
 use lib.ListN.{length, length-append}
 use Rattle.language.specs.Grammar.{Grammar, concat}
-use Rattle.language.specs.Sentence.{In, here, there}
+use Rattle.language.specs.Sentence.{In, here}
 use Rattle.language.proofs.Member.{in-right}
 use Rattle.language.specs.WellFormed as grammar
 use Rattle.language.specs.Rising.{RisingFrom}

@@ -17,7 +17,7 @@ use Rattle.scans.proofs.TokenLaws.{scans-listed}
 use Rattle.table.specs.Book.{Reading, whole, rejected}
 use Rattle.checker.specs.Checked.{checkedOf}
 use Rattle.walker.specs.declared.Walked.{Walked}
-use Rattle.session.specs.Session.{refusedBy, refusedAt, session, Tells}
+use Rattle.session.specs.Session.{refusedBy, refusedAt, Tells}
 use Rattle.session.specs.Read.{ReadIn, afterRead}
 use Rattle.session.proofs.BookLaws.{too-long, not-long, not-many, books-read}
 use Rattle.scan_session.specs.ScanSession.{firstRefusal, afterScans, scanSession}
