@@ -598,19 +598,6 @@ fn explain_second(out: &mut [u8; OUTPUT], line: u8, n: usize) -> bool {
     true
 }
 
-// Whether the string of an entry line with these numbers is a group.
-fn is_group(items: &[u8], rules: usize, numbers: &[usize], count: usize) -> bool
-    requires { ⌜ (Shaped (now items) rules) × (rules ≤ 127) × (length (now numbers) ≡ 67) ⌝ }
-{
-    if count < 2 {
-        return false;
-    }
-    if 16 < count {
-        return false;
-    }
-    item_groups::first_use(items, rules, rules, &numbers[1..count]) != 0
-}
-
 // The number of the last entry line before `place` whose group that at `place` must follow; 0 where there is none. The first entry line,
 // line 2, binds no other.
 fn find_group(items: &[u8], rules: usize, book: &[u8], place: usize) -> usize
@@ -632,7 +619,7 @@ fn find_group(items: &[u8], rules: usize, book: &[u8], place: usize) -> usize
         };
         at = next;
         if 2 < n {
-            if is_group(items, rules, &numbers, p.count) {
+            if table_entries::use_of(items, rules, rules, &numbers, p.count) != 0 {
                 last = n;
             }
         }

@@ -1,5 +1,5 @@
 // Entry lines of table books, and their strings and states in memory.
-// Inner: for `table_blocks` and the builder.
+// Inner: for `table_blocks`, the builder and `explain_lines`.
 use range::in_range;
 use reply::Kind;
 use reply::Refusal;
@@ -72,7 +72,7 @@ fn all_declared(t: usize, n: usize, numbers: &[usize], count: usize) -> bool
 }
 
 // The first use of the string of the numbers from the second on; 0 where it is no group. A group has 1 to 15 symbols.
-fn use_of(m: &[u8], items: usize, rules: usize, numbers: &[usize], count: usize) -> usize
+pub fn use_of(m: &[u8], items: usize, rules: usize, numbers: &[usize], count: usize) -> usize
     requires { ⌜ Shaped (now m) items ⌝ }
     requires { ⌜ (rules ≤ items) × (rules ≤ 127) × (length (now numbers) ≡ 67) ⌝ }
     ensures { λ r. ⌜ ((g : Grammar) (ns : List ℕ) → RulesIn g (now (m .entry)) rules → Numbers ns count (now (numbers .entry)) → r ≡ firstUse (g .rules) (drop 1 ns)) ⌝ }

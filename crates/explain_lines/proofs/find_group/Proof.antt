@@ -34,11 +34,11 @@ enum-told c = search needs
 returns-2 : tie.Need-returns-2 Inv-loop μ-loop
 returns-2 c = search needs
 
-slice-aggregate-is-group : tie.Need-slice-aggregate-is-group Inv-loop μ-loop
-slice-aggregate-is-group c = search needs
+slice-aggregate-use-of : tie.Need-slice-aggregate-use-of Inv-loop μ-loop
+slice-aggregate-use-of c = search needs
 
-is-group-requires : tie.Need-is-group-requires Inv-loop μ-loop
-is-group-requires c κs = search needs
+use-of-requires : tie.Need-use-of-requires Inv-loop μ-loop
+use-of-requires c κs = search needs
 
 add-n : tie.Need-add-n Inv-loop μ-loop
 add-n c = search needs
@@ -66,8 +66,8 @@ find-group-spec =
     enum-known-p
     enum-told
     returns-2
-    slice-aggregate-is-group
-    is-group-requires
+    slice-aggregate-use-of
+    use-of-requires
     add-n
     loop-less
     loop-again
