@@ -4,9 +4,9 @@ use native.Mathlib.Omega.{arith}
 use mathlib.Core.Path.{_≡_, refl, sym, ap, subst, _∙_}
 use mathlib.Core.Logic.{_⊎_, inl, inr}
 use mathlib.Core.List.{List, [], _∷_, _++_, append-assoc, append-nil}
-use lib.ListN.{length, drop}
+use lib.ListN.{length}
 use Rattle.language.specs.Grammar.{Grammar, Rule}
-use Rattle.language.specs.Sentence.{In, here, there}
+use Rattle.language.specs.Sentence.{In, here}
 use Rattle.language.proofs.Member.{in-left, in-right}
 use Rattle.table_order.specs.Order.{groupsIn, useFrom, firstUse, useKey}
 use Rattle.table_order.proofs.OrderLaws.{Below, Above, RisingBy, rising-on}
