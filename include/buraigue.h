@@ -51,21 +51,21 @@ uint64_t buraigue_read_grammar(const uint8_t *book, size_t book_length, uint8_t 
 /* Reads a scan file with the house letters into its tokens; *place is how many there are. Machine stack: 16 KiB. */
 uint64_t buraigue_read_scans(const uint8_t *file, size_t file_length, uint8_t *tokens, size_t tokens_length, uint64_t *place);
 
-/* Checks a table book against its grammar book, whoever built it. Machine stack: 320 KiB. */
+/* Checks a table book against its grammar book, whoever built it. Machine stack: 256 KiB. */
 uint64_t buraigue_check_tables(const uint8_t *grammar, size_t grammar_length, const uint8_t *book, size_t book_length, uint64_t *place);
 
-/* Builds the table book of a grammar book; *size is how many bytes of the slice it takes. Machine stack: 320 KiB. */
+/* Builds the table book of a grammar book; *size is how many bytes of the slice it takes. Machine stack: 272 KiB. */
 uint64_t buraigue_build_tables(const uint8_t *grammar, size_t grammar_length, uint8_t *book, size_t book_length, uint64_t *place,
                                uint64_t *size);
 
 /* Checks both books, then walks the tokens, 1 to t each, at most 65,535: the rules that it announces stand in listing, *rules counts them
    and *units those that count a unit; stack is zeros after. How much stack and listing a session needs depends on the grammar: the program
-   run_session lends 1,048,576 of each. Where they are too short the reply is BURAIGUE_BUFFER_TOO_SMALL. Machine stack: 320 KiB. */
+   run_session lends 1,048,576 of each. Where they are too short the reply is BURAIGUE_BUFFER_TOO_SMALL. Machine stack: 272 KiB. */
 uint64_t buraigue_run_session(const uint8_t *grammar, size_t grammar_length, const uint8_t *tables, size_t tables_length,
                               const uint8_t *tokens, size_t tokens_length, uint8_t *stack, size_t stack_length, uint8_t *listing,
                               size_t listing_length, uint64_t *place, uint64_t *rules, uint64_t *units);
 
-/* The same over a scan file with the house letters. Machine stack: 320 KiB. */
+/* The same over a scan file with the house letters. Machine stack: 272 KiB. */
 uint64_t buraigue_run_scans(const uint8_t *grammar, size_t grammar_length, const uint8_t *tables, size_t tables_length,
                             const uint8_t *file, size_t file_length, uint8_t *stack, size_t stack_length, uint8_t *listing,
                             size_t listing_length, uint64_t *place, uint64_t *rules, uint64_t *units);
@@ -74,7 +74,7 @@ uint64_t buraigue_run_scans(const uint8_t *grammar, size_t grammar_length, const
    stand there, in rising order: 0 where the tokens before the place are a sentence already, and each terminal that after them begins one.
    The reply is then 0 at that place, and *count codes stand in codes, of which BURAIGUE_CODES are always enough; 0 is a code and the
    filling too, so look at *count. Where a code's trial outgrows stack or listing, or the list its slice, the reply is
-   BURAIGUE_BUFFER_TOO_SMALL at the place. Every other reply is the session's. stack and listing are zeros after. Machine stack: 320 KiB. */
+   BURAIGUE_BUFFER_TOO_SMALL at the place. Every other reply is the session's. stack and listing are zeros after. Machine stack: 272 KiB. */
 uint64_t buraigue_list_expected(const uint8_t *grammar, size_t grammar_length, const uint8_t *tables, size_t tables_length,
                                 const uint8_t *tokens, size_t tokens_length, uint8_t *stack, size_t stack_length, uint8_t *listing,
                                 size_t listing_length, uint8_t *codes, size_t codes_length, uint64_t *place, uint64_t *count);

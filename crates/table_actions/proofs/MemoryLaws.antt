@@ -12,8 +12,6 @@ use Rattle.memory.specs.Memory.{kindOf, valueOf}
 use Rattle.table_order.specs.Order.{follows, actionKey}
 use Rattle.table_order.proofs.OrderLaws.{follows-all, rising-more}
 use Rattle.table_order.proofs.LastLaws.{last-more}
-use Rattle.table_lines.specs.declared.Block.{Block}
-use Rattle.table_lines.specs.Block.{Lines, Reads, all-read, turned-away}
 use Rattle.table_lines.specs.Image.{image, flag}
 use Rattle.table_lines.proofs.ImageLaws.{image-set, image-same}
 use Rattle.table_actions.specs.Memory.{cellAt, gotoAt, names, isNamed, Formed, Cells, Stored, ActionImage, ActionMemory}
@@ -154,12 +152,6 @@ pair-stored (x ∷ y ∷ z ∷ m) q X e = absurd (omega (arith, e))
 
 pub pair-by : {q r X Y : ℕ} → q ≡ r → X ≡ Y → q ∷ X ∷ [] ≡ r ∷ Y ∷ []
 pair-by a b = cc
-
--- without the last key
-pub image-reads : {e : ℕ → Bool} {a b c d : ℕ} {kinds values gotos named last : List ℕ} {all : Lines ActionLine} {r : Block}
-    → Reads (λ l. ActionMemory e a b c d l kinds values gotos named last) all r → Reads (λ l. ActionImage e a b c d l kinds values gotos named) all r
-image-reads (all-read h) = all-read (h .held)
-image-reads turned-away = turned-away
 
 -- without action lines, the states of entries are named
 pub none-named : (e : ℕ → Bool) (n : ℕ) → image n (λ q. flag (e q)) ≡ image n (λ q. flag (e q || isNamed [] q))

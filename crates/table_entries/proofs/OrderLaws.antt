@@ -18,8 +18,6 @@ use Rattle.items.specs.Layout.{entryRows}
 use Rattle.table_order.specs.Order.{follows, groupsIn, firstUse, isGroup, groupLines, useKey, entryFollows}
 use Rattle.table_order.proofs.UseLaws.{use-none, group-rule, groups-++}
 use Rattle.item_groups.proofs.StringLaws.{same-long}
-use Rattle.table_lines.specs.declared.Block.{Block}
-use Rattle.table_lines.specs.Block.{Lines, Reads, all-read, turned-away}
 use Rattle.table_entries.specs.Memory.{stringsOf, withEntries, RulesIn, useOfLast, lastUse, EntryMemory}
 use Rattle.table_entries.proofs.CapLaws.{SmallGroups, all-low}
 use Rattle.table_entries.proofs.MemoryLaws.{row-kept}
@@ -121,8 +119,3 @@ rules-kept {g} {m} {rules} l h = record {
 pub rules-held : {g : Grammar} {m : List ℕ} {rules a b : ℕ} {l : List EntryLine} {items states named : List ℕ} → EntryMemory m rules a b l items states named → RulesIn g m rules
     → RulesIn g items rules
 rules-held {g} {rules = rules} {l = l} h r = subst (λ (x : List ℕ). RulesIn g x rules) (sym (h .items-are)) (rules-kept l r)
-
--- what the code has read, when less is told of memory
-pub reads-less : {A : Type 0} {M N : List A → Type 0} {all : Lines A} {r : Block} → ((l : List A) → M l → N l) → Reads M all r → Reads N all r
-reads-less f (all-read {l = l} h) = all-read (f l h)
-reads-less f turned-away = turned-away

@@ -20,14 +20,12 @@ use Rattle.table_lines.specs.declared.Judgement.the-variants.{Fine, Faulty}
 use Rattle.table_lines.specs.declared.Step.{Step}
 use Rattle.table_lines.specs.declared.Step.the-variants as step
 use Rattle.table_lines.specs.Line.{whole, broken, lineAt, allAtMost, rising, capped}
-use Rattle.table_lines.specs.declared.Block.{Block}
-use Rattle.table_lines.specs.Block.{takes, fault, stepOf, Comes, stopped, turned, Lines, Reads, all-read, turned-away}
+use Rattle.table_lines.specs.Block.{takes, fault, stepOf, Comes, stopped, turned}
 use Rattle.table_lines.proofs.BlockLaws.{judge-fine}
 use Rattle.table_lines.proofs.CapLaws.{at-most}
 use Rattle.table_lines.proofs.TallyLaws.{rising-short}
 use Rattle.table_lines.proofs.HeldLaws.{numbersOf}
 use Rattle.table_kernels.specs.Kernels.{judgeWith, judgeKernel, noKernel, kernelNext}
-use Rattle.table_kernels.specs.Memory.{KernelImage, KernelMemory}
 use Rattle.table_kernels.proofs.CapLaws.{kernel-capped}
 
 pub none-first : (at : ℕ) (l : List KernelLine) → length l ≡ 0 → step.Refused (record { kind = kind.Malformed; place = at }) ≡ stepOf (noKernel at l)
@@ -121,9 +119,3 @@ fine-short {t = t} {ns = ns} h f = omega (arith, rising-short (drop 3 ns) t (f .
 pub code-low : {t states items : ℕ} {lens : ℕ → ℕ} {l : List KernelLine} {ns : List ℕ} → t ≤ 63 → KernelFine t states items lens l ns → (k : ℕ) → 3 ≤ k → getD ns k 0 < 64
 code-low {t = t} {ns = ns} h f k l =
     omega (arith, at-most t (drop 3 ns) (f .codes-in) (k - 3), getD-drop 3 ns (k - 3) 0, ap (λ (n : ℕ). getD ns n 0) (let e : 3 + (k - 3) ≡ k = omega arith in e), h)
-
--- without the last key
-pub image-reads : {a b : ℕ} {kernels lookaheads last : List ℕ} {all : Lines KernelLine} {r : Block} → Reads (λ l. KernelMemory a b l kernels lookaheads last) all r
-    → Reads (λ l. KernelImage a b l kernels lookaheads) all r
-image-reads (all-read h) = all-read (h .held)
-image-reads turned-away = turned-away

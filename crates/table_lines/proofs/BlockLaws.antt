@@ -132,3 +132,8 @@ module _ {A : Type 0} {all : Lines A} {next : ℕ → List A → Outcome A} {lef
 
     pub loop-refuse : {K : List A → Type 0} {w : Refusal} → r ≡ step.Refused w → Reads K all (block.Refused w)
     loop-refuse e = rw (lines-refuse (g .reading) h (comes-refused (step-is (g .lines) (g .count-is) (g .memory)) e)) turned-away
+
+-- what the code has read, when less is told of memory
+pub reads-less : {A : Type 0} {M N : List A → Type 0} {all : Lines A} {r : Block} → ((l : List A) → M l → N l) → Reads M all r → Reads N all r
+reads-less f (all-read {l = l} h) = all-read (f l h)
+reads-less f turned-away = turned-away

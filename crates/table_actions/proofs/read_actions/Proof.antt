@@ -1,5 +1,5 @@
 -- `table_actions::read_actions` meets its contract. Assumes nothing.
-use Rattle.table_actions.proofs.MemoryLaws.{image-reads}
+use Rattle.table_lines.proofs.BlockLaws.{reads-less}
 use Rattle.table_order.proofs.LastLaws.{last-none, zeros-low}
 use lib.ListN.{length-replicate}
 use mathlib.Core.Path.{sym}
@@ -30,7 +30,7 @@ same-length-4 : tie.Need-same-length-4
 same-length-4 c = search needs
 
 returns : tie.Need-returns
-returns c = λ e q. image-reads (c .before .before .before .before .before .before .before .before .before .read-rising .ensures e q)
+returns c = λ e q. reads-less (λ l h. h .held) (c .before .before .before .before .before .before .before .before .before .read-rising .ensures e q)
 
 pub read-actions-spec : {M : Type 1} → statement M
 read-actions-spec =

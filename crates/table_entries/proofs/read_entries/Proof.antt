@@ -2,8 +2,8 @@
 use Rattle.language.specs.Grammar.{Grammar}
 use Rattle.table_entries.specs.Memory.{RulesIn, lastUse, EntryMemory}
 use Rattle.table_entries.specs.Entries.{entryNext, entriesFrom}
-use Rattle.table_entries.proofs.OrderLaws.{rules-held, reads-less}
-use Rattle.table_lines.proofs.BlockLaws.{Loop, lines-start, loop-end, loop-take, loop-stop, loop-refuse}
+use Rattle.table_entries.proofs.OrderLaws.{rules-held}
+use Rattle.table_lines.proofs.BlockLaws.{reads-less, Loop, lines-start, loop-end, loop-take, loop-stop, loop-refuse}
 use mathlib.Core.List.{[], _∷_}
 use mathlib.Core.Path.{_≡_, refl}
 use Prim.Native.Nat.{ℕ, _≤_, _-_}

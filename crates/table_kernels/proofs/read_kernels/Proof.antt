@@ -1,5 +1,5 @@
 -- `table_kernels::read_kernels` meets its contract. Assumes nothing.
-use Rattle.table_kernels.proofs.NextLaws.{image-reads}
+use Rattle.table_lines.proofs.BlockLaws.{reads-less}
 use Rattle.table_order.proofs.LastLaws.{last-none, zeros-low}
 use lib.ListN.{length-replicate}
 use mathlib.Core.Path.{sym}
@@ -23,7 +23,7 @@ same-length-2 : tie.Need-same-length-2
 same-length-2 c = c .before .before .before .before .before .read-rising .kept .1 .1 .1 .1 .1 .1 .1 .0
 
 returns : tie.Need-returns
-returns c = image-reads (c .before .before .before .before .before .read-rising .ensures)
+returns c = reads-less (λ l h. h .held) (c .before .before .before .before .before .read-rising .ensures)
 
 pub read-kernels-spec : {M : Type 1} → statement M
 read-kernels-spec =
