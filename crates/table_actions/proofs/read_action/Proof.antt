@@ -108,15 +108,18 @@ same-length-6 c = search needs
 
 returns-4 : tie.Need-returns-4
 returns-4 c = λ e a b d g l n h.
-    let p = c .before .before .before .before .before .before .before .before .before .before .before .before .before .before .before .before .before .before .before .before .before .before .before .before .before .before .before .before .before .before .before .before .before .before .before .pre .0 in
-    let w = line-read (c .before .before .before .before .before .before .before .before .before .before .before .before .before .before .before .before .before .before .before .before .before .before) in
-    let j = sym (c .before .before .before .before .before .before .before .before .before .before .before .before .before .before .before .before .before .before .before .judge-action .ensures l (w .numbers) n (h .last-is) (w .held)) ∙ c .before .before .before .before .before .before .before .before .before .before .before .before .before .before .before .before .before .enum-told2 .given .1 in
+    let at-store = c .before .before .before .before .before .before .before .before .before .before .before .before in
+    let at-judged = at-store .before .before .before .before .before in
+    let at-read = at-judged .before .before .before .before .before in
+    let p = at-read .before .before .before .before .before .before .before .before .before .before .before .before .before .pre .0 in
+    let w = line-read at-read in
+    let j = sym (at-judged .before .before .judge-action .ensures l (w .numbers) n (h .last-is) (w .held)) ∙ at-judged .enum-told2 .given .1 in
     let f = action-fine _ _ _ _ l _ (w .numbers) j in
     let n0 = sym (held-at (w .held) 0 (omega (arith, f .three)) (search needs)) in
     let n1 = sym (held-at (w .held) 1 (omega (arith, f .three)) (search needs)) in
     let n2 = sym (held-at (w .held) 2 (omega (arith, f .three)) (search needs)) in
-    rw (action-kept _ _ _ _ _ _ l (c .before .before .before .before .before .before .before .before .before .before .before .before .before .before .before .before .before .before .before .before .before .before .before .before .before .before .before .before .if1 .left) (h .last-is) (w .line-is) j)
-    (taken (action-more h _ _ _ _ _ _ _ (f .after) (fine-formed _ _ _ _ (p .1) (p .2) (p .3) (p .4) (w .numbers) f) (rw (n0, n1, n2) at (c .before .before .before .before .before .before .before .before .before .before .before .before .store-action .ensures))
+    rw (action-kept _ _ _ _ _ _ l (at-read .before .before .before .before .before .before .if1 .left) (h .last-is) (w .line-is) j)
+    (taken (action-more h _ _ _ _ _ _ _ (f .after) (fine-formed _ _ _ _ (p .1) (p .2) (p .3) (p .4) (w .numbers) f) (rw (n0, n1, n2) at (at-store .store-action .ensures))
     (c .before .before .keep-pair .ensures ∙ pair-by n0 n1) (key-small (w .numbers) (f .small))))
 
 pub read-action-spec : {M : Type 1} → statement M
