@@ -3,7 +3,6 @@ use Prim.Native.Nat.{ℕ, _+_, _<_, _≤_}
 use mathlib.Core.Path.{_≡_, refl, sym, subst}
 use mathlib.Core.Bool.{Bool, true, false, cond}
 use mathlib.Core.List.{List, [], _∷_}
-use native.Mathlib.Omega.{arith}
 use lib.ListN.{length, getD, drop}
 use Rattle.range.specs.Range.{within}
 use Rattle.text.specs.declared.Cursor.{Cursor}
@@ -15,10 +14,6 @@ use Rattle.text.specs.declared.Field.the-variants as field
 use Rattle.text.specs.Field.{classOf, endOf, addDigit, closed, digitsFrom, padded, byClass, fieldOf}
 use Rattle.text.proofs.Bytes.{here, past}
 use Rattle.text.proofs.ClassLaws.{class-digit, no-digit, outside}
-
-pub capped : (v b : ℕ) → addDigit v b ≤ 65536
-unfolding addDigit
-capped v b = omega arith
 
 module _ (s : List ℕ) (i v : ℕ) where
   pub none-left : length s ≤ i → digitsFrom (drop i s) i v ≡ field.Broken

@@ -2,10 +2,12 @@
 // Inner: for the readers of lines.
 use range::in_range;
 ghost use mathlib.Core.Path.{_≡_};
-ghost use Prim.Native.Nat.{_≤_, _<_};
+ghost use Prim.Native.Nat.{_≤_, _<_, _+_, _*_};
 ghost use lib.ListN.{length, drop};
+ghost use lib.Dec.{leb};
 ghost use Rattle.text.specs.Field.{classOf, endOf, addDigit, closed, digitsFrom, padded, fieldAt};
 ghost use Rattle.text.specs.Sign.{signOf};
+ghost use Rattle.text.specs.Sum.{numberOf};
 
 // A place in a line: the next byte, and whether the line's LF has been passed.
 pub struct Cursor {
@@ -33,6 +35,12 @@ pub enum Field {
     Mark(u8, Cursor),
     Letter(u8, Cursor),
     Broken,
+}
+
+// A number as far as its digits are read, in 16 bits, or that it is above 65,535 and stays so.
+enum Sum {
+    Value(u16),
+    Above,
 }
 
 fn classify(b: u8) -> Class
@@ -75,25 +83,42 @@ fn wide(b: u8) -> usize
     b as usize
 }
 
-// A number of which v is read, with one digit more.
-fn add_digit(v: usize, b: u8) -> usize
-    requires { ⌜ (v ≤ 65536) × (48 ≤ b) ⌝ }
-    ensures { λ r. ⌜ r ≡ addDigit v b ⌝ }
+// Whether v with the digit d behind it is at most 65,535, which is 6,553 with a 5 behind it.
+fn fits(v: u16, d: u16) -> bool
+    requires { ⌜ d ≤ 9 ⌝ }
+    ensures { λ r. ⌜ r ≡ leb (v * 10 + d) 65535 ⌝ }
 {
-    let w = v * 10 + (wide(b) - 48);
-    if w < 65536 {
-        return w;
+    if v == 6553 {
+        return d <= 5;
     }
-    65536
+    v < 6553
 }
 
-fn number(v: usize, e: End) -> Field
-    ensures { λ r. ⌜ r ≡ closed (Field.Number v) e ⌝ }
+// A number with one digit more.
+fn add_digit(n: Sum, b: u8) -> Sum
+    requires { ⌜ (48 ≤ b) × (b ≤ 57) ⌝ }
+    ensures { λ r. ⌜ numberOf r ≡ addDigit (numberOf n) b ⌝ }
+{
+    let Sum::Value(v) = n else {
+        return Sum::Above;
+    };
+    let d = (b - 48) as u16;
+    if fits(v, d) {
+        return Sum::Value(v * 10 + d);
+    }
+    Sum::Above
+}
+
+fn number(n: Sum, e: End) -> Field
+    ensures { λ r. ⌜ r ≡ closed (Field.Number (numberOf n)) e ⌝ }
 {
     let End::Past(c) = e else {
         return Field::Broken;
     };
-    Field::Number(v, c)
+    let Sum::Value(v) = n else {
+        return Field::Number(65536, c);
+    };
+    Field::Number(v as usize, c)
 }
 
 // A letter or a mark, of class k. One end for both keeps `read_field` small enough to be compiled into the loops over fields.
@@ -109,19 +134,18 @@ fn sign(k: Class, b: u8, e: End) -> Field
     Field::Letter(b, c)
 }
 
-// A number of which `first` is read, from `at` on.
-fn digits(s: &[u8], at: usize, first: usize) -> Field
-    requires { ⌜ first ≤ 65536 ⌝ }
-    ensures { λ r. ⌜ r ≡ digitsFrom (drop at (now (s .entry))) at first ⌝ }
+// The number at `at`.
+fn digits(s: &[u8], at: usize) -> Field
+    ensures { λ r. ⌜ r ≡ digitsFrom (drop at (now (s .entry))) at 0 ⌝ }
 {
-    let mut v = first;
+    let mut n = Sum::Value(0);
     let mut i = at;
     while i < s.len() {
         let b = s[i];
         if !in_range(48, wide(b), 57) {
-            return number(v, end_at(s, i));
+            return number(n, end_at(s, i));
         }
-        v = add_digit(v, b);
+        n = add_digit(n, b);
         i += 1;
     }
     Field::Broken
@@ -160,7 +184,7 @@ pub fn read_field(s: &[u8], c: Cursor) -> Field
             if is_padded(s, at) {
                 return Field::Broken;
             }
-            digits(s, at, 0)
+            digits(s, at)
         }
         Class::Other => Field::Broken,
         _ => sign(k, b, end_at(s, at + 1)),

@@ -1,25 +1,26 @@
--- `text::digits` meets its contract. The loop's invariant: the number from the start on is the number from here on, with v read. Assumes nothing.
-use Prim.Native.Nat.{ℕ, _+_, _≤_, _-_}
+-- `text::digits` meets its contract. The loop's invariant: the number from the start on is the number from here on, with n read. Assumes nothing.
+use Prim.Native.Nat.{ℕ, _+_, _-_}
 use denote.Ref.{now}
 use mathlib.Core.Path.{_≡_, sym, ap, _∙_}
 use native.Mathlib.Omega.{arith}
 use borrow.Author.Needs.{needs}
 use borrow.Author.Tests.{not-true, not-false}
-use lib.ListN.{length, drop, getD}
+use lib.ListN.{length, drop}
 use Rattle.range.specs.Range.{within}
 use Rattle.range.proofs.RangeLaws.{within-true}
 use Rattle.text.specs.declared.Field.the-variants as field
 use Rattle.text.specs.Field.{digitsFrom, closed}
+use Rattle.text.specs.Sum.{numberOf}
 use Rattle.text.proofs.ClassLaws.{outside}
-use Rattle.text.proofs.NumberLaws.{capped, one-more, no-more, none-left}
+use Rattle.text.proofs.NumberLaws.{one-more, no-more, none-left}
 use Rattle.text.proofs.digits.Statement.{statement}
 use Rattle.text.proofs.digits.Tie as tie
 
 abbrev Inv-loop : tie.InvT-loop
-Inv-loop s at first v₀ i₀ v i = (v ≤ 65536) × (digitsFrom (drop at s) at first ≡ digitsFrom (drop i s) i v)
+Inv-loop s at n₀ i₀ n i = digitsFrom (drop at s) at 0 ≡ digitsFrom (drop i s) i (numberOf n)
 
 abbrev μ-loop : tie.MeasureT-loop
-μ-loop s at first v₀ i₀ v i = length s - i
+μ-loop s at n₀ i₀ n i = length s - i
 
 loop-holds : tie.Need-loop-holds Inv-loop μ-loop
 loop-holds c = search needs
@@ -47,15 +48,17 @@ returns c =
     let a = at-loop-test .before .before .before .args in
     let l = at-loop-test .before .loop in
     c .number .ensures
-    ∙ ap (closed (field.Number (l .v))) (c .before .end-at .ensures)
-    ∙ sym (no-more (now (a .s)) (l .i) (l .v) (at-loop-test .loop-test .taken)
+    ∙ ap (closed (field.Number (numberOf (l .n)))) (c .before .end-at .ensures)
+    ∙ sym (no-more (now (a .s)) (l .i) (numberOf (l .n)) (at-loop-test .loop-test .taken)
     (outside _ (ap (λ (n : ℕ). within 48 n 57) (sym (at-wide .wide .ensures .0)) ∙ sym (at-if1 .before .in-range .ensures) ∙ not-true _ (at-if1 .if1 .taken))))
-    ∙ sym (l .inv .1)
+    ∙ sym (l .inv)
 
 add-digit-requires : tie.Need-add-digit-requires Inv-loop μ-loop
 add-digit-requires c κs =
     let at-in-range = c .before in
-    (search needs, omega (arith, within-true 48 _ 57 (sym (at-in-range .in-range .ensures) ∙ not-false _ (c .if1 .left)) .0, at-in-range .before .wide .ensures .0))
+    let r = within-true 48 _ 57 (sym (at-in-range .in-range .ensures) ∙ not-false _ (c .if1 .left)) in
+    let w = at-in-range .before .wide .ensures .0 in
+    (omega (arith, r .0, w), omega (arith, r .1, w))
 
 add-i : tie.Need-add-i Inv-loop μ-loop
 add-i c = search needs
@@ -72,18 +75,16 @@ loop-again c =
     let l = at-loop-test .before .loop in
     let e = c .add-digit .ensures in
     let r = within-true 48 _ 57 (sym (at-if1 .before .in-range .ensures) ∙ not-false _ (at-if1 .if1 .left)) in
-    let w = at-wide .wide .ensures .0 in (
-      omega (arith, capped (l .v) (getD (now (a .s)) (l .i) 0)),
-      l .inv .1
-          ∙ one-more (now (a .s)) (l .i) (l .v) (at-loop-test .loop-test .taken) (omega (arith, r .0, w)) (omega (arith, r .1, w))
-          ∙ ap (digitsFrom (drop (l .i + 1) (now (a .s))) (l .i + 1)) (sym e),
-    )
+    let w = at-wide .wide .ensures .0 in
+    l .inv
+    ∙ one-more (now (a .s)) (l .i) (numberOf (l .n)) (at-loop-test .loop-test .taken) (omega (arith, r .0, w)) (omega (arith, r .1, w))
+    ∙ ap (digitsFrom (drop (l .i + 1) (now (a .s))) (l .i + 1)) (sym e)
 
 returns-2 : tie.Need-returns-2 Inv-loop μ-loop
 returns-2 c =
     let a = c .before .before .before .args in
     let l = c .before .loop in
-    sym (l .inv .1 ∙ none-left (now (a .s)) (l .i) (l .v) (c .loop-test .left))
+    sym (l .inv ∙ none-left (now (a .s)) (l .i) (numberOf (l .n)) (c .loop-test .left))
 
 pub digits-spec : {M : Type 1} → statement M
 digits-spec =

@@ -1,0 +1,9 @@
+-- What the digits read so far come to, as the code has it in 16 bits. Nothing here need be believed: `addDigit` in Field says what a
+-- number is.
+use Prim.Native.Nat.{ℕ}
+use Rattle.text.specs.declared.Sum.{Sum}
+use Rattle.text.specs.declared.Sum.the-variants as sum
+
+abbrev pub numberOf : Sum → ℕ
+numberOf (sum.Value v) = v
+numberOf sum.Above = 65536
