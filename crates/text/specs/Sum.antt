@@ -4,6 +4,6 @@ use Prim.Native.Nat.{ℕ}
 use Rattle.text.specs.declared.Sum.{Sum}
 use Rattle.text.specs.declared.Sum.the-variants as sum
 
-abbrev pub numberOf : Sum → ℕ
-numberOf (sum.Value v) = v
-numberOf sum.Above = 65536
+abbrev pub summed : Sum → ℕ
+summed (sum.Value v) = v
+summed sum.Above = 65536

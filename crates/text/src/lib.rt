@@ -7,7 +7,7 @@ ghost use lib.ListN.{length, drop};
 ghost use lib.Dec.{leb};
 ghost use Rattle.text.specs.Field.{classOf, endOf, addDigit, closed, digitsFrom, padded, fieldAt};
 ghost use Rattle.text.specs.Sign.{signOf};
-ghost use Rattle.text.specs.Sum.{numberOf};
+ghost use Rattle.text.specs.Sum.{summed};
 
 // A place in a line: the next byte, and whether the line's LF has been passed.
 pub struct Cursor {
@@ -97,7 +97,7 @@ fn fits(v: u16, d: u16) -> bool
 // A number with one digit more.
 fn add_digit(n: Sum, b: u8) -> Sum
     requires { ⌜ (48 ≤ b) × (b ≤ 57) ⌝ }
-    ensures { λ r. ⌜ numberOf r ≡ addDigit (numberOf n) b ⌝ }
+    ensures { λ r. ⌜ summed r ≡ addDigit (summed n) b ⌝ }
 {
     let Sum::Value(v) = n else {
         return Sum::Above;
@@ -110,7 +110,7 @@ fn add_digit(n: Sum, b: u8) -> Sum
 }
 
 fn number(n: Sum, e: End) -> Field
-    ensures { λ r. ⌜ r ≡ closed (Field.Number (numberOf n)) e ⌝ }
+    ensures { λ r. ⌜ r ≡ closed (Field.Number (summed n)) e ⌝ }
 {
     let End::Past(c) = e else {
         return Field::Broken;

@@ -10,14 +10,14 @@ use Rattle.range.specs.Range.{within}
 use Rattle.range.proofs.RangeLaws.{within-true}
 use Rattle.text.specs.declared.Field.the-variants as field
 use Rattle.text.specs.Field.{digitsFrom, closed}
-use Rattle.text.specs.Sum.{numberOf}
+use Rattle.text.specs.Sum.{summed}
 use Rattle.text.proofs.ClassLaws.{outside}
 use Rattle.text.proofs.NumberLaws.{one-more, no-more, none-left}
 use Rattle.text.proofs.digits.Statement.{statement}
 use Rattle.text.proofs.digits.Tie as tie
 
 abbrev Inv-loop : tie.InvT-loop
-Inv-loop s at n₀ i₀ n i = digitsFrom (drop at s) at 0 ≡ digitsFrom (drop i s) i (numberOf n)
+Inv-loop s at n₀ i₀ n i = digitsFrom (drop at s) at 0 ≡ digitsFrom (drop i s) i (summed n)
 
 abbrev μ-loop : tie.MeasureT-loop
 μ-loop s at n₀ i₀ n i = length s - i
@@ -48,8 +48,8 @@ returns c =
     let a = at-loop-test .before .before .before .args in
     let l = at-loop-test .before .loop in
     c .number .ensures
-    ∙ ap (closed (field.Number (numberOf (l .n)))) (c .before .end-at .ensures)
-    ∙ sym (no-more (now (a .s)) (l .i) (numberOf (l .n)) (at-loop-test .loop-test .taken)
+    ∙ ap (closed (field.Number (summed (l .n)))) (c .before .end-at .ensures)
+    ∙ sym (no-more (now (a .s)) (l .i) (summed (l .n)) (at-loop-test .loop-test .taken)
     (outside _ (ap (λ (n : ℕ). within 48 n 57) (sym (at-wide .wide .ensures .0)) ∙ sym (at-if1 .before .in-range .ensures) ∙ not-true _ (at-if1 .if1 .taken))))
     ∙ sym (l .inv)
 
@@ -77,14 +77,14 @@ loop-again c =
     let r = within-true 48 _ 57 (sym (at-if1 .before .in-range .ensures) ∙ not-false _ (at-if1 .if1 .left)) in
     let w = at-wide .wide .ensures .0 in
     l .inv
-    ∙ one-more (now (a .s)) (l .i) (numberOf (l .n)) (at-loop-test .loop-test .taken) (omega (arith, r .0, w)) (omega (arith, r .1, w))
+    ∙ one-more (now (a .s)) (l .i) (summed (l .n)) (at-loop-test .loop-test .taken) (omega (arith, r .0, w)) (omega (arith, r .1, w))
     ∙ ap (digitsFrom (drop (l .i + 1) (now (a .s))) (l .i + 1)) (sym e)
 
 returns-2 : tie.Need-returns-2 Inv-loop μ-loop
 returns-2 c =
     let a = c .before .before .before .args in
     let l = c .before .loop in
-    sym (l .inv ∙ none-left (now (a .s)) (l .i) (numberOf (l .n)) (c .loop-test .left))
+    sym (l .inv ∙ none-left (now (a .s)) (l .i) (summed (l .n)) (c .loop-test .left))
 
 pub digits-spec : {M : Type 1} → statement M
 digits-spec =
