@@ -1,5 +1,5 @@
--- What the digits read so far come to, as the code has it in 16 bits. Nothing here need be believed: `addDigit` in Field says what a
--- number is.
+-- What the digits read so far come to. Document 02, S-6: "Use a 16-bit number inside, testing before each step. No reply differs for
+-- any field, however long." Nothing here need be believed: `addDigit` in Field says, in whole numbers, what a digit more makes.
 use Prim.Native.Nat.{ℕ}
 use Rattle.text.specs.declared.Sum.{Sum}
 use Rattle.text.specs.declared.Sum.the-variants as sum

@@ -37,7 +37,7 @@ pub enum Field {
     Broken,
 }
 
-// A number as far as its digits are read, in 16 bits, or that it is above 65,535 and stays so.
+// A number as far as its digits are read: their sum, in 16 bits, or that it is above 65,535, and stays so.
 enum Sum {
     Value(u16),
     Above,
