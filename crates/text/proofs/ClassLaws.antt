@@ -23,9 +23,6 @@ module _ (b : ℕ) where
   unfolding classOf
   class-letter l h = simp (false-within 48 b 57 (λ x y. omega arith), true-within 65 b 90 l h)
 
-  pub not-slash : (OneOf (47 ∷ 94 ∷ []) b → ⊥) → 47 ≤ b → 48 ≤ b
-  not-slash m l = let f : b ≡ 47 → ⊥ = λ e. m (inl e) in omega arith
-
   pub class-mark : OneOf (47 ∷ 94 ∷ []) b → classOf b ≡ class.Mark
   unfolding classOf
   class-mark o = rw (false-within 48 b 57 not-digit, false-within 65 b 90 not-letter) (⊎-elim (λ e. simp (eq-eqb b 47 e)) (λ e. simp (ne-eqb b 47 (λ q. omega arith), eq-eqb b 94 e)) o)
@@ -73,6 +70,6 @@ digit-range b e = subst (λ (k : Class). InClass k b) e (in-class b)
 pub letter-range : (b : ℕ) → classOf b ≡ class.Letter → (65 ≤ b) × (b ≤ 90)
 letter-range b e = subst (λ (k : Class). InClass k b) e (in-class b)
 
--- the test of a digit, where it fails
-pub outside : (b : ℕ) → within 48 b 57 ≡ false → 48 ≤ b → b ≤ 57 → ⊥
-outside b e l h = let z : _≡_ {A = ℕ} 0 1 = cc (sym (true-within 48 b 57 l h) ∙ e) in absurd (omega arith)
+-- the test of a range, where it fails
+pub outside : (least b most : ℕ) → within least b most ≡ false → least ≤ b → b ≤ most → ⊥
+outside least b most e l h = let z : _≡_ {A = ℕ} 0 1 = cc (sym (true-within least b most l h) ∙ e) in absurd (omega arith)

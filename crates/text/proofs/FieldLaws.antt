@@ -1,18 +1,51 @@
 -- A field by the byte that it begins with.
-use Prim.Native.Nat.{ℕ, _+_, _<_, _≤_}
-use mathlib.Core.Path.{_≡_, refl, _∙_}
+use Prim.Native.Nat.{ℕ, _+_, _-_, _<_, _≤_}
+use mathlib.Core.Path.{_≡_, refl, sym, ap, subst}
 use mathlib.Core.List.{List, [], _∷_}
 use mathlib.Core.Bool.{true, false}
-use borrow.Author.Tests.{eq-eqb, ne-eqb}
+use native.Mathlib.Omega.{arith}
+use borrow.Author.Tests.{ne-eqb}
 use lib.ListN.{length, getD, drop}
-use Rattle.range.specs.Range.{within}
 use Rattle.text.specs.declared.Cursor.{Cursor}
 use Rattle.text.specs.declared.Class.{Class}
 use Rattle.text.specs.declared.Class.the-variants as class
+use Rattle.text.specs.declared.End.{End}
+use Rattle.text.specs.declared.End.the-variants.{Past, Missing}
 use Rattle.text.specs.declared.Field.the-variants as field
-use Rattle.text.specs.Field.{classOf, padded, byClass, digitsFrom, fieldAt}
+use Rattle.text.specs.Field.{classOf, endOf, addDigit, closed, digitsFrom, padded, byClass, fieldOf, fieldAt}
+use Rattle.text.specs.Inner.{singleOf}
 use Rattle.text.proofs.Bytes.{here, past}
+use Rattle.text.proofs.ClassLaws.{class-digit, digit-range}
+use Rattle.text.proofs.NumberLaws.{zero-alone}
 
+padded-other : (b : ℕ) (l : List ℕ) → (b ≡ 48 → ⊥) → padded (b ∷ l) ≡ false
+padded-other b [] n = refl
+padded-other b (x ∷ l) n = simp (ne-eqb b 48 n)
+
+-- a first digit that is not 0
+pub first-digit : (b : ℕ) (l : List ℕ) (at : ℕ) → 49 ≤ b → b ≤ 57 → fieldOf (b ∷ l) at ≡ digitsFrom l (at + 1) (b - 48)
+unfolding digitsFrom addDigit
+first-digit b l at low high = simp (class-digit b (omega arith) high, padded-other b l (λ e. omega arith)) (ap (digitsFrom l (at + 1)) (omega arith))
+
+-- every other byte stands alone
+first-alone : (b : ℕ) (l : List ℕ) (at : ℕ) → (49 ≤ b → b ≤ 57 → ⊥) → fieldOf (b ∷ l) at ≡ closed (singleOf (classOf b) b) (endOf l (at + 1))
+first-alone b l at n = go (classOf b) refl
+  where
+    torn : (e : End) → field.Broken ≡ closed (λ c. field.Broken) e
+    torn (Past c) = refl
+    torn Missing = refl
+
+    go : (k : Class) → classOf b ≡ k → byClass k b l at ≡ closed (singleOf k b) (endOf l (at + 1))
+    go class.Digit e =
+        let r = digit-range b e in
+        let f : 49 ≤ b → ⊥ = λ l. n l (r .1) in
+        let z : b ≡ 48 = omega (arith, r .0, f) in
+        subst (λ (x : ℕ). byClass class.Digit x l at ≡ closed (field.Number 0) (endOf l (at + 1))) (sym z) (zero-alone l at)
+    go class.Letter e = refl
+    go class.Mark e = refl
+    go class.Other e = torn (endOf l (at + 1))
+
+-- ---- the field at a cursor
 module _ (s : List ℕ) (c : Cursor) where
   pub line-over : c .ended ≡ true → fieldAt s c ≡ field.Broken
   unfolding fieldAt
@@ -23,29 +56,12 @@ module _ (s : List ℕ) (c : Cursor) where
     unfolding fieldAt
     book-over h = simp (e, past s (c .at) h)
 
-    pub by-first : (h : c .at < length s) (k : Class) → classOf (getD s (c .at) 0) ≡ k → fieldAt s c ≡ byClass k (getD s (c .at) 0) (drop (c .at + 1) s) (c .at)
-    unfolding fieldAt
-    by-first h k q = simp (e, here s (c .at) h, q)
+    module _ (h : c .at < length s) where
+      pub by-digits : 49 ≤ getD s (c .at) 0 → getD s (c .at) 0 ≤ 57 → fieldAt s c ≡ digitsFrom (drop (c .at + 1) s) (c .at + 1) (getD s (c .at) 0 - 48)
+      unfolding fieldAt
+      by-digits l m = rw (e, here s (c .at) h) (first-digit (getD s (c .at) 0) (drop (c .at + 1) s) (c .at) l m)
 
-    module _ (h : c .at < length s) (q : classOf (getD s (c .at) 0) ≡ class.Digit) where
-      pub by-padded : padded (drop (c .at) s) ≡ true → fieldAt s c ≡ field.Broken
-      by-padded z = by-first h class.Digit q ∙ simp (rw (here s (c .at) h) at z)
-
-      pub by-digits : padded (drop (c .at) s) ≡ false → fieldAt s c ≡ digitsFrom (drop (c .at) s) (c .at) 0
-      by-digits z = rw (here s (c .at) h) (by-first h class.Digit q ∙ simp (rw (here s (c .at) h) at z))
-
--- ---- the test of a leading zero
-pub padded-other : (b : ℕ) (l : List ℕ) → (b ≡ 48 → ⊥) → padded (b ∷ l) ≡ false
-padded-other b [] n = refl
-padded-other b (x ∷ l) n = simp (ne-eqb b 48 n)
-
--- at a byte that stands in the book
-module _ (s : List ℕ) (i : ℕ) (h : i < length s) where
-  pub padded-not : (getD s i 0 ≡ 48 → ⊥) → padded (drop i s) ≡ false
-  padded-not n = rw (here s i h) (padded-other (getD s i 0) (drop (i + 1) s) n)
-
-  pub padded-end : length s ≤ i + 1 → padded (drop i s) ≡ false
-  padded-end e = simp (here s i h, past s (i + 1) e)
-
-  pub padded-by : getD s i 0 ≡ 48 → i + 1 < length s → padded (drop i s) ≡ within 48 (getD s (i + 1) 0) 57
-  padded-by z k = simp (here s i h, here s (i + 1) k, eq-eqb (getD s i 0) 48 z)
+      pub by-single : (49 ≤ getD s (c .at) 0 → getD s (c .at) 0 ≤ 57 → ⊥)
+          → fieldAt s c ≡ closed (singleOf (classOf (getD s (c .at) 0)) (getD s (c .at) 0)) (endOf (drop (c .at + 1) s) (c .at + 1))
+      unfolding fieldAt
+      by-single n = rw (e, here s (c .at) h) (first-alone (getD s (c .at) 0) (drop (c .at + 1) s) (c .at) n)

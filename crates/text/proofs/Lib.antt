@@ -3,7 +3,6 @@ pub mod ClassLaws
 pub mod NumberLaws
 pub mod FieldLaws
 pub mod ElseLaws
-pub mod SignLaws
 pub mod OnwardLaws
 pub mod DigitsLaws
 pub mod SpellLaws

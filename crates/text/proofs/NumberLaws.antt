@@ -3,8 +3,11 @@ use Prim.Native.Nat.{ℕ, _+_, _<_, _≤_}
 use mathlib.Core.Path.{_≡_, refl, sym, subst}
 use mathlib.Core.Bool.{Bool, true, false, cond}
 use mathlib.Core.List.{List, [], _∷_}
+use native.Mathlib.Omega.{arith}
+use borrow.Author.Tests.{ne-eqb}
 use lib.ListN.{length, getD, drop}
 use Rattle.range.specs.Range.{within}
+use Rattle.range.proofs.RangeLaws.{within-true}
 use Rattle.text.specs.declared.Cursor.{Cursor}
 use Rattle.text.specs.declared.Class.the-variants as class
 use Rattle.text.specs.declared.End.{End}
@@ -38,19 +41,23 @@ as-digits P torn at b l h = go (padded (b ∷ l))
     go false = h
 
 -- one that begins with `0` is 0, and ends after it, or torn
-module _ (P : Field → Type 0) (torn : P field.Broken) (at : ℕ) where
-  pub zero-field : (l : List ℕ) → ((d : Cursor) → endOf l (at + 1) ≡ Past d → P (field.Number 0 d)) → P (fieldOf (48 ∷ l) at)
-  unfolding digitsFrom addDigit classOf within
-  zero-field [] h = torn
-  zero-field (x ∷ l) h = go (within 48 x 57) refl
-    where
-      ends : (e : End) → endOf (x ∷ l) (at + 1) ≡ e → P (closed (field.Number 0) e)
-      ends (Past d) q = h d q
-      ends Missing q = torn
+pub zero-alone : (l : List ℕ) (at : ℕ) → byClass class.Digit 48 l at ≡ closed (field.Number 0) (endOf l (at + 1))
+unfolding digitsFrom addDigit endOf classOf within
+zero-alone [] at = refl
+zero-alone (x ∷ l) at = go (within 48 x 57) refl
+  where
+    go : (t : Bool) → within 48 x 57 ≡ t → cond t field.Broken (digitsFrom (48 ∷ x ∷ l) at 0) ≡ closed (field.Number 0) (endOf (x ∷ l) (at + 1))
+    go true e = let r = within-true 48 x 57 e in simp (ne-eqb x 44 (λ q. omega (arith, r .0)), ne-eqb x 10 (λ q. omega (arith, r .0)))
+    go false e = no-digit x (outside 48 x 57 e) _ _
 
-      go : (t : Bool) → within 48 x 57 ≡ t → P (cond t field.Broken (digitsFrom (48 ∷ x ∷ l) at 0))
-      go true e = torn
-      go false e = subst P (sym (no-digit x (outside x e) _ _)) (ends (endOf (x ∷ l) (at + 1)) refl)
+pub zero-field : (P : Field → Type 0) → P field.Broken → (at : ℕ) (l : List ℕ) → ((d : Cursor) → endOf l (at + 1) ≡ Past d → P (field.Number 0 d))
+    → P (fieldOf (48 ∷ l) at)
+unfolding classOf within
+zero-field P torn at l h = subst P (sym (zero-alone l at)) (ends (endOf l (at + 1)) refl)
+  where
+    ends : (e : End) → endOf l (at + 1) ≡ e → P (closed (field.Number 0) e)
+    ends (Past d) q = h d q
+    ends Missing q = torn
 
 -- ---- N of a field where it is a number, L where it is a letter, nothing where it is neither
 abbrev pub Of : (ℕ → Cursor → Type 0) → (ℕ → Cursor → Type 0) → Field → Type 0

@@ -22,7 +22,7 @@ use Rattle.text.specs.Field.{classOf, endOf, addDigit, closed, onDigit, 
 use Rattle.text.specs.Promise.{ending, Spelled, NumberPromise}
 use Rattle.text.proofs.ClassLaws.{class-digit, class-letter, digit-range, letter-range}
 use Rattle.text.proofs.DigitsLaws.{digits-one, digits-more}
-use Rattle.text.proofs.FieldLaws.{padded-other}
+use Rattle.text.proofs.FieldLaws.{first-digit}
 use Rattle.text.proofs.NumberLaws.{as-digits, zero-field, Of, of-each, of-closed}
 use Rattle.text.proofs.SpellLaws.{Spells, spells-behind, spells-as, end-spells, spelled}
 
@@ -76,9 +76,9 @@ abbrev FieldSpells : List ℕ → ℕ → Field → Type 0
 FieldSpells l at f = Of (Written l at) (Lettered l at) f
 
 -- a first digit that is not 0
-first-digit : (b : ℕ) (l : List ℕ) (at : ℕ) → 48 ≤ b → b ≤ 57 → (v : ℕ) (d : Cursor) → Grows l (at + 1) (addDigit 0 b) v d → Written (b ∷ l) at v d
+begins : (b : ℕ) (l : List ℕ) (at : ℕ) → 48 ≤ b → b ≤ 57 → (v : ℕ) (d : Cursor) → Grows l (at + 1) (addDigit 0 b) v d → Written (b ∷ l) at v d
 unfolding addDigit
-first-digit b l at low high v d h m =
+begins b l at low high v d h m =
     let g : digits (addDigit 0 b) ≡ b ∷ [] = digits-one (addDigit 0 b) (omega arith) ∙ ap (λ (x : ℕ). x ∷ []) (omega arith) in
     spells-as (ap (λ (w : List ℕ). w ++ l) g) refl (h .1 m at (omega (arith, ap length g)))
 
@@ -88,7 +88,7 @@ class-written class.Digit b l at k z =
     let r = digit-range b k in
     let g = grown 0 b (omega (arith, r .0, z)) in
     as-digits (FieldSpells (b ∷ l) at) tt at b l
-    (simp k (of-each (first-digit b l at (r .0) (r .1)) (λ c d p. p) (digitsFrom l (at + 1) (addDigit 0 b)) (digits-grow (Lettered (b ∷ l) at) l (at + 1) (addDigit 0 b) (g .0) (g .1))))
+    (simp k (of-each (begins b l at (r .0) (r .1)) (λ c d p. p) (digitsFrom l (at + 1) (addDigit 0 b)) (digits-grow (Lettered (b ∷ l) at) l (at + 1) (addDigit 0 b) (g .0) (g .1))))
 class-written class.Letter b l at k z =
     of-closed (Written (b ∷ l) at) (Lettered (b ∷ l) at) (field.Letter b) (endOf l (at + 1))
     (λ d h. (letter-range b k, spells-behind (b ∷ []) (omega arith) (end-spells l (at + 1) h)))
@@ -116,7 +116,7 @@ module _ (l : List ℕ) where
   digit-on b n v w low high m e = simp (class-digit b low high) (ap (digitsFrom l (n + 1)) (omega arith))
 
   one-digit : (at v : ℕ) → 1 ≤ v → v ≤ 9 → fieldOf ((48 + v) ∷ l) at ≡ digitsFrom l (at + 1) v
-  one-digit at v some few = simp (class-digit (48 + v) (omega arith) (omega arith), padded-other (48 + v) l (λ e. omega arith)) (digit-on (48 + v) at 0 v (omega arith) (omega arith) (omega arith) (omega arith))
+  one-digit at v some few = first-digit (48 + v) l at (omega arith) (omega arith) ∙ ap (digitsFrom l (at + 1)) (omega arith)
 
 -- by induction over v / 10; k bounds it
 digits-read : (k v : ℕ) → v ≤ k → 1 ≤ v → v ≤ 65535 → (l : List ℕ) (at : ℕ) → fieldOf (digits v ++ l) at ≡ digitsFrom l (at + length (digits v)) v

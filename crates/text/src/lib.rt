@@ -2,12 +2,12 @@
 // Inner: for the readers of lines.
 use range::in_range;
 ghost use mathlib.Core.Path.{_≡_};
-ghost use Prim.Native.Nat.{_≤_, _<_, _+_, _*_};
-ghost use lib.ListN.{length, drop};
+ghost use Prim.Native.Nat.{_≤_, _+_, _*_};
+ghost use lib.ListN.{drop};
 ghost use lib.Dec.{leb};
-ghost use Rattle.text.specs.Field.{classOf, endOf, addDigit, closed, digitsFrom, padded, fieldAt};
-ghost use Rattle.text.specs.Sign.{signOf};
-ghost use Rattle.text.specs.Sum.{summed};
+ghost use Rattle.range.specs.Range.{within};
+ghost use Rattle.text.specs.Field.{classOf, endOf, addDigit, closed, digitsFrom, fieldAt};
+ghost use Rattle.text.specs.Inner.{summed, Saturated, singleOf};
 
 // A place in a line: the next byte, and whether the line's LF has been passed.
 pub struct Cursor {
@@ -37,18 +37,29 @@ pub enum Field {
     Broken,
 }
 
-// A number as far as its digits are read: their sum, in 16 bits, or that it is above 65,535, and stays so.
-enum Sum {
-    Value(u16),
-    Above,
+// A number as far as its digits are read, in 16 bits: itself, or 65,535 and that it is above.
+struct Sum {
+    value: u16,
+    above: bool,
+}
+
+// Whether b is at least `least` and at most `most`.
+fn is_within(least: usize, b: u8, most: usize) -> bool
+    ensures { λ r. ⌜ r ≡ within least b most ⌝ }
+{
+    in_range(least, b as usize, most)
 }
 
 fn classify(b: u8) -> Class
     ensures { λ k. ⌜ k ≡ classOf b ⌝ }
 {
+    if is_within(48, b, 57) {
+        return Class::Digit;
+    }
+    if is_within(65, b, 90) {
+        return Class::Letter;
+    }
     match b {
-        b'0'..=b'9' => Class::Digit,
-        b'A'..=b'Z' => Class::Letter,
         b'^' | b'/' => Class::Mark,
         _ => Class::Other,
     }
@@ -77,36 +88,35 @@ pub fn end_at(s: &[u8], at: usize) -> End
     End::Missing
 }
 
-fn wide(b: u8) -> usize
-    ensures { λ r. ⌜ (r ≡ b) × (r < 256) ⌝ }
-{
-    b as usize
-}
-
 // Whether v with the digit d behind it is at most 65,535, which is 6,553 with a 5 behind it.
 fn fits(v: u16, d: u16) -> bool
     requires { ⌜ d ≤ 9 ⌝ }
     ensures { λ r. ⌜ r ≡ leb (v * 10 + d) 65535 ⌝ }
 {
-    if v == 6553 {
-        return d <= 5;
+    if 5 < d {
+        return v < 6553;
     }
-    v < 6553
+    v <= 6553
 }
 
-// A number with one digit more.
+// A number with one digit more. Above 65,535 no digit fits, so it stays above.
 fn add_digit(n: Sum, b: u8) -> Sum
+    requires { ⌜ Saturated n ⌝ }
     requires { ⌜ (48 ≤ b) × (b ≤ 57) ⌝ }
-    ensures { λ r. ⌜ summed r ≡ addDigit (summed n) b ⌝ }
+    ensures { λ r. ⌜ Saturated r × (summed r ≡ addDigit (summed n) b) ⌝ }
 {
-    let Sum::Value(v) = n else {
-        return Sum::Above;
-    };
+    let v = n.value;
     let d = (b - 48) as u16;
     if fits(v, d) {
-        return Sum::Value(v * 10 + d);
+        return Sum {
+            value: v * 10 + d,
+            above: false,
+        };
     }
-    Sum::Above
+    Sum {
+        value: 65535,
+        above: true,
+    }
 }
 
 fn number(n: Sum, e: End) -> Field
@@ -115,34 +125,22 @@ fn number(n: Sum, e: End) -> Field
     let End::Past(c) = e else {
         return Field::Broken;
     };
-    let Sum::Value(v) = n else {
+    if n.above {
         return Field::Number(65536, c);
-    };
-    Field::Number(v as usize, c)
+    }
+    Field::Number(n.value as usize, c)
 }
 
-// A letter or a mark, of class k. One end for both keeps `read_field` small enough to be compiled into the loops over fields.
-fn sign(k: Class, b: u8, e: End) -> Field
-    ensures { λ r. ⌜ r ≡ closed (signOf k b) e ⌝ }
+// A number of which `first` is read, from `at` on.
+fn digits(s: &[u8], at: usize, first: Sum) -> Field
+    requires { ⌜ Saturated first ⌝ }
+    ensures { λ r. ⌜ r ≡ digitsFrom (drop at (now (s .entry))) at (summed first) ⌝ }
 {
-    let End::Past(c) = e else {
-        return Field::Broken;
-    };
-    let Class::Letter = k else {
-        return Field::Mark(b, c);
-    };
-    Field::Letter(b, c)
-}
-
-// The number at `at`.
-fn digits(s: &[u8], at: usize) -> Field
-    ensures { λ r. ⌜ r ≡ digitsFrom (drop at (now (s .entry))) at 0 ⌝ }
-{
-    let mut n = Sum::Value(0);
+    let mut n = first;
     let mut i = at;
     while i < s.len() {
         let b = s[i];
-        if !in_range(48, wide(b), 57) {
+        if !is_within(48, b, 57) {
             return number(n, end_at(s, i));
         }
         n = add_digit(n, b);
@@ -151,21 +149,23 @@ fn digits(s: &[u8], at: usize) -> Field
     Field::Broken
 }
 
-// Whether the number at `at` has a leading zero.
-fn is_padded(s: &[u8], at: usize) -> bool
-    requires { ⌜ at < length (now s) ⌝ }
-    ensures { λ r. ⌜ r ≡ padded (drop at (now (s .entry))) ⌝ }
+// A field of one byte, which is no digit but 0.
+fn single(b: u8, e: End) -> Field
+    ensures { λ r. ⌜ r ≡ closed (singleOf (classOf b) b) e ⌝ }
 {
-    if s[at] != b'0' {
-        return false;
+    let End::Past(c) = e else {
+        return Field::Broken;
+    };
+    match classify(b) {
+        Class::Digit => Field::Number(0, c),
+        Class::Letter => Field::Letter(b, c),
+        Class::Mark => Field::Mark(b, c),
+        Class::Other => Field::Broken,
     }
-    if s.len() <= at + 1 {
-        return false;
-    }
-    in_range(48, wide(s[at + 1]), 57)
 }
 
-// The field at a cursor. Past the line's LF there is none.
+// The field at a cursor. Past the line's LF there is none. Small enough to be compiled into the loops over fields: with a few
+// instructions more it is called there, and reading takes half as long again (docs/BENCHMARKS.md).
 pub fn read_field(s: &[u8], c: Cursor) -> Field
     ensures { λ r. ⌜ r ≡ fieldAt (now (s .entry)) c ⌝ }
 {
@@ -178,15 +178,12 @@ pub fn read_field(s: &[u8], c: Cursor) -> Field
         return Field::Broken;
     }
     let b = s[at];
-    let k = classify(b);
-    match k {
-        Class::Digit => {
-            if is_padded(s, at) {
-                return Field::Broken;
-            }
-            digits(s, at)
-        }
-        Class::Other => Field::Broken,
-        _ => sign(k, b, end_at(s, at + 1)),
+    if is_within(49, b, 57) {
+        let first = Sum {
+            value: (b - 48) as u16,
+            above: false,
+        };
+        return digits(s, at + 1, first);
     }
+    single(b, end_at(s, at + 1))
 }

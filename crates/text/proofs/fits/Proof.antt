@@ -17,10 +17,10 @@ same a b c d h n = go (leb a b) refl
     go false e = e ∙ sym (lt-leb c d (n (leb-false a b e)))
 
 returns : tie.Need-returns
-returns c = let a = c .before .args in same (a .d) 5 (a .v * 10 + a .d) 65535 (λ h. omega arith) (λ n. omega arith)
+returns c = let a = c .before .args in same (suc (a .v)) 6553 (a .v * 10 + a .d) 65535 (λ h. omega arith) (λ n. omega arith)
 
 returns-2 : tie.Need-returns-2
-returns-2 c = let a = c .before .args in same (suc (a .v)) 6553 (a .v * 10 + a .d) 65535 (λ h. omega arith) (λ n. omega (arith, c .if1 .left))
+returns-2 c = let a = c .before .args in same (a .v) 6553 (a .v * 10 + a .d) 65535 (λ h. omega arith) (λ n. omega arith)
 
 pub fits-spec : {M : Type 1} → statement M
 fits-spec = tie.close (tie.spec returns returns-2)

@@ -12,20 +12,14 @@ enum-told c = search needs
 returns : tie.Need-returns
 returns c = search needs
 
-enum-known-n : tie.Need-enum-known-n
-enum-known-n c = search needs
-
-enum-told-2 : tie.Need-enum-told-2
-enum-told-2 c = search needs
-
 returns-2 : tie.Need-returns-2
-returns-2 c = simp (c .before .before .before .e .given .1, c .enum-told2 .given .1)
+returns-2 c = simp (c .before .before .e .given .1, c .if1 .taken)
 
 cast-t5 : tie.Need-cast-t5
 cast-t5 c = search needs
 
 returns-3 : tie.Need-returns-3
-returns-3 c = simp (c .before .before .before .before .e .given .1, c .before .n .given .1)
+returns-3 c = simp (c .before .before .before .e .given .1, c .before .if1 .left)
 
 pub number-spec : {M : Type 1} → statement M
-number-spec = tie.close (tie.spec enum-known-e enum-told returns enum-known-n enum-told-2 returns-2 cast-t5 returns-3)
+number-spec = tie.close (tie.spec enum-known-e enum-told returns returns-2 cast-t5 returns-3)
