@@ -93,10 +93,13 @@ fn fits(v: u16, d: u16) -> bool
     requires { ⌜ d ≤ 9 ⌝ }
     ensures { λ r. ⌜ r ≡ leb (v * 10 + d) 65535 ⌝ }
 {
-    if 5 < d {
-        return v < 6553;
+    if v < 6553 {
+        return true;
     }
-    v <= 6553
+    if 6553 < v {
+        return false;
+    }
+    d <= 5
 }
 
 // A number with one digit more. Above 65,535 no digit fits, so it stays above.

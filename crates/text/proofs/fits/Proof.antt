@@ -1,5 +1,5 @@
 -- `text::fits` meets its contract. Assumes nothing.
-use Prim.Native.Nat.{ℕ, suc, _+_, _*_, _≤_, _<_}
+use Prim.Native.Nat.{ℕ, _+_, _*_, _≤_, _<_}
 use mathlib.Core.Path.{_≡_, refl, sym, _∙_}
 use mathlib.Core.Bool.{Bool, true, false}
 use native.Mathlib.Omega.{arith}
@@ -17,10 +17,13 @@ same a b c d h n = go (leb a b) refl
     go false e = e ∙ sym (lt-leb c d (n (leb-false a b e)))
 
 returns : tie.Need-returns
-returns c = let a = c .before .args in same (suc (a .v)) 6553 (a .v * 10 + a .d) 65535 (λ h. omega arith) (λ n. omega arith)
+returns c = let a = c .before .args in sym (le-leb (a .v * 10 + a .d) 65535 (omega arith))
 
 returns-2 : tie.Need-returns-2
-returns-2 c = let a = c .before .args in same (a .v) 6553 (a .v * 10 + a .d) 65535 (λ h. omega arith) (λ n. omega arith)
+returns-2 c = let a = c .before .before .args in sym (lt-leb (a .v * 10 + a .d) 65535 (omega arith))
+
+returns-3 : tie.Need-returns-3
+returns-3 c = let a = c .before .before .args in same (a .d) 5 (a .v * 10 + a .d) 65535 (λ h. omega arith) (λ n. omega arith)
 
 pub fits-spec : {M : Type 1} → statement M
-fits-spec = tie.close (tie.spec returns returns-2)
+fits-spec = tie.close (tie.spec returns returns-2 returns-3)
