@@ -1,26 +1,16 @@
 -- Counting: a list in which nothing stands twice is no longer, and weighs no more, than one that has all of it.
 use Prim.Native.Nat.{ℕ, _+_, _≤_}
 use native.Mathlib.Omega.{arith}
-use mathlib.Core.Path.{_≡_, refl, subst}
+use mathlib.Core.Path.{_≡_, refl, sym, subst}
+use mathlib.Core.Logic.{_⊎_, inl, inr}
 use mathlib.Core.List.{List, [], _∷_, map}
 use lib.ListN.{length}
 use Rattle.language.specs.Sentence.{In, here, there}
-use Rattle.language.proofs.Member.{in-map}
+use Rattle.language.proofs.Member.{in-map, without, in-without}
 use Rattle.build_book.proofs.Once.{Once}
 use Rattle.build_promise.specs.Kernels.{sum}
 
 module _ {A : Type 0} where
-  -- the list without the one that stands there
-  abbrev without : {x : A} {l : List A} → In x l → List A
-  without (here {l = l}) = l
-  without (there {y = y} m) = y ∷ without m
-
-  still : {x y : A} {l : List A} (m : In x l) → In y l → (x ≡ y → ⊥) → In y (without m)
-  still (here {l = l}) here f = absurd (f refl)
-  still (here {l = l}) (there n) f = n
-  still (there m) here f = here
-  still (there m) (there n) f = there (still m n f)
-
   weight-without : (w : A → ℕ) {x : A} {l : List A} (m : In x l) → sum (map w l) ≡ w x + sum (map w (without m))
   weight-without w here = refl
   weight-without w (there {y = y} m) = omega (arith, weight-without w m)
@@ -29,7 +19,11 @@ module _ {A : Type 0} where
   no-heavier w [] m o f = omega arith
   no-heavier w (x ∷ l) m o f =
       let i = f x here in
-      omega (arith, weight-without w i, no-heavier w l (without i) (o .1) (λ y n. still i (f y (there n)) (o .0 y n)))
+      omega (arith, weight-without w i, no-heavier w l (without i) (o .1) (λ y n. still y (o .0 y n) (in-without i (f y (there n)))))
+    where
+      still : (y : A) → (x ≡ y → ⊥) → (y ≡ x) ⊎ In y (without (f x here)) → In y (without (f x here))
+      still y other (inl e) = absurd (other (sym e))
+      still y other (inr k) = k
 
   ones : (l : List A) → sum (map (λ (_ : A). 1) l) ≡ length l
   ones [] = refl

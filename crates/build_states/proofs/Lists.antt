@@ -2,9 +2,10 @@
 use Prim.Native.Nat.{ℕ, zero, suc, _+_, _≤_, _<_}
 use native.Mathlib.Omega.{arith}
 use native.Mathlib.Decide.{ℕ-discrete}
-use mathlib.Core.Path.{_≡_, refl, sym, subst}
+use mathlib.Core.Path.{_≡_, refl, sym, ap, subst}
 use mathlib.Core.Logic.{_⊎_, inl, inr}
 use mathlib.Core.List.{List, [], _∷_}
+use lib.ListN.{length}
 use Rattle.language.specs.Sentence.{In, here, there}
 use Rattle.language.specs.Rising.{RisingFrom}
 use Rattle.language.proofs.Member.{in-cons}
@@ -26,6 +27,10 @@ range-in a (suc n) x m = go (in-cons m) (λ k. range-in (suc a) n x k)
     go : (x ≡ a) ⊎ In x (range (suc a) n) → (In x (range (suc a) n) → (suc a ≤ x) × (x < suc a + n)) → (a ≤ x) × (x < a + suc n)
     go (inl e) rec = (omega (arith, e), omega (arith, e))
     go (inr k) rec = let r = rec k in (omega (arith, r .0), omega (arith, r .1))
+
+pub range-length : (a n : ℕ) → length (range a n) ≡ n
+range-length a zero = refl
+range-length a (suc n) = ap suc (range-length (suc a) n)
 
 module _ (Φ : ℕ → Type 0) (test : (x : ℕ) → Dec (Φ x)) where
   pub keep-only : (l : List ℕ) (x : ℕ) → In x (keep Φ test l) → Φ x × In x l

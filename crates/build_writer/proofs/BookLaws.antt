@@ -7,6 +7,7 @@ use native.Mathlib.Omega.{arith}
 use lib.ListN.{length, take, set, replicate, length-take, length-map}
 use lib.Seq.{sets, take-all, take-nil, take-take}
 use Rattle.build_states.specs.States.{range}
+use Rattle.build_states.proofs.Lists.{range-length}
 use Rattle.build_book.specs.Built.{actionsOf}
 use Rattle.build_book.specs.Text.{line, entryText, kernelText, actionText, tableText}
 use Rattle.build_writer.specs.MemoryTable.{entryIn, kernelIn, actionIn, memoryTable, memoryText}
@@ -54,10 +55,6 @@ pub written : {l a m : List ℕ} {j : ℕ} → l ≡ replicate (length l) 0 → 
 unfolding inRoom
 written {l} {a} {m} {j} z w =
     (omega (arith, w .next), w .bytes ∙ (ap (λ (x : List ℕ). sets x 0 (take 65537 a)) z ∙ filled-below a (length l) 65537))
-
-range-length : (a n : ℕ) → length (range a n) ≡ n
-range-length a zero = refl
-range-length a (suc n) = ap suc (range-length (suc a) n)
 
 module _ (items entries kernels lookaheads kinds values gotos : List ℕ) (rules strings lines states codes : ℕ) where
   -- the first line and the blocks

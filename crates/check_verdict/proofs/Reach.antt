@@ -2,36 +2,12 @@
 use Prim.Native.Nat.{ℕ, zero, suc, _≤_}
 use native.Mathlib.Omega.{arith}
 use mathlib.Core.Logic.{_⊎_, inl, inr}
-use mathlib.Core.Path.{_≡_, refl, ap, subst}
+use mathlib.Core.Path.{_≡_, subst}
 use mathlib.Core.List.{List, [], _∷_}
 use lib.ListN.{length}
 use Rattle.language.specs.Sentence.{In, here, there}
-use Rattle.language.proofs.Member.{in-cons}
+use Rattle.language.proofs.Member.{without, without-length, in-without}
 use Rattle.check_verdict.proofs.Tests.{either?, any?}
-
-module _ {A : Type 0} where
-  abbrev pub without : (x : A) (l : List A) → In x l → List A
-  without x [] m = []
-  without x (y ∷ l) here = l
-  without x (y ∷ l) (there m) = y ∷ without x l m
-
-  pub shorter : (x : A) (l : List A) (m : In x l) → suc (length (without x l m)) ≡ length l
-  shorter x [] m = elim m [ ]
-  shorter x (y ∷ l) here = refl
-  shorter x (y ∷ l) (there m) = ap suc (shorter x l m)
-
-  pub still : (x y : A) (l : List A) (m : In x l) → In y l → (y ≡ x) ⊎ In y (without x l m)
-  still x y [] m n = elim m [ ]
-  still x y (z ∷ l) here n = in-cons n
-  still x y (z ∷ l) (there m) n = go (in-cons n) (λ k. still x y l m k)
-    where
-      go : (y ≡ z) ⊎ In y l → (In y l → (y ≡ x) ⊎ In y (without x l m)) → (y ≡ x) ⊎ In y (z ∷ without x l m)
-      go (inl e) rec = inr (subst (λ (w : A). In y (w ∷ without x l m)) e here)
-      go (inr k) rec = late (rec k)
-        where
-          late : (y ≡ x) ⊎ In y (without x l m) → (y ≡ x) ⊎ In y (z ∷ without x l m)
-          late (inl e) = inl e
-          late (inr k) = inr (there k)
 
 module _ {A : Type 0} (Seed : A → Type 0) (Step : A → A → Type 0) where
   pub data Reach : A → Type 0 where
@@ -70,25 +46,25 @@ module _ {A : Type 0} (Seed : A → Type 0) (Step : A → A → Type 0) where
     more-only done x only r a here = r
     more-only done x only r a (there m) = only a m
 
-    more-cover : (done todo : List A) (x : A) (m : In x todo) → ((a : A) → In a all → In a done ⊎ In a todo) → (a : A) → In a all → In a (x ∷ done) ⊎ In a (without x todo m)
+    more-cover : (done todo : List A) (x : A) (m : In x todo) → ((a : A) → In a all → In a done ⊎ In a todo) → (a : A) → In a all → In a (x ∷ done) ⊎ In a (without m)
     more-cover done todo x m cover a n = go (cover a n)
       where
-        late : (a ≡ x) ⊎ In a (without x todo m) → In a (x ∷ done) ⊎ In a (without x todo m)
+        late : (a ≡ x) ⊎ In a (without m) → In a (x ∷ done) ⊎ In a (without m)
         late (inl e) = inl (subst (λ (w : A). In a (w ∷ done)) e here)
         late (inr k) = inr k
 
-        go : In a done ⊎ In a todo → In a (x ∷ done) ⊎ In a (without x todo m)
+        go : In a done ⊎ In a todo → In a (x ∷ done) ⊎ In a (without m)
         go (inl k) = inl (there k)
-        go (inr k) = late (still x a todo m k)
+        go (inr k) = late (in-without m k)
 
     grow : (n : ℕ) (done todo : List A) → length todo ≤ n → ((a : A) → In a done → Reach a) → ((a : A) → In a all → In a done ⊎ In a todo)
         → Dec ((x : A) × In x todo × Fires done x) → Members
     grow zero done todo l only cover (no f) = record { list = done; only = only; every = closed done todo cover f }
     grow (suc n) done todo l only cover (no f) = record { list = done; only = only; every = closed done todo cover f }
-    grow zero done todo l only cover (yes h) = absurd (omega (arith, l, shorter (h .0) todo (h .1)))
+    grow zero done todo l only cover (yes h) = absurd (omega (arith, l, without-length (h .1)))
     grow (suc n) done todo l only cover (yes h) =
-        grow n (h .0 ∷ done) (without (h .0) todo (h .1)) (omega (arith, l, shorter (h .0) todo (h .1))) (more-only done (h .0) only (fired done only (h .0) (h .2)))
-        (more-cover done todo (h .0) (h .1) cover) (any? (Fires (h .0 ∷ done)) (fires? (h .0 ∷ done)) (without (h .0) todo (h .1)))
+        grow n (h .0 ∷ done) (without (h .1)) (omega (arith, l, without-length (h .1))) (more-only done (h .0) only (fired done only (h .0) (h .2)))
+        (more-cover done todo (h .0) (h .1) cover) (any? (Fires (h .0 ∷ done)) (fires? (h .0 ∷ done)) (without (h .1)))
 
     pub members : Members
     members = grow (length all) [] all (omega arith) (λ a m. elim m [ ]) (λ a m. inr m) (any? (Fires []) (fires? []) all)

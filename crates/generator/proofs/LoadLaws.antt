@@ -122,9 +122,6 @@ pub load-tells : (g : Grammar) (seed d n k : ℕ) {x : ℕ} {r : GeneratorReply}
 load-tells g seed d n k e h = tells-as (ap (loadOf n k g) (load-at g seed d e)) h
 
 module _ {items : List ℕ} {heading : Heading} {g : Grammar} (H : HoldsGrammar items heading g) where
-  pub few-rules : heading .rules ≤ 127
-  few-rules = omega (arith, ready-holds H .count, H .formed .few-rules)
-
   pub goal-symbol : IsSymbol g (heading .goal)
   goal-symbol = subst (IsSymbol g) (goal-is H) (inr (H .formed .goal-declared))
 

@@ -42,6 +42,9 @@ module _ {m : List ℕ} {h : Heading} {g : Grammar} (r : HoldsGrammar m h g) whe
   pub ready-holds : Holds m (h .rules) g
   ready-holds = subst (λ (k : ℕ). Holds m k g) rules-is (subst (λ (l : List ℕ). Holds l (length (g .rules)) g) (sym (r .laid)) (layout-holds g (r .formed) (length m) fits))
 
+  pub few-rules : h .rules ≤ 127
+  few-rules = omega (arith, rules-is, r .formed .few-rules)
+
   pub terminals-is : g .terminals ≡ h .terminals
   terminals-is = sym (ap (λ (k : Heading). k .terminals) (r .heading))
 

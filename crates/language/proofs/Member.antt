@@ -1,9 +1,9 @@
 -- Laws of standing in a list.
 use Prim.Native.Nat.{ℕ, zero, suc}
-use mathlib.Core.Path.{_≡_, refl}
+use mathlib.Core.Path.{_≡_, refl, ap}
 use mathlib.Core.Logic.{_⊎_, inl, inr}
 use mathlib.Core.List.{List, [], _∷_, _++_, map}
-use lib.ListN.{drop}
+use lib.ListN.{length, drop}
 use Rattle.language.specs.Grammar.{concat}
 use Rattle.language.specs.Sentence.{In, here, there}
 
@@ -33,6 +33,25 @@ module _ {A : Type 0} where
   in-drop zero l m = m
   in-drop (suc k) [] m = m
   in-drop (suc k) (y ∷ l) m = there (in-drop k l m)
+
+  -- the list without the one that stands there
+  abbrev pub without : {x : A} {l : List A} → In x l → List A
+  without (here {l = l}) = l
+  without (there {y = y} m) = y ∷ without m
+
+  pub without-length : {x : A} {l : List A} (m : In x l) → suc (length (without m)) ≡ length l
+  without-length here = refl
+  without-length (there m) = ap suc (without-length m)
+
+  pub in-without : {x y : A} {l : List A} (m : In x l) → In y l → (y ≡ x) ⊎ In y (without m)
+  in-without here here = inl refl
+  in-without here (there n) = inr n
+  in-without (there m) here = inr here
+  in-without {x} {y} (there {y = z} m) (there n) = later (in-without m n)
+    where
+      later : (y ≡ x) ⊎ In y (without m) → (y ≡ x) ⊎ In y (z ∷ without m)
+      later (inl e) = inl e
+      later (inr k) = inr (there k)
 
 pub in-map : {A B : Type 0} (f : A → B) {y : B} (l : List A) → In y (map f l) → (x : A) × In x l × (y ≡ f x)
 in-map f [] m = elim m [ ]

@@ -6,35 +6,17 @@ use mathlib.Core.Logic.{_⊎_, inl, inr}
 use mathlib.Core.Path.{_≡_, refl, sym, ap, _∙_, subst}
 use mathlib.Core.List.{List, [], _∷_, _++_, map, append-nil}
 use mathlib.Core.Option.{some, none}
-use lib.ListN.{length}
 use Rattle.language.specs.Grammar.{Grammar, Rule, at, ruleAt, right}
 use Rattle.language.specs.Derivation.{Tree, Forest, node, cons, yield, yields, IsTree, IsForest}
 use Rattle.language.proofs.Forests.{size, but-first}
 use Rattle.language.specs.Sentence.{In, here, there}
+use Rattle.language.proofs.Member.{without, in-without}
 use Rattle.leftcorner.specs.Machine.{Automaton}
 use Rattle.leftcorner.proofs.Adequate.{Source, behind, Complete, Exact}
 use Rattle.leftcorner.proofs.Whole.{one-derivation}
 use Rattle.leftcorner.proofs.Stack.{ahead, ahead-at, Expects, Stack, live}
 
 -- ---- the left sides that a chain may still come to: a list from which one is removed at each step
-
-abbrev pub without : {X : ℕ} {l : List ℕ} → In X l → List ℕ
-without (here {l = l}) = l
-without (there {y = y} i) = y ∷ without i
-
-pub without-length : {X : ℕ} {l : List ℕ} (i : In X l) → suc (length (without i)) ≡ length l
-without-length here = refl
-without-length (there i) = ap suc (without-length i)
-
-in-without : {X Y : ℕ} {l : List ℕ} (i : In X l) → In Y l → (Y ≡ X) ⊎ In Y (without i)
-in-without here here = inl refl
-in-without here (there j) = inr j
-in-without (there i) here = inr here
-in-without {X} {Y} (there {y = y} i) (there j) = later (in-without i j)
-  where
-    later : (Y ≡ X) ⊎ In Y (without i) → (Y ≡ X) ⊎ In Y (y ∷ without i)
-    later (inl e) = inl e
-    later (inr k) = inr (there k)
 
 unfoldable pub lefts : List Rule → List ℕ
 lefts rs = map (λ (r : Rule). r .left) rs

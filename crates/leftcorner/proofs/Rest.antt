@@ -16,6 +16,7 @@ use Rattle.language.proofs.Forests.{_⧺_, join}
 use Rattle.language.specs.First.{next}
 use Rattle.language.proofs.Lists.{next-join}
 use Rattle.language.specs.Sentence.{In}
+use Rattle.language.proofs.Member.{without, without-length}
 use Rattle.leftcorner.specs.Machine.{Cell, shift, announce, pop, empty, Automaton, Event, popTo, act, step}
 use Rattle.leftcorner.proofs.Adequate.{Source, rule, entry, track, beforeOf, afterOf, Holds, kernel, closure, Complete, Used, goal-entry, Moved, Announced, Popped, Exact}
 use Rattle.leftcorner.proofs.Run.{Run, stop, more}
@@ -25,7 +26,7 @@ use Rattle.leftcorner.proofs.Stack.{ahead, ahead-at, ahead-rule, Expect
 use Rattle.leftcorner.proofs.Back.{not-entry, held-entry, Base, back, parent, Leaves, closing}
 use Rattle.leftcorner.proofs.Step.{reads, step-keeps}
 use Rattle.leftcorner.proofs.Finish.{Rests, at-whole, at-wrong, at-shift, quietly, run-rests, nothing-read, held-end, track-run, rule-run}
-use Rattle.leftcorner.proofs.Growth.{without, without-length, lefts, Alone, Chain, chain-start, onward}
+use Rattle.leftcorner.proofs.Growth.{lefts, Alone, Chain, chain-start, onward}
 
 one-taken : (l : List ℕ) (Z : ℕ) (β : List ℕ) → l ≡ Z ∷ β → (take 1 l ≡ Z ∷ []) × (drop 1 l ≡ β)
 one-taken [] Z β e = absurd (suc-ne-zero (length β) (sym (ap length e)))

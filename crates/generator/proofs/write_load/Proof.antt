@@ -5,10 +5,10 @@ use native.Mathlib.Omega.{arith}
 use lib.ListN.{length, replicate}
 use lib.Seq.{length-take-le}
 use borrow.Author.Needs.{needs}
-use Rattle.grammar.proofs.ReducedLaws.{ready-shaped, ready-holds, ready-ranges, terminals-is, nonterminals-is, goal-is}
+use Rattle.grammar.proofs.ReducedLaws.{ready-shaped, ready-holds, few-rules, ready-ranges, terminals-is, nonterminals-is, goal-is}
 use Rattle.generate_loads.specs.Load.{grown}
 use Rattle.generator.proofs.PutLaws.{fitted, writes-as}
-use Rattle.generator.proofs.LoadLaws.{load-written, load-short, whole-length, load-tells, goal-symbol, source-of, few-rules}
+use Rattle.generator.proofs.LoadLaws.{load-written, load-short, whole-length, load-tells, goal-symbol, source-of}
 use Rattle.generator.proofs.write_load.Statement.{statement}
 use Rattle.generator.proofs.write_load.Tie as tie
 
