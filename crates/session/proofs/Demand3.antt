@@ -1,13 +1,14 @@
 -- Demand 3 of the call, proved: the claim about the walk, told of a session.
-use Prim.Native.Nat.{ℕ, _-_}
+use Prim.Native.Nat.{ℕ, _-_, _≤_}
 use native.Mathlib.Omega.{arith}
 use mathlib.Core.Path.{_≡_, refl, sym, ap, ap₂, _∙_}
 use mathlib.Core.Logic.{inl, inr}
 use mathlib.Core.List.{List, _++_}
 use lib.ListN.{length, replicate}
-use Rattle.language.specs.Grammar.{Grammar}
+use Rattle.language.specs.Grammar.{Grammar, IsTerminal}
 use Rattle.language.specs.Derivation.{Tree, yield, IsTree}
 use Rattle.language.specs.Listing.{listing, units}
+use Rattle.language.specs.Sentence.{In}
 use Rattle.language.specs.WellFormed.{declared-of}
 use Rattle.leftcorner.specs.Machine.{Ending, accepted, failed, walk}
 use Rattle.leftcorner.specs.Table.{Table, automaton}
@@ -16,6 +17,7 @@ use Rattle.leftcorner.proofs.Demand3 as machine
 use Rattle.reply.specs.Reply.{numberOf}
 use Rattle.reply.specs.declared.Kind.the-variants.{SyntaxError}
 use Rattle.reply.specs.Reply.{padded}
+use Rattle.checker.specs.Checked.{Accepts}
 use Rattle.checker.proofs.Exactly.{accepts, accepted-sound, exactly}
 use Rattle.walker.specs.declared.Walked.the-variants.{Accepted}
 use Rattle.walker.specs.Walked.{asReply}
@@ -77,16 +79,20 @@ demanded gs s g t w C walks = record {
   short = λ n k h. let f = C .short n k h in (f .0, walks n k ∙ (ap (endedBy n k g) (f .1) ∙ ended-short n k (f .0) g), f .2);
 }
 
+-- ---- books that are accepted as those of g and t
+module _ (gs s : List ℕ) {g : Grammar} {t : Table} (A : Accepts gs s g t) where
+  -- the claim, of lists of any length
+  pub claimed : (w : List ℕ) → ((a : ℕ) → In a w → IsTerminal g a) → Claim g (automaton g t) w
+  claimed = machine.demand3 g t (declared-of (accepted-sound gs s (accepts gs s A) .formed)) (A .productive) (A .meets)
+
+  module _ (w : List ℕ) (few : length w ≤ 65535) (tokens : (a : ℕ) → In a w → IsTerminal g a) where
+    pub demands : Demanded gs s g t w
+    demands = demanded gs s g t w (claimed w tokens) (session-walks gs s (accepts gs s A) w few tokens)
+
+    -- a sentence needs as much listing as its derivation lists
+    pub need-listed : (T : Tree) → IsTree g T (g .goal) → yield T ≡ w → demands .listingNeed ≡ length (listing g T)
+    unfolding demands demanded
+    need-listed T h y = ap length (claimed w tokens .its-listing T h y .0)
+
 pub demand3 : Demand3
-demand3 gs s e =
-    let h = exactly gs s .to e in
-    let g = h .0 in
-    let t = h .1 in
-    let A = h .2 in
-    let books = accepts gs s A in (
-      g,
-      t,
-      A,
-      λ w few tokens.
-          demanded gs s g t w (machine.demand3 g t (declared-of (accepted-sound gs s books .formed)) (A .productive) (A .meets) w tokens) (session-walks gs s books w few tokens),
-    )
+demand3 gs s e = let h = exactly gs s .to e in (h .0, h .1, h .2, demands gs s (h .2))
