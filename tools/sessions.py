@@ -1,4 +1,4 @@
-"""Scan files and sessions by the documents' text, apart from the proved code. For the script that makes cases."""
+"""Scan files, sessions and what to lend for them by the documents' text, apart from the proved code. For the script that makes cases."""
 import functools, re
 import tables
 
@@ -112,3 +112,16 @@ def list_expected_scans(grammar, table, scans, n, k, room):
         first = check(grammar, table)
         return *(first if first[0] else (number, place)), []
     return list_expected(grammar, table, tokens, n, k, room)
+
+
+def bound_listing(grammar, scans):
+    """Document 02, S-7: the number, the place and the bound, which is None where a right side is empty."""
+    if scans > 65535:
+        return 2, 0, 0
+    try:
+        g = tables.read_grammar(grammar)
+    except tables.Refused as why:
+        return *why.args, 0
+    if not all(map(tables.right_of, g.rules)):
+        return 0, 0, None
+    return 0, 0, g.n * (2 * scans - 1) if scans else 0

@@ -3,13 +3,14 @@
 
     tools/vectors.py                 works out every case
     tools/vectors.py KIND FOLDER     adds the cases of FOLDER first, or replaces those of the same name; KIND is grammar, check,
-                                     build, scan, session, expected, load or walk
+                                     build, scan, session, expected, load, walk or bound
 
 FOLDER has a folder for each case: `grammar`, `table`, `tokens` (one a line), `scans`, as its kind asks; `out_len` (the length of the slice
 lent) or `lens` (`STACK,LISTING`) where they are not 65,536 and 65,535 each; and `expected`. A session with `scans` is run both ways. Or a
 case has `arg1`, `arg2` and so on, the arguments of a program, and `program`, its name, where it is another than KIND's. A load has its
 seed and its depth in `arg2.txt` and `arg3.txt`, and `lens` (`TOKENS,LISTING`) where they are not 65,536 each. A walk has `grammar`,
-`table`, `loaded` (the grammar whose loads are walked) and `loads`, a line `SEED,DEPTH` for each, the seed at most 65,536.
+`table`, `loaded` (the grammar whose loads are walked) and `loads`, a line `SEED,DEPTH` for each, the seed at most 65,536. A bound has its
+number of scans in `arg2.txt`.
 What a case must write is worked out by tables.py, sessions.py and loads.py, from the documents' text and not from the proved code; where a
 case comes with `expected`, the two must agree.
 """
@@ -17,12 +18,13 @@ import itertools, os, sys
 import loads, sessions, tables
 
 CRATE = os.path.join(os.path.dirname(os.path.abspath(__file__)), '..', 'crates', 'vectors')
-WORDS = {'1,': 1, '2,': 2, '3,': 2, '4,': 2, '5,': 5, '6,': 5, '7,': 6, '8,': 6, '9,': 5, '10,': 5}
+WORDS = {'1,': 1, '2,': 2, '3,': 2, '4,': 2, '5,': 5, '6,': 5, '7,': 6, '8,': 6, '9,': 5, '10,': 5, '11,': 2}
 # the kind that a program's cases are of, and what its arguments are
 PROGRAMS = {
     'read_grammar': ('grammar', ['grammar']), 'check_tables': ('check', ['grammar', 'table']), 'build_tables': ('build', ['grammar']),
     'read_scans': ('scan', ['scans']), 'run_session': ('session', ['grammar', 'table', 'scans']),
     'list_expected': ('expected', ['grammar', 'table', 'scans']), 'make_load': ('load', ['grammar']),
+    'bound_listing': ('bound', ['grammar']),
 }
 # what the program lends of stack and listing for a list, and of listing for a load, where a case says 65,536
 LENT = 1048576
@@ -96,13 +98,19 @@ def walk_load(grammar, table, loaded, seed, depth):
     return lines(f'{number},{place},{len(tokens)},{len(rules)}', f'{reply},{taken},{len(listing)},{units}', int(listing == rules))
 
 
+def bound_listing(grammar, scans):
+    number, place, rules = sessions.bound_listing(data(grammar), scans)
+    return lines(f'{number},{place},{"-" if rules is None else rules}')
+
+
 def written(call, words):
     words = [int(w[:-1]) if w.endswith(',') else w for w in words]
     if call in ('7,', '8,'):
         return listed(sessions.list_expected if call == '7,' else sessions.list_expected_scans, *words)
     if call in ('5,', '6,'):
         return session(sessions.run_session if call == '5,' else sessions.run_scans, *words)
-    return {'1,': read_grammar, '2,': check_tables, '3,': build_tables, '4,': read_scans, '9,': make_load, '10,': walk_load}[call](*words)
+    return {'1,': read_grammar, '2,': check_tables, '3,': build_tables, '4,': read_scans, '9,': make_load, '10,': walk_load,
+            '11,': bound_listing}[call](*words)
 
 
 # ---- cases
@@ -162,6 +170,8 @@ def of_kind(kind, at, name):
         return [('4,', [put('scans'), *room])]
     if kind == 'load':
         return [('9,', [put('grammar'), *numbers('arg2.txt', ''), *numbers('arg3.txt', ''), *numbers('lens', '65536,65536')])]
+    if kind == 'bound':
+        return [('11,', [put('grammar'), *numbers('arg2.txt', '')])]
     books = [put('grammar', '.grammar'), put('table', '.tables')]
     if kind == 'expected':
         return [('8,', [*books, put('scans', '.scans'), '65536,', '65536,', '64,'])]

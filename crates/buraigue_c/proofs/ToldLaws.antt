@@ -1,7 +1,9 @@
 -- What is told of an answer is told of the definition that it equals.
 use Prim.Native.Nat.{ℕ}
-use mathlib.Core.Path.{_≡_, ap, subst, _∙_}
+use mathlib.Core.Path.{_≡_, refl, ap, subst, _∙_}
+use mathlib.Core.Bool.{Bool, true, false, cond}
 use mathlib.Core.List.{List}
+use mir.Val.{boolByte}
 use Rattle.reply.specs.declared.Reply.{Reply}
 use Rattle.walker.specs.declared.Walked.{Walked}
 use Rattle.walker.specs.Walked.{asReply, ruleCount, unitCount}
@@ -13,7 +15,10 @@ use Rattle.expected.specs.Expected as expected
 use Rattle.generator.specs.declared.GeneratorReply.{GeneratorReply}
 use Rattle.generator.specs.Generated.{Answer, Tells, tokenCount}
 use Rattle.generator.specs.Generated as generator
-use Rattle.buraigue_c.specs.Told.{ReplyGiven, SessionGiven, ExpectedTold, LoadTold}
+use Rattle.listing_bound.specs.declared.ListingBound.{ListingBound}
+use Rattle.listing_bound.specs.Bound.{isUnbounded}
+use Rattle.listing_bound.specs.Bound as bound
+use Rattle.buraigue_c.specs.Told.{ReplyGiven, SessionGiven, ExpectedTold, LoadTold, BoundTold}
 
 pub told : {r x : Reply} {number place : ℕ} → r ≡ x → ReplyGiven r number place → ReplyGiven x number place
 told {number = n} {place = p} e t = subst (λ (y : Reply). ReplyGiven y n p) e t
@@ -42,4 +47,17 @@ load-told e r n k t = record {
   rules-are = k ∙ ap generator.ruleCount (e .reply-is);
   tokens-are = e .tokens-are;
   listing-is = e .listing-is;
+}
+
+-- a test as a number
+byte-is : (b : Bool) → boolByte b ≡ cond b 1 0
+byte-is true = refl
+byte-is false = refl
+
+pub bound-told : {x a : ListingBound} {y : Reply} {none : Bool} {number place rules : ℕ} → a ≡ x → y ≡ bound.asReply a → rules ≡ bound.ruleCount a
+    → none ≡ isUnbounded a → ReplyGiven y number place → BoundTold x number place rules (boolByte none)
+bound-told {none = none} e r k u t = record {
+  reply-told = told (r ∙ ap bound.asReply e) t;
+  rules-are = k ∙ ap bound.ruleCount e;
+  unbounded-is = byte-is none ∙ ap (λ (b : Bool). cond b 1 0) (u ∙ ap isUnbounded e);
 }

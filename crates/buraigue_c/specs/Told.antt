@@ -1,5 +1,6 @@
 -- What the calls for C hand over, in single figures and lent slices.
 use Prim.Native.Nat.{ℕ}
+use mathlib.Core.Bool.{cond}
 use mathlib.Core.Path.{_≡_}
 use mathlib.Core.List.{List}
 use Rattle.reply.specs.declared.Reply.{Reply}
@@ -11,6 +12,9 @@ use Rattle.expected.specs.Expected.{codeCount}
 use Rattle.expected.specs.Expected as expected
 use Rattle.generator.specs.Generated.{Answer, tokenCount}
 use Rattle.generator.specs.Generated as generator
+use Rattle.listing_bound.specs.declared.ListingBound.{ListingBound}
+use Rattle.listing_bound.specs.Bound.{isUnbounded}
+use Rattle.listing_bound.specs.Bound as bound
 
 -- a reply's number and place
 pub record ReplyGiven (r : Reply) (number place : ℕ) : Type 0 where
@@ -38,3 +42,9 @@ pub record LoadTold (x : Answer) (number place count rules : ℕ) (tokens listin
   pub rules-are : rules ≡ generator.ruleCount (x .reply)
   pub tokens-are : tokens ≡ x .tokens
   pub listing-is : listing ≡ x .listing
+
+-- a bound on a listing: the reply, the bound, and 1 where there is none
+pub record BoundTold (x : ListingBound) (number place rules unbounded : ℕ) : Type 0 where
+  pub reply-told : ReplyGiven (bound.asReply x) number place
+  pub rules-are : rules ≡ bound.ruleCount x
+  pub unbounded-is : unbounded ≡ cond (isUnbounded x) 1 0

@@ -14,7 +14,8 @@ ghost use Rattle.session.specs.Session.{session};
 ghost use Rattle.scan_session.specs.ScanSession.{scanSession};
 ghost use Rattle.expected.specs.Expected.{expected};
 ghost use Rattle.generator.specs.Generated.{generated};
-ghost use Rattle.buraigue_c.specs.Told.{ReplyGiven, SessionGiven, ExpectedTold, LoadTold};
+ghost use Rattle.listing_bound.specs.Bound.{boundOf};
+ghost use Rattle.buraigue_c.specs.Told.{ReplyGiven, SessionGiven, ExpectedTold, LoadTold, BoundTold};
 
 fn tell_reply(reply: Reply, place: &mut u64) -> u64
     ensures { λ r. ⌜ ReplyGiven reply r (now (place .exit)) ⌝ }
@@ -153,4 +154,21 @@ pub extern "C" fn buraigue_make_load(
     *count = generator::token_count(answer) as u64;
     *rules = generator::rule_count(answer) as u64;
     tell_reply(generator::as_reply(answer), place)
+}
+
+// How long a listing can be, as listing_bound::bound_listing.
+#[no_mangle]
+pub extern "C" fn buraigue_bound_listing(
+    grammar: &[u8],
+    scans: usize,
+    place: &mut u64,
+    rules: &mut u64,
+    unbounded: &mut u64,
+) -> u64
+    ensures { λ r. ⌜ BoundTold (boundOf (now (grammar .entry)) scans) r (now (place .exit)) (now (rules .exit)) (now (unbounded .exit)) ⌝ }
+{
+    let answer = listing_bound::bound_listing(grammar, scans);
+    *rules = listing_bound::rule_count(answer) as u64;
+    *unbounded = listing_bound::is_unbounded(answer) as u64;
+    tell_reply(listing_bound::as_reply(answer), place)
 }

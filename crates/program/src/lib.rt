@@ -370,6 +370,17 @@ pub fn print_figures(out: &mut [u8; OUTPUT], a: u64, b: u64, c: u64, d: u64) {
     print_pair(out, c, d);
 }
 
+// Prints `a,b,c` and an LF, or `a,b,-` where there is no c.
+pub fn print_or_none(out: &mut [u8; OUTPUT], a: u64, b: u64, c: u64, none: bool) {
+    print_field(out, a);
+    print_field(out, b);
+    if none {
+        print_text(out, b"-\n");
+        return;
+    }
+    print_number(out, c);
+}
+
 // Prints a text and a number.
 pub fn print_count(out: &mut [u8; OUTPUT], text: &[u8], n: usize) {
     print_text(out, text);

@@ -24,6 +24,8 @@ use Rattle.expected_promise.specs.Promise as expected
 use Rattle.expected_promise.proofs.Promise as listed
 use Rattle.generate_promise.specs.Promise.{GeneratorPromise}
 use Rattle.generate_promise.proofs.Promise as loads
+use Rattle.listing_promise.specs.Promise.{ListingPromise}
+use Rattle.listing_promise.proofs.Promise as listings
 use Rattle.canonical.specs.Promise.{OrderPromise}
 use Rattle.canonical.proofs.Promise as order
 use Rattle.build_promise.specs.Promise.{Promise}
@@ -69,6 +71,10 @@ generator-promise = loads.generator-promise
 -- Document 02, S-5, of every table book: `Promise` has its sentences, one by one
 pub order-promise : OrderPromise
 order-promise = order.order-promise
+
+-- Document 02, S-7, of every session that is whole: `Promise` has its sentences, one by one
+pub listing-promise : ListingPromise
+listing-promise = listings.listing-promise
 
 -- None of them speaks of nothing: the books of document 01 are built and accepted, and its starred sessions answer what is told
 pub built : Each Built (smallest ∷ g1 ∷ g1-cut ∷ d ∷ [])

@@ -9,6 +9,7 @@
 //     8, GRAMMAR TABLES SCANS STACK, LISTING, CODES,    list_expected_scans
 //     9, GRAMMAR SEED, DEPTH, TOKENS, LISTING,   make_load; 65,536 rules stand for all that the program can lend
 //     10, GRAMMAR TABLES LOADED SEED, DEPTH,     run_session over the load that make_load writes of the grammar LOADED
+//     11, GRAMMAR SCANS,                         bound_listing, of so many scans
 // Prints for each the name of its last file, what the call answers, and what is not 0 in each slice that was lent, which held 7s; of a load
 // a line stands for a run of equal bytes, and of one that is walked 1 for the same listing from both calls, 0 for another.
 use expected_trials::ExpectedReply;
@@ -500,6 +501,29 @@ fn run_load(i: usize, n: usize, k: usize)
     program::flush(&mut out);
 }
 
+fn show_bound(out: &mut [u8; OUTPUT], grammar: &[u8], scans: usize) {
+    let answer = listing_bound::bound_listing(grammar, scans);
+    let reply = listing_bound::as_reply(answer);
+    program::print_or_none(
+        out,
+        reply::number(reply),
+        reply::place(reply) as u64,
+        listing_bound::rule_count(answer) as u64,
+        listing_bound::is_unbounded(answer),
+    );
+}
+
+fn run_bound(i: usize)
+    requires { ⌜ i + 1 < 18446744073709551616 ⌝ }
+{
+    let mut grammar = [0u8; program::FILE];
+    let input = read(i, &mut grammar);
+    let n = input.size;
+    let mut out = named(i);
+    show_bound(&mut out, &grammar[..n], argument_number(i + 1) as usize);
+    program::flush(&mut out);
+}
+
 // Runs the case that begins at argument i, and answers where the next begins.
 fn run_case(i: usize) -> usize
     requires { ⌜ i + 7 < 18446744073709551616 ⌝ }
@@ -526,6 +550,10 @@ fn run_case(i: usize) -> usize
         9 => {
             run_load(i + 1, figure(i + 4), figure(i + 5));
             i + 6
+        }
+        11 => {
+            run_bound(i + 1);
+            i + 3
         }
         _ => {
             run_session(call, i + 1, figure(i + 4), figure(i + 5), figure(i + 6));

@@ -1,0 +1,2 @@
+pub mod EmptyLaws
+pub mod BoundLaws
