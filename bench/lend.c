@@ -169,6 +169,24 @@ static void loads(void) {
     done("buraigue_make_load");
 }
 
+static void bound(const uint8_t *book, size_t length, size_t scans, enum buraigue_reply reply, uint64_t at, uint64_t most, uint64_t none) {
+    lend(&one, 0);
+    uint64_t number = buraigue_bound_listing(book, length, scans, &place, &rules, &count);
+    expect(number, reply, at, rules == most && count == none);
+}
+
+/* D has an empty right side; the ambiguous grammar has none, and one nonterminal */
+static void bounds(void) {
+    bound(ambiguous, a, 0, BURAIGUE_ACCEPTED, 0, 0, 0);
+    bound(ambiguous, a, 1, BURAIGUE_ACCEPTED, 0, 1, 0);
+    bound(ambiguous, a, 65535, BURAIGUE_ACCEPTED, 0, 131069, 0);
+    bound(ambiguous, a, 65536, BURAIGUE_LIMIT_EXCEEDED, 0, 0, 0);
+    bound(ambiguous, a, SIZE_MAX, BURAIGUE_LIMIT_EXCEEDED, 0, 0, 0);
+    bound(grammar, g, 4, BURAIGUE_ACCEPTED, 0, 0, 1);
+    bound(grammar, g - 1, 4, BURAIGUE_MALFORMED, g - 12, 0, 0);
+    done("buraigue_bound_listing");
+}
+
 int main(void) {
     g = load("examples/d.grammar", grammar), t = load("examples/d.tables", tables), a = load("examples/ambiguous.grammar", ambiguous);
     read_grammars();
@@ -186,6 +204,7 @@ int main(void) {
     done("buraigue_run_scans");
     lists();
     loads();
+    bounds();
     printf("%u cases, %u wrong\n", all, all_wrong);
     return all_wrong != 0;
 }

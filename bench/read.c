@@ -1,8 +1,10 @@
-/* How long reading takes: grammar books of 32, 64 and 127 rules, table books and scan files of 4, 16 and 64 KiB, best of many runs.
+/* How long reading takes: grammar books of 32, 64 and 127 rules, read and asked for a bound on listings, table books and scan files of 4, 16
+   and 64 KiB, best of many runs.
    sh bench/run.sh read */
 #include "bench.h"
 
 static uint8_t book[65537], items[BURAIGUE_ITEMS], tokens[BURAIGUE_TOKENS];
+static uint64_t most, unbounded;
 
 /* rules of 15 symbols with a cut between any two */
 static size_t grammar_book(int rules) {
@@ -34,16 +36,17 @@ static size_t scan_file(size_t size) {
     return at;
 }
 
-enum what { GRAMMAR, TABLE, SCANS };
+enum what { GRAMMAR, BOUND, TABLE, SCANS };
 
 static uint64_t read_once(enum what what, size_t n, uint64_t *place) {
     if (what == GRAMMAR) return buraigue_read_grammar(book, n, items, sizeof items, place);
+    if (what == BOUND) return buraigue_bound_listing(book, n, 65535, place, &most, &unbounded);
     if (what == TABLE) return buraigue_check_tables((const uint8_t *)grammar, sizeof grammar - 1, book, n, place);
     return buraigue_read_scans(book, n, tokens, sizeof tokens, place);
 }
 
 static void measure(enum what what, size_t n) {
-    static const char *names[] = {"grammar", "table", "scans"};
+    static const char *names[] = {"grammar", "bound", "table", "scans"};
     double best = 1e9;
     uint64_t place = 0, number = 99;
     for (int i = 0; i < 400; i++) {
@@ -60,6 +63,7 @@ int main(void) {
     int rules[] = {32, 64, 127};
     size_t sizes[] = {4096, 16384, 65536};
     for (int i = 0; i < 3; i++) measure(GRAMMAR, grammar_book(rules[i]));
+    for (int i = 0; i < 3; i++) measure(BOUND, grammar_book(rules[i]));
     for (int i = 0; i < 3; i++) measure(TABLE, table_book(sizes[i]));
     for (int i = 0; i < 3; i++) measure(SCANS, scan_file(sizes[i]));
     return 0;

@@ -64,10 +64,12 @@ static void make_load(void) {
     }
 }
 
+static void bound_listing(void) { buraigue_bound_listing(grammar, g, 65535, &place, &rules, &units); }
+
 static const struct { const char *name; void (*call)(void); } calls[] = {
     {"read_grammar", read_grammar}, {"read_scans", read_scans}, {"check_tables", check_tables},
     {"build_tables", build_tables}, {"run_session", run_session}, {"run_scans", run_scans}, {"list_expected", list_expected},
-    {"make_load", make_load}};
+    {"make_load", make_load}, {"bound_listing", bound_listing}};
 enum { CALLS = sizeof calls / sizeof *calls };
 
 static void *run(void *call) {

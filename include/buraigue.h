@@ -60,7 +60,8 @@ uint64_t buraigue_build_tables(const uint8_t *grammar, size_t grammar_length, ui
 
 /* Checks both books, then walks the tokens, 1 to t each, at most 65,535: the rules that it announces stand in listing, *rules counts them
    and *units those that count a unit; stack is zeros after. How much stack and listing a session needs depends on the grammar: the program
-   run_session lends 1,048,576 of each. Where they are too short the reply is BURAIGUE_BUFFER_TOO_SMALL. Machine stack: 272 KiB. */
+   run_session lends 1,048,576 of each, and buraigue_bound_listing tells how much listing is enough. Where they are too short the reply is
+   BURAIGUE_BUFFER_TOO_SMALL. Machine stack: 272 KiB. */
 uint64_t buraigue_run_session(const uint8_t *grammar, size_t grammar_length, const uint8_t *tables, size_t tables_length,
                               const uint8_t *tokens, size_t tokens_length, uint8_t *stack, size_t stack_length, uint8_t *listing,
                               size_t listing_length, uint64_t *place, uint64_t *rules, uint64_t *units);
@@ -86,6 +87,13 @@ uint64_t buraigue_list_expected(const uint8_t *grammar, size_t grammar_length, c
    buraigue_read_grammar with enough lent. Machine stack: 48 KiB. */
 uint64_t buraigue_make_load(const uint8_t *grammar, size_t grammar_length, uint32_t seed, size_t depth, uint8_t *tokens, size_t tokens_length,
                             uint8_t *listing, size_t listing_length, uint64_t *place, uint64_t *count, uint64_t *rules);
+
+/* How many rules the listing of a session of so many scans, 65,535 at most, can have, whatever tables are accepted for the grammar: with
+   *rules of listing no sentence of so many scans is BURAIGUE_BUFFER_TOO_SMALL for want of listing. Of a grammar with an empty right side there
+   is no bound: *unbounded is then 1, and else 0. *place is 0. More scans are BURAIGUE_LIMIT_EXCEEDED; every other reply is that of
+   buraigue_read_grammar with enough lent. Machine stack: 16 KiB. */
+uint64_t buraigue_bound_listing(const uint8_t *grammar, size_t grammar_length, size_t scans, uint64_t *place, uint64_t *rules,
+                                uint64_t *unbounded);
 
 #ifdef __cplusplus
 }
