@@ -1,6 +1,6 @@
 -- What is told of an answer is told of the definition that it equals.
 use Prim.Native.Nat.{ℕ}
-use mathlib.Core.Path.{_≡_, refl, ap, subst, _∙_}
+use mathlib.Core.Path.{_≡_, refl, ap, _∙_}
 use mathlib.Core.Bool.{Bool, true, false, cond}
 use mathlib.Core.List.{List}
 use mir.Val.{boolByte}
@@ -18,10 +18,9 @@ use Rattle.generator.specs.Generated as generator
 use Rattle.listing_bound.specs.declared.ListingBound.{ListingBound}
 use Rattle.listing_bound.specs.Bound.{isUnbounded}
 use Rattle.listing_bound.specs.Bound as bound
-use Rattle.buraigue_c.specs.Told.{ReplyGiven, SessionGiven, ExpectedTold, LoadTold, BoundTold}
-
-pub told : {r x : Reply} {number place : ℕ} → r ≡ x → ReplyGiven r number place → ReplyGiven x number place
-told {number = n} {place = p} e t = subst (λ (y : Reply). ReplyGiven y n p) e t
+use Rattle.c_told.specs.Given.{ReplyGiven}
+use Rattle.c_told.proofs.GivenLaws.{told}
+use Rattle.buraigue_c.specs.Told.{SessionGiven, ExpectedTold, LoadTold, BoundTold}
 
 pub session-told : {s : Session} {a : Walked} {number place rules units : ℕ} {stack listing : List ℕ}
     → (a ≡ s .reply) × ((listing ≡ s .listing) × (stack ≡ s .stack))

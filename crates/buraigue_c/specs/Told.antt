@@ -3,8 +3,7 @@ use Prim.Native.Nat.{ℕ}
 use mathlib.Core.Bool.{cond}
 use mathlib.Core.Path.{_≡_}
 use mathlib.Core.List.{List}
-use Rattle.reply.specs.declared.Reply.{Reply}
-use Rattle.reply.specs.Reply.{numberOf, placeOf}
+use Rattle.c_told.specs.Given.{ReplyGiven}
 use Rattle.walker.specs.Walked.{asReply, ruleCount, unitCount}
 use Rattle.session.specs.Session.{Session}
 use Rattle.expected_trials.specs.Trials.{Expected}
@@ -15,11 +14,6 @@ use Rattle.generator.specs.Generated as generator
 use Rattle.listing_bound.specs.declared.ListingBound.{ListingBound}
 use Rattle.listing_bound.specs.Bound.{isUnbounded}
 use Rattle.listing_bound.specs.Bound as bound
-
--- a reply's number and place
-pub record ReplyGiven (r : Reply) (number place : ℕ) : Type 0 where
-  pub number-is : number ≡ numberOf r
-  pub place-is : place ≡ placeOf r
 
 -- a session's: the reply, the counts and both slices
 pub record SessionGiven (s : Session) (number place rules units : ℕ) (stack listing : List ℕ) : Type 0 where

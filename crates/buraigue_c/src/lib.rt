@@ -1,37 +1,21 @@
 // The calls on bytes for C and Rust (include/buraigue.h): each answers the reply's number, and puts its place, and what it counts, where
 // references point.
 // Each is a door.
-use reply::Reply;
-use session::SessionReply;
+use c_told::tell_reply;
+use c_told::tell_session;
 ghost use mathlib.Core.Path.{_≡_};
 ghost use lib.ListN.{length, replicate};
 ghost use Rattle.grammar.specs.Memory.{asReply, replyOf, readOf, memoryOf};
 ghost use Rattle.scans.specs.File.{scansOf};
 ghost use Rattle.checker.specs.Checked.{verdictOf};
 ghost use Rattle.builder.specs.Build.{buildOf};
-ghost use Rattle.walker.specs.Walked as walker;
 ghost use Rattle.session.specs.Session.{session};
 ghost use Rattle.scan_session.specs.ScanSession.{scanSession};
 ghost use Rattle.expected.specs.Expected.{expected};
 ghost use Rattle.generator.specs.Generated.{generated};
 ghost use Rattle.listing_bound.specs.Bound.{boundOf};
-ghost use Rattle.buraigue_c.specs.Told.{ReplyGiven, SessionGiven, ExpectedTold, LoadTold, BoundTold};
-
-fn tell_reply(reply: Reply, place: &mut u64) -> u64
-    ensures { λ r. ⌜ ReplyGiven reply r (now (place .exit)) ⌝ }
-{
-    *place = reply::place(reply) as u64;
-    reply::number(reply)
-}
-
-fn tell_session(answer: SessionReply, place: &mut u64, rules: &mut u64, units: &mut u64) -> u64
-    ensures { λ r. ⌜ ReplyGiven (walker.asReply answer) r (now (place .exit)) ⌝ }
-    ensures { λ r. ⌜ (now (rules .exit) ≡ walker.ruleCount answer) × (now (units .exit) ≡ walker.unitCount answer) ⌝ }
-{
-    *rules = walker::rule_count(answer) as u64;
-    *units = walker::unit_count(answer) as u64;
-    tell_reply(walker::as_reply(answer), place)
-}
+ghost use Rattle.c_told.specs.Given.{ReplyGiven};
+ghost use Rattle.buraigue_c.specs.Told.{SessionGiven, ExpectedTold, LoadTold, BoundTold};
 
 // Reads a grammar book into the item table, as grammar::read_grammar.
 #[no_mangle]

@@ -34,7 +34,8 @@ use Rattle.item_first.specs.Rows.{RowOf}
 use Rattle.item_first.specs.Rows as rows
 use Rattle.item_first.proofs.FirstLaws.{at-zero}
 use Rattle.item_first.proofs.CarryLaws.{row-declared, code-low, row-carries, carries-row}
-use Rattle.cells.specs.Demands.{Demand, Differs, Met, Asks, CodeAsks, ItemAsks, announces, pops, LinesAsk, RulesAsk, demandOf, HoldsAsked, Conflict, HoldsConflicts}
+use Rattle.cell_demands.specs.Demands.{Demand, Differs, Met, Asks, CodeAsks}
+use Rattle.cells.specs.Demands.{ItemAsks, announces, pops, LinesAsk, RulesAsk, demandOf, HoldsAsked, Conflict, HoldsConflicts}
 
 -- a count that is right
 pub pop-value : (n : ℕ) → n ≤ 15 → popValue (suc n) ≡ n

@@ -1,5 +1,7 @@
 // What the items of a state ask of its cells.
 // Inner: for the checker, the builder and `explain_states`.
+use cell_demands::agree;
+use cell_demands::ask_codes;
 use memory::Totals;
 use symbol::CODES;
 use symbol::Symbol;
@@ -7,19 +9,20 @@ ghost use mathlib.Core.Path.{_≡_};
 ghost use mathlib.Core.Bool.{true};
 ghost use mathlib.Core.List.{List};
 ghost use Prim.Native.Nat.{ℕ, suc, _+_, _*_, _-_, _<_, _≤_};
-ghost use lib.ListN.{length, getD, replicate};
+ghost use lib.ListN.{length, replicate};
 ghost use Rattle.language.specs.Grammar.{Grammar};
 ghost use Rattle.leftcorner.specs.Table.{Table};
 ghost use Rattle.leftcorner.specs.Construction.{CellsAgree};
 ghost use Rattle.items.specs.Layout.{leftAt};
-ghost use Rattle.fixpoint.specs.Flags.{Off, Decides};
+ghost use Rattle.fixpoint.specs.Flags.{Decides};
 ghost use Rattle.memory.specs.Held.{HoldsTable};
 ghost use Rattle.analysis.specs.FirstBy.{FirstBy};
 ghost use Rattle.closure.specs.Expansion.{HoldsClosure};
 ghost use Rattle.moves.specs.Moves.{Lined, Readable};
 ghost use Rattle.moves.specs.Flags.{HoldsMoves};
 ghost use Rattle.item_first.specs.Rows.{FirstRoom};
-ghost use Rattle.cells.specs.Demands.{Asks, Wants, CodeAsks, ItemAsks, RuleAsks, LinesAsk, RulesAsk, HoldsAsked, HoldsConflicts};
+ghost use Rattle.cell_demands.specs.Demands.{Asks};
+ghost use Rattle.cells.specs.Demands.{ItemAsks, RuleAsks, LinesAsk, RulesAsk, HoldsAsked, HoldsConflicts};
 
 // What is asked of a cell, as a number: so many times the action's kind, and its value. 0 is nothing.
 pub const VALUES: usize = 256;
@@ -29,50 +32,6 @@ pub const SHIFT: usize = 256;
 pub const ANNOUNCE: usize = 512;
 // The value is the entry's length.
 pub const POP: usize = 768;
-
-// Asks for `demand` in the cell for code c. Where something else was asked first, `others` keeps the first that differs.
-fn ask(asked: &mut [usize], others: &mut [usize], c: usize, demand: usize)
-    requires { ⌜ (length (now asked) ≡ 64) × (length (now others) ≡ 64) × (c < 64) × (1 ≤ demand) ⌝ }
-    ensures { λ _. ⌜ Asks (Wants c demand) (now (asked .entry)) (now (others .entry)) (now (asked .exit)) (now (others .exit)) ⌝ }
-{
-    let before = asked[c];
-    if before == 0 {
-        asked[c] = demand;
-        return;
-    }
-    if before == demand {
-        return;
-    }
-    if others[c] != 0 {
-        return;
-    }
-    others[c] = demand;
-}
-
-// Asks for it in the cell of each code that is flagged, from code `low` on.
-fn ask_codes(
-    from: &[u8],
-    start: usize,
-    low: usize,
-    codes: usize,
-    demand: usize,
-    asked: &mut [usize],
-    others: &mut [usize],
-)
-    requires { ⌜ (start + 64 ≤ length (now from)) × (codes ≤ 64) × (1 ≤ demand) ⌝ }
-    requires { ⌜ (length (now asked) ≡ 64) × (length (now others) ≡ 64) ⌝ }
-    ensures { λ _. ⌜ Asks (CodeAsks (now (from .entry)) start low codes demand) (now (asked .entry)) (now (others .entry)) (now (asked .exit)) (now (others .exit)) ⌝ }
-{
-    let mut c = low;
-    while c < codes {
-        if from[start + c] == 0 {
-            c += 1;
-            continue;
-        }
-        ask(asked, others, c, demand);
-        c += 1;
-    }
-}
 
 // Asks what item i with dot k asks, where the flags of its lookaheads stand from `start` on.
 pub fn ask_item(
@@ -215,21 +174,6 @@ fn ask_rules(
         ask_rule(items, nullable, first, follow, totals, i, asked, others);
         i += 1;
     }
-}
-
-// Whether nothing else was asked of any cell.
-fn agree(others: &[usize]) -> bool
-    requires { ⌜ length (now others) ≡ 64 ⌝ }
-    ensures { λ b. ⌜ Decides ((c : ℕ) → c < 64 → Off (now (others .entry)) c) b ⌝ }
-{
-    let mut c = 0;
-    while c < CODES {
-        if others[c] != 0 {
-            return false;
-        }
-        c += 1;
-    }
-    true
 }
 
 // Fills in what the items of q ask of each code's cell: in `asked` the first action, in `others` the first that differs from it. The answer is

@@ -2,7 +2,7 @@
 use mathlib.Core.Path.{ap, _∙_}
 use Rattle.grammar.specs.Memory.{asReply}
 use borrow.Author.Needs.{needs}
-use Rattle.buraigue_c.proofs.ToldLaws.{told}
+use Rattle.c_told.proofs.GivenLaws.{told}
 use Rattle.buraigue_c.proofs.buraigue_read_grammar.Statement.{statement}
 use Rattle.buraigue_c.proofs.buraigue_read_grammar.Tie as tie
 

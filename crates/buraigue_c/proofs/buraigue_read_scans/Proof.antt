@@ -1,6 +1,6 @@
 -- `buraigue_c::buraigue_read_scans` meets its contract. Assumes nothing.
 use borrow.Author.Needs.{needs}
-use Rattle.buraigue_c.proofs.ToldLaws.{told}
+use Rattle.c_told.proofs.GivenLaws.{told}
 use Rattle.buraigue_c.proofs.buraigue_read_scans.Statement.{statement}
 use Rattle.buraigue_c.proofs.buraigue_read_scans.Tie as tie
 

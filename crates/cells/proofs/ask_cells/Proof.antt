@@ -1,4 +1,5 @@
-use Rattle.cells.proofs.AskLaws.{asks-then, zero-length}
+use Rattle.cell_demands.proofs.DemandLaws.{asks-then}
+use Rattle.cells.proofs.AskLaws.{zero-length}
 use Rattle.cells.proofs.AskedLaws.{decides-agree, holds-asked, holds-conflicts}
 use mathlib.Core.Path.{_∙_}
 use native.Mathlib.Omega.{arith}

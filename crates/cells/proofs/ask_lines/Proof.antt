@@ -1,5 +1,7 @@
-use Rattle.cells.specs.Demands.{Met, Asking, LinesAsk}
-use Rattle.cells.proofs.AskLaws.{asking-none, met-kept, asking-then, LineAsks, line-asks, of-line}
+use Rattle.cell_demands.specs.Demands.{Met, Asking}
+use Rattle.cell_demands.proofs.DemandLaws.{asking-none, met-kept, asking-then}
+use Rattle.cells.specs.Demands.{LinesAsk}
+use Rattle.cells.proofs.AskLaws.{LineAsks, line-asks, of-line}
 use mathlib.Core.Path.{_∙_}
 use Prim.Native.Nat.{ℕ, _-_}
 use native.Mathlib.Omega.{arith}

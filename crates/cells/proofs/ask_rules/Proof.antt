@@ -1,5 +1,6 @@
-use Rattle.cells.specs.Demands.{Met, Asking, RulesAsk, RuleAsks}
-use Rattle.cells.proofs.AskLaws.{asking-none, met-kept, asking-then}
+use Rattle.cell_demands.specs.Demands.{Met, Asking}
+use Rattle.cell_demands.proofs.DemandLaws.{asking-none, met-kept, asking-then}
+use Rattle.cells.specs.Demands.{RulesAsk, RuleAsks}
 use mathlib.Core.Path.{_∙_}
 use Prim.Native.Nat.{ℕ, _+_, _≤_, _<_, _-_}
 use native.Mathlib.Omega.{arith}

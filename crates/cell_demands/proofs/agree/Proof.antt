@@ -4,8 +4,8 @@ use borrow.Author.Needs.{needs}
 use borrow.Author.Count.{below-none, below-more}
 use Rattle.fixpoint.specs.Flags.{Off}
 use Rattle.fixpoint.proofs.PassLaws.{is-yes, is-no}
-use Rattle.cells.proofs.agree.Statement.{statement}
-use Rattle.cells.proofs.agree.Tie as tie
+use Rattle.cell_demands.proofs.agree.Statement.{statement}
+use Rattle.cell_demands.proofs.agree.Tie as tie
 
 abbrev Inv-loop : tie.InvT-loop
 Inv-loop others c₀ c = (c ≤ 64) × ((d : ℕ) → d < c → Off others d)

@@ -1,8 +1,8 @@
-use Rattle.cells.proofs.AskLaws.{ask-new, ask-same, ask-third, ask-other}
+use Rattle.cell_demands.proofs.DemandLaws.{ask-new, ask-same, ask-third, ask-other}
 use native.Mathlib.Omega.{arith}
 use borrow.Author.Needs.{needs}
-use Rattle.cells.proofs.ask.Statement.{statement}
-use Rattle.cells.proofs.ask.Tie as tie
+use Rattle.cell_demands.proofs.ask.Statement.{statement}
+use Rattle.cell_demands.proofs.ask.Tie as tie
 
 mul-before : tie.Need-mul-before
 mul-before c = search needs

@@ -1,8 +1,8 @@
--- `buraigue_c::tell_session` meets its contract. Assumes nothing.
+-- `c_told::tell_session` meets its contract. Assumes nothing.
 use borrow.Author.Needs.{needs}
-use Rattle.buraigue_c.proofs.ToldLaws.{told}
-use Rattle.buraigue_c.proofs.tell_session.Statement.{statement}
-use Rattle.buraigue_c.proofs.tell_session.Tie as tie
+use Rattle.c_told.proofs.GivenLaws.{told}
+use Rattle.c_told.proofs.tell_session.Statement.{statement}
+use Rattle.c_told.proofs.tell_session.Tie as tie
 
 rule-count-requires : tie.Need-rule-count-requires
 rule-count-requires c κs = search needs

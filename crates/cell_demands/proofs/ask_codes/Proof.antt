@@ -1,11 +1,11 @@
-use Rattle.cells.specs.Demands.{Asking, CodeAsks}
-use Rattle.cells.proofs.AskLaws.{asking-none, asking-then, Below, wants-code, codes-skip, codes-more, codes-all}
+use Rattle.cell_demands.specs.Demands.{Asking, CodeAsks}
+use Rattle.cell_demands.proofs.DemandLaws.{asking-none, asking-then, Below, wants-code, codes-skip, codes-more, codes-all}
 use Prim.Native.Nat.{_≤_, _-_}
 use native.Mathlib.Omega.{arith}
 use borrow.Author.Needs.{needs}
 use Rattle.fixpoint.proofs.PassLaws.{set-on, no-gap}
-use Rattle.cells.proofs.ask_codes.Statement.{statement}
-use Rattle.cells.proofs.ask_codes.Tie as tie
+use Rattle.cell_demands.proofs.ask_codes.Statement.{statement}
+use Rattle.cell_demands.proofs.ask_codes.Tie as tie
 
 abbrev Inv-loop : tie.InvT-loop
 Inv-loop from start low codes demand asked₀ others₀ c₀ asked others c = (low ≤ c) × Asking (CodeAsks from start low codes demand) asked₀ others₀ asked others × Below from start low codes demand asked others c

@@ -1,7 +1,7 @@
--- `buraigue_c::tell_reply` meets its contract. Assumes nothing.
+-- `c_told::tell_reply` meets its contract. Assumes nothing.
 use borrow.Author.Needs.{needs}
-use Rattle.buraigue_c.proofs.tell_reply.Statement.{statement}
-use Rattle.buraigue_c.proofs.tell_reply.Tie as tie
+use Rattle.c_told.proofs.tell_reply.Statement.{statement}
+use Rattle.c_told.proofs.tell_reply.Tie as tie
 
 place-requires : tie.Need-place-requires
 place-requires c κs = search needs
