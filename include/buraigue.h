@@ -36,12 +36,20 @@ enum buraigue_reply {
     BURAIGUE_CELL_MISMATCH = 10,
     BURAIGUE_BUFFER_TOO_SMALL = 11,
     BURAIGUE_SYNTAX_ERROR = 12,
-    BURAIGUE_CONFLICTING_REPEAT = 13
+    BURAIGUE_CONFLICTING_REPEAT = 13,
+    BURAIGUE_AMBIGUOUS_LETTER = 14
 };
 
-/* what is always enough to lend: for an item table, for the tokens of a scan file, for a table book, for the codes that could come, for the
-   tokens of a load */
-enum { BURAIGUE_ITEMS = 8192, BURAIGUE_TOKENS = 10922, BURAIGUE_BOOK = 65536, BURAIGUE_CODES = 64, BURAIGUE_LOAD = 65535 };
+/* what is always enough to lend: for an item table, for the tokens of a scan file, for the codes of A to Z, for a table book, for the codes
+   that could come, for the tokens of a load */
+enum {
+    BURAIGUE_ITEMS = 8192,
+    BURAIGUE_TOKENS = 10922,
+    BURAIGUE_LETTERS = 26,
+    BURAIGUE_BOOK = 65536,
+    BURAIGUE_CODES = 64,
+    BURAIGUE_LOAD = 65535
+};
 
 /* Reads a grammar book into the item table: rule i in the 64 bytes from items[64 * i] on, its left side, length, recognition point and
    unit flag (1 for U), symbol k at 16 + k, and at 32 + k a 1 where symbol k begins a group. Less than BURAIGUE_ITEMS bytes are too few.
@@ -50,6 +58,17 @@ uint64_t buraigue_read_grammar(const uint8_t *book, size_t book_length, uint8_t 
 
 /* Reads a scan file with the house letters into its tokens; *place is how many there are. Machine stack: 16 KiB. */
 uint64_t buraigue_read_scans(const uint8_t *file, size_t file_length, uint8_t *tokens, size_t tokens_length, uint64_t *place);
+
+/* Reads a letters book for a grammar of so many terminals, 1 to 63, into the codes of A to Z: codes[0] is that of A, and 0 is that of a
+   letter that is not used. *place is 0, or where the reply is BURAIGUE_AMBIGUOUS_LETTER the index of the first letter whose code is another's
+   too, or is 4. Less than BURAIGUE_LETTERS bytes are too few. Machine stack: 16 KiB. */
+uint64_t buraigue_read_letters(const uint8_t *book, size_t book_length, size_t terminals, uint8_t *codes, size_t codes_length,
+                               uint64_t *place);
+
+/* Reads a scan file as buraigue_read_scans does, through a letters book for so many terminals instead of the house letters. A refusal of the
+   letters book comes before those of the scan lines. Machine stack: 16 KiB. */
+uint64_t buraigue_read_lettered(const uint8_t *letters, size_t letters_length, size_t terminals, const uint8_t *file, size_t file_length,
+                                uint8_t *tokens, size_t tokens_length, uint64_t *place);
 
 /* Checks a table book against its grammar book, whoever built it. Machine stack: 256 KiB. */
 uint64_t buraigue_check_tables(const uint8_t *grammar, size_t grammar_length, const uint8_t *book, size_t book_length, uint64_t *place);
@@ -70,6 +89,12 @@ uint64_t buraigue_run_session(const uint8_t *grammar, size_t grammar_length, con
 uint64_t buraigue_run_scans(const uint8_t *grammar, size_t grammar_length, const uint8_t *tables, size_t tables_length,
                             const uint8_t *file, size_t file_length, uint8_t *stack, size_t stack_length, uint8_t *listing,
                             size_t listing_length, uint64_t *place, uint64_t *rules, uint64_t *units);
+
+/* The same through a letters book, which is read after both books and before the scans. Machine stack: 272 KiB. */
+uint64_t buraigue_run_lettered(const uint8_t *grammar, size_t grammar_length, const uint8_t *tables, size_t tables_length,
+                               const uint8_t *letters, size_t letters_length, const uint8_t *file, size_t file_length, uint8_t *stack,
+                               size_t stack_length, uint8_t *listing, size_t listing_length, uint64_t *place, uint64_t *rules,
+                               uint64_t *units);
 
 /* What could have come: where buraigue_run_session, lent this stack and listing, would reply 0 or 12 at a place, every code that could
    stand there, in rising order: 0 where the tokens before the place are a sentence already, and each terminal that after them begins one.

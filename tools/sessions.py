@@ -3,12 +3,31 @@ import functools, re
 import tables
 
 LINE = re.compile(rb'(0|[1-9][0-9]*),([A-Z]),([!-+\--~]{1,30})')
-HOUSE = {b'D': 1, b'G': 2, b'P': 3, b'E': 5, b'T': 6, b'F': 7}
+HOUSE = [{'D': 1, 'G': 2, 'P': 3, 'E': 5, 'T': 6, 'F': 7}.get(x, 0) for x in 'ABCDEFGHIJKLMNOPQRSTUVWXYZ']
 check = functools.cache(tables.check)
 
 
-def read_scans(scans, room):
-    """The reply's number, its place and the tokens."""
+def read_letters(book, terminals, room):
+    """Document 02, S-8: the number, the place and the codes of A to Z."""
+    try:
+        tables.need(0, 2, 1 <= terminals <= 63)
+        lines = tables.Lines(book)
+        at, f = lines.take()
+        tables.need(at, 1, f and f[0] == 'L' and len(f) == 27 and tables.numbers(f[1:]))
+        codes = f[1:]
+        tables.need(at, 2, max(codes) <= tables.MOST)
+        tables.need(at, 3, max(codes) <= terminals)
+        lines.end()
+        for i, c in enumerate(codes):
+            tables.need(i, 14, c == 0 or (c != 4 and codes.count(c) == 1))
+        tables.need(0, 11, room >= 26)
+        return 0, 0, codes
+    except tables.Refused as why:
+        return *why.args, []
+
+
+def read_scans(scans, room, codes=HOUSE):
+    """The reply's number, its place and the tokens, by the codes of the letters A to Z."""
     if len(scans) > 65536:
         return 2, 0, []
     tokens, place, before, label_before = [], 0, None, None
@@ -21,9 +40,10 @@ def read_scans(scans, room):
             return 2, place, []
         if sequence == before and label != label_before:
             return 13, place, []
-        if label[0] not in HOUSE:
+        code = codes[label[0][0] - ord('A')]
+        if code == 0:
             return 3, place, []
-        tokens.append(4 if sequence == before else HOUSE[label[0]])
+        tokens.append(4 if sequence == before else code)
         before, label_before = sequence, label
         place += len(line) + 1
     if place < len(scans):
@@ -31,6 +51,14 @@ def read_scans(scans, room):
     if len(tokens) > room:
         return 11, 0, []
     return 0, len(tokens), tokens
+
+
+def read_lettered(letters, terminals, scans, room):
+    """The same, by a letters book."""
+    if len(scans) > 65536:
+        return 2, 0, []
+    number, place, codes = read_letters(letters, terminals, 26)
+    return (number, place, []) if number else read_scans(scans, room, codes)
 
 
 def walk(g, t, tokens, n, k):
@@ -76,14 +104,25 @@ def run_session(grammar, table, tokens, n, k):
     return walk(g, tables.read_table(table, g), tokens, n, k)
 
 
-def run_scans(grammar, table, scans, n, k):
-    number, place, tokens = read_scans(scans, 65536)
-    if len(scans) > 65536:
-        return 2, 0, 0, []
+def scanned(grammar, table, scans, letters=None):
+    """The number, the place and the tokens of a session's scans: lengths, books, letters book, lines. None is no letters book."""
+    if len(scans) > 65536 or len(letters or b'') > 65536:
+        return 2, 0, []
+    number, place = check(grammar, table)
     if number:
-        first = check(grammar, table)
-        return *(first if first[0] else (number, place)), 0, []
-    return run_session(grammar, table, tokens, n, k)
+        return number, place, []
+    if letters is None:
+        return read_scans(scans, 65536)
+    return read_lettered(letters, tables.read_grammar(grammar).t, scans, 65536)
+
+
+def run_scans(grammar, table, scans, n, k, letters=None):
+    number, place, tokens = scanned(grammar, table, scans, letters)
+    return (number, place, 0, []) if number else run_session(grammar, table, tokens, n, k)
+
+
+def run_lettered(grammar, table, letters, scans, n, k):
+    return run_scans(grammar, table, scans, n, k, letters)
 
 
 def trial(g, t, tokens, code, n, k):
@@ -104,14 +143,13 @@ def list_expected(grammar, table, tokens, n, k, room):
     return (11, place, []) if 11 in ends or len(codes) > room else (0, place, codes)
 
 
-def list_expected_scans(grammar, table, scans, n, k, room):
-    number, place, tokens = read_scans(scans, 65536)
-    if len(scans) > 65536:
-        return 2, 0, []
-    if number:
-        first = check(grammar, table)
-        return *(first if first[0] else (number, place)), []
-    return list_expected(grammar, table, tokens, n, k, room)
+def list_expected_scans(grammar, table, scans, n, k, room, letters=None):
+    number, place, tokens = scanned(grammar, table, scans, letters)
+    return (number, place, []) if number else list_expected(grammar, table, tokens, n, k, room)
+
+
+def list_expected_lettered(grammar, table, letters, scans, n, k, room):
+    return list_expected_scans(grammar, table, scans, n, k, room, letters)
 
 
 def bound_listing(grammar, scans):

@@ -3,14 +3,16 @@
 
     tools/vectors.py                 works out every case
     tools/vectors.py KIND FOLDER     adds the cases of FOLDER first, or replaces those of the same name; KIND is grammar, check,
-                                     build, scan, session, expected, load, walk or bound
+                                     build, scan, session, expected, load, walk, bound, letters or lettered
 
 FOLDER has a folder for each case: `grammar`, `table`, `tokens` (one a line), `scans`, as its kind asks; `out_len` (the length of the slice
 lent) or `lens` (`STACK,LISTING`) where they are not 65,536 and 65,535 each; and `expected`. A session with `scans` is run both ways. Or a
-case has `arg1`, `arg2` and so on, the arguments of a program, and `program`, its name, where it is another than KIND's. A load has its
-seed and its depth in `arg2.txt` and `arg3.txt`, and `lens` (`TOKENS,LISTING`) where they are not 65,536 each. A walk has `grammar`,
-`table`, `loaded` (the grammar whose loads are walked) and `loads`, a line `SEED,DEPTH` for each, the seed at most 65,536. A bound has its
-number of scans in `arg2.txt`.
+case has `arg1`, `arg2` and so on, the arguments of a program, and `program`, its name, where it is another than KIND's. A list has `lens`
+(`STACK,LISTING,CODES`) where they are not 65,536, 65,536 and 64. A load has its seed and its depth in `arg2.txt` and `arg3.txt`, and `lens`
+(`TOKENS,LISTING`) where they are not 65,536 each. A walk has `grammar`, `table`, `loaded` (the grammar whose loads are walked) and `loads`,
+a line `SEED,DEPTH` for each, the seed at most 65,536. A bound has its number of scans in `arg2.txt`. The scans of a session or a list are
+read by the letters book `letters` where there is one. A case of letters is such a book alone, and one of lettered is `scans` read by it,
+for as many terminals as `terminals` says.
 What a case must write is worked out by tables.py, sessions.py and loads.py, from the documents' text and not from the proved code; where a
 case comes with `expected`, the two must agree.
 """
@@ -18,12 +20,13 @@ import itertools, os, sys
 import loads, sessions, tables
 
 CRATE = os.path.join(os.path.dirname(os.path.abspath(__file__)), '..', 'crates', 'vectors')
-WORDS = {'1,': 1, '2,': 2, '3,': 2, '4,': 2, '5,': 5, '6,': 5, '7,': 6, '8,': 6, '9,': 5, '10,': 5, '11,': 2}
+WORDS = {'1,': 1, '2,': 2, '3,': 2, '4,': 2, '5,': 5, '6,': 5, '7,': 6, '8,': 6, '9,': 5, '10,': 5, '11,': 2, '12,': 3, '13,': 4, '14,': 6,
+         '15,': 7}
 # the kind that a program's cases are of, and what its arguments are
 PROGRAMS = {
     'read_grammar': ('grammar', ['grammar']), 'check_tables': ('check', ['grammar', 'table']), 'build_tables': ('build', ['grammar']),
-    'read_scans': ('scan', ['scans']), 'run_session': ('session', ['grammar', 'table', 'scans']),
-    'list_expected': ('expected', ['grammar', 'table', 'scans']), 'make_load': ('load', ['grammar']),
+    'read_scans': ('scan', ['scans']), 'run_session': ('session', ['grammar', 'table', 'scans', 'letters']),
+    'list_expected': ('expected', ['grammar', 'table', 'scans', 'letters']), 'make_load': ('load', ['grammar']),
     'bound_listing': ('bound', ['grammar']),
 }
 # what the program lends of stack and listing for a list, and of listing for a load, where a case says 65,536
@@ -75,14 +78,26 @@ def read_scans(scans, room):
     return lines(f'{number},{place}', *tokens)
 
 
-def session(run, grammar, table, content, stack, listing):
-    number, place, units, rules = run(data(grammar), data(table), data(content), stack, listing)
+def read_letters(letters, terminals, room):
+    number, place, codes = sessions.read_letters(data(letters), terminals, room)
+    return lines(f'{number},{place}', *codes)
+
+
+def read_lettered(letters, scans, terminals, room):
+    number, place, tokens = sessions.read_lettered(data(letters), terminals, data(scans), room)
+    return lines(f'{number},{place}', *tokens)
+
+
+def session(run, *words):
+    *files, stack, listing = words
+    number, place, units, rules = run(*map(data, files), stack, listing)
     return lines(f'{number},{place},{len(rules)},{units}', *rules)
 
 
-def listed(run, grammar, table, content, stack, listing, room):
+def listed(run, *words):
+    *files, stack, listing, room = words
     lent = [LENT if n == 65536 else n for n in (stack, listing)]
-    number, place, codes = run(data(grammar), data(table), data(content), *lent, room)
+    number, place, codes = run(*map(data, files), *lent, room)
     return lines(f'{number},{place}', *codes)
 
 
@@ -105,12 +120,14 @@ def bound_listing(grammar, scans):
 
 def written(call, words):
     words = [int(w[:-1]) if w.endswith(',') else w for w in words]
-    if call in ('7,', '8,'):
-        return listed(sessions.list_expected if call == '7,' else sessions.list_expected_scans, *words)
-    if call in ('5,', '6,'):
-        return session(sessions.run_session if call == '5,' else sessions.run_scans, *words)
+    lists = {'7,': sessions.list_expected, '8,': sessions.list_expected_scans, '15,': sessions.list_expected_lettered}
+    walks = {'5,': sessions.run_session, '6,': sessions.run_scans, '14,': sessions.run_lettered}
+    if call in lists:
+        return listed(lists[call], *words)
+    if call in walks:
+        return session(walks[call], *words)
     return {'1,': read_grammar, '2,': check_tables, '3,': build_tables, '4,': read_scans, '9,': make_load, '10,': walk_load,
-            '11,': bound_listing}[call](*words)
+            '11,': bound_listing, '12,': read_letters, '13,': read_lettered}[call](*words)
 
 
 # ---- cases
@@ -147,7 +164,7 @@ def of_kind(kind, at, name):
     args = next((args for k, args in PROGRAMS.values() if k == kind), [])
     files = {f: f for f in os.listdir(at)}
     if 'arg1' in files:
-        files = {file: f'arg{i + 1}' for i, file in enumerate(args)}
+        files = {file: f'arg{i + 1}' for i, file in enumerate(args) if f'arg{i + 1}' in files}
 
     def put(file, ending=''):
         content = load(at, files[file])
@@ -172,14 +189,22 @@ def of_kind(kind, at, name):
         return [('9,', [put('grammar'), *numbers('arg2.txt', ''), *numbers('arg3.txt', ''), *numbers('lens', '65536,65536')])]
     if kind == 'bound':
         return [('11,', [put('grammar'), *numbers('arg2.txt', '')])]
+    terminals = numbers('terminals', '')
+    if kind == 'letters':
+        return [('12,', [put('letters'), *terminals, *room])]
+    if kind == 'lettered':
+        return [('13,', [put('letters', '.letters'), put('scans', '.scans'), *terminals, *room])]
     books = [put('grammar', '.grammar'), put('table', '.tables')]
-    if kind == 'expected':
-        return [('8,', [*books, put('scans', '.scans'), '65536,', '65536,', '64,'])]
     if kind == 'walk':
         words = [*books, put('loaded')]
         return [('10,', [*words, *(n + ',' for n in line.split(','))]) for line in load(at, 'loads').decode().split()]
+    letters = [put('letters', '.letters')] if 'letters' in files else []
+    lettered = [*books, *letters]
+    if kind == 'expected':
+        return [('15,' if letters else '8,', [*lettered, put('scans', '.scans'), *numbers('lens', '65536,65536,64')])]
     lent = numbers('lens', '65535,65535')
-    return [(call, [*books, put(file, '.' + file), *lent]) for call, file in (('5,', 'tokens'), ('6,', 'scans')) if file in files]
+    cases = (('5,', books, 'tokens'), ('14,' if letters else '6,', lettered, 'scans'))
+    return [(call, [*words, put(file, '.' + file), *lent]) for call, words, file in cases if file in files]
 
 
 def spread(answer):

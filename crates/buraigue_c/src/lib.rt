@@ -6,11 +6,14 @@ use c_told::tell_session;
 ghost use mathlib.Core.Path.{_≡_};
 ghost use lib.ListN.{length, replicate};
 ghost use Rattle.grammar.specs.Memory.{asReply, replyOf, readOf, memoryOf};
-ghost use Rattle.scans.specs.File.{scansOf};
+ghost use Rattle.scans.specs.File.{scansOf, outcomeOf};
+ghost use Rattle.letters.specs.Letters.{lettersOf};
+ghost use Rattle.letters.specs.Letters as letters;
+ghost use Rattle.lettered_scans.specs.Lettered.{lettered};
 ghost use Rattle.checker.specs.Checked.{verdictOf};
 ghost use Rattle.builder.specs.Build.{buildOf};
 ghost use Rattle.session.specs.Session.{session};
-ghost use Rattle.scan_session.specs.ScanSession.{scanSession};
+ghost use Rattle.scan_session.specs.ScanSession.{scanSession, letteredSession};
 ghost use Rattle.expected.specs.Expected.{expected};
 ghost use Rattle.generator.specs.Generated.{generated};
 ghost use Rattle.listing_bound.specs.Bound.{boundOf};
@@ -34,6 +37,37 @@ pub extern "C" fn buraigue_read_scans(file: &[u8], tokens: &mut [u8], place: &mu
     ensures stored { λ r. ⌜ now (tokens .exit) ≡ scansOf (now (file .entry)) (length (now (tokens .entry))) .tokens ⌝ }
 {
     let reply = scans::read_scans(file, tokens);
+    tell_reply(reply, place)
+}
+
+// Reads a letters book for so many terminals, as letters::read_letters.
+#[no_mangle]
+pub extern "C" fn buraigue_read_letters(
+    book: &[u8],
+    terminals: usize,
+    codes: &mut [u8],
+    place: &mut u64,
+) -> u64
+    ensures told { λ r. ⌜ ReplyGiven (letters.outcomeOf (lettersOf terminals (now (book .entry))) (length (now (codes .entry))) .reply) r (now (place .exit)) ⌝ }
+    ensures stored { λ r. ⌜ now (codes .exit) ≡ letters.outcomeOf (lettersOf terminals (now (book .entry))) (length (now (codes .entry))) .codes ⌝ }
+{
+    let reply = letters::read_letters(book, terminals, codes);
+    tell_reply(reply, place)
+}
+
+// Reads a scan file through a letters book, as lettered_scans::read_lettered.
+#[no_mangle]
+pub extern "C" fn buraigue_read_lettered(
+    letters: &[u8],
+    terminals: usize,
+    file: &[u8],
+    tokens: &mut [u8],
+    place: &mut u64,
+) -> u64
+    ensures told { λ r. ⌜ ReplyGiven (outcomeOf (lettered terminals (now (letters .entry)) (now (file .entry))) (length (now (tokens .entry))) .reply) r (now (place .exit)) ⌝ }
+    ensures stored { λ r. ⌜ now (tokens .exit) ≡ outcomeOf (lettered terminals (now (letters .entry)) (now (file .entry))) (length (now (tokens .entry))) .tokens ⌝ }
+{
+    let reply = lettered_scans::read_lettered(letters, terminals, file, tokens);
     tell_reply(reply, place)
 }
 
@@ -97,6 +131,25 @@ pub extern "C" fn buraigue_run_scans(
     ensures { λ r. ⌜ SessionGiven (scanSession (now (grammar .entry)) (now (tables .entry)) (now (file .entry)) (length (now (stack .entry))) (length (now (listing .entry)))) r (now (place .exit)) (now (rules .exit)) (now (units .exit)) (now (stack .exit)) (now (listing .exit)) ⌝ }
 {
     let answer = scan_session::run_scans(grammar, tables, file, stack, listing);
+    tell_session(answer, place, rules, units)
+}
+
+// A session over a scan file with a bank's own letters, as scan_session::run_lettered.
+#[no_mangle]
+pub extern "C" fn buraigue_run_lettered(
+    grammar: &[u8],
+    tables: &[u8],
+    letters: &[u8],
+    file: &[u8],
+    stack: &mut [u8],
+    listing: &mut [u8],
+    place: &mut u64,
+    rules: &mut u64,
+    units: &mut u64,
+) -> u64
+    ensures { λ r. ⌜ SessionGiven (letteredSession (now (grammar .entry)) (now (tables .entry)) (now (letters .entry)) (now (file .entry)) (length (now (stack .entry))) (length (now (listing .entry)))) r (now (place .exit)) (now (rules .exit)) (now (units .exit)) (now (stack .exit)) (now (listing .exit)) ⌝ }
+{
+    let answer = scan_session::run_lettered(grammar, tables, letters, file, stack, listing);
     tell_session(answer, place, rules, units)
 }
 

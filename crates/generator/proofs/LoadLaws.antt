@@ -5,7 +5,7 @@ use mathlib.Core.Logic.{_⊎_, inl, inr}
 use mathlib.Core.List.{List, _∷_, _++_, append-assoc}
 use native.Mathlib.Omega.{arith}
 use lib.ListN.{length, take, drop, replicate, length-replicate, length-append, length-drop, replicate-append-replicate}
-use lib.Seq.{sets, sets-eq, length-take-le}
+use lib.Seq.{sets, length-take-le}
 use Rattle.language.specs.Grammar.{Grammar}
 use Rattle.language.specs.Derivation.{Tree, yield}
 use Rattle.language.specs.Listing.{listing}
@@ -17,6 +17,7 @@ use Rattle.generate_loads.specs.Load.{IsSymbol, grown, load}
 use Rattle.generate_heights.specs.Heights.{Source}
 use Rattle.reply.specs.declared.Kind.the-variants.{BufferTooSmall}
 use Rattle.reply.specs.Reply.{padded}
+use Rattle.reply.proofs.PaddedLaws.{drop-zeros, put-zeros}
 use Rattle.generate_steps.specs.declared.Point.{Point}
 use Rattle.generate_steps.specs.declared.Step.{Step}
 use Rattle.generator.specs.declared.GeneratorReply.{GeneratorReply}
@@ -32,30 +33,6 @@ take-zeros : (i n : ℕ) → i ≤ n → take i (replicate {A = ℕ} n 0) ≡ re
 take-zeros zero n h = refl
 take-zeros (suc i) zero h = absurd (omega arith)
 take-zeros (suc i) (suc n) h = ap (λ (l : List ℕ). 0 ∷ l) (take-zeros i n (omega arith))
-
-drop-zeros : (i n : ℕ) → drop i (replicate {A = ℕ} n 0) ≡ replicate (n - i) 0
-drop-zeros zero n = ap (λ (k : ℕ). replicate {A = ℕ} k 0) (same n)
-  where
-    same : (n : ℕ) → n ≡ n - 0
-    same n = omega arith
-drop-zeros (suc i) zero = ap (λ (k : ℕ). replicate {A = ℕ} k 0) (none i)
-  where
-    none : (n : ℕ) → 0 ≡ 0 - suc n
-    none n = omega arith
-drop-zeros (suc i) (suc n) = drop-zeros i n ∙ ap (λ (k : ℕ). replicate {A = ℕ} k 0) (less n i)
-  where
-    less : (n i : ℕ) → n - i ≡ suc n - suc i
-    less n i = omega arith
-
--- a list written at the start of zeros
-put-zeros : (l : List ℕ) (n : ℕ) → length l ≤ n → sets (replicate n 0) 0 l ≡ padded n l
-unfolding padded
-put-zeros l n h =
-    sets-eq l (replicate n 0) 0 (omega (arith, length-replicate {A = ℕ} n 0))
-    ∙ ap (λ (z : List ℕ). l ++ z) (ap (λ (k : ℕ). drop k (replicate {A = ℕ} n 0)) (zero-and (length l)) ∙ drop-zeros (length l) n)
-  where
-    zero-and : (n : ℕ) → 0 + n ≡ n
-    zero-and n = omega arith
 
 -- more zeros behind
 pad-more : (l : List ℕ) (e n : ℕ) → length l ≤ e → e ≤ n → padded e l ++ drop e (replicate n 0) ≡ padded n l

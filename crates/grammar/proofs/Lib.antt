@@ -4,5 +4,6 @@ pub mod FormLaws
 pub mod ReducedLaws
 pub mod IntoLaws
 pub mod GrammarLaws
+pub mod HeaderLaws
 pub mod ReadLaws
 pub mod Examples

@@ -152,6 +152,24 @@ pub fn read_argument(i: usize, what: &[u8], usage: &[u8], buf: &mut [u8]) -> Inp
     input
 }
 
+// Whether there is an argument i.
+pub fn has_argument(i: usize) -> bool {
+    i < os::arg_count()
+}
+
+// The same for an argument that may be left out: there is nothing to read then.
+pub fn read_optional(i: usize, what: &[u8], usage: &[u8], buf: &mut [u8]) -> Input
+    ensures { λ r. ⌜ Counts (r .size) (now (buf .exit)) ⌝ }
+{
+    if has_argument(i) {
+        return read_argument(i, what, usage, buf);
+    }
+    Input {
+        size: 0,
+        failed: false,
+    }
+}
+
 fn wide(b: u8) -> usize
     ensures { λ r. ⌜ r < 256 ⌝ }
 {

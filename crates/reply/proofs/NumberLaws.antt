@@ -20,3 +20,4 @@ refusal-number kind.CellMismatch = omega arith
 refusal-number kind.BufferTooSmall = omega arith
 refusal-number kind.SyntaxError = omega arith
 refusal-number kind.ConflictingRepeat = omega arith
+refusal-number kind.AmbiguousLetter = omega arith

@@ -22,6 +22,7 @@ kindNumber kind.CellMismatch = 10  -- cell
 kindNumber kind.BufferTooSmall = 11  -- short slip
 kindNumber kind.SyntaxError = 12  -- wrong scan
 kindNumber kind.ConflictingRepeat = 13  -- S-3: crossed
+kindNumber kind.AmbiguousLetter = 14  -- S-8: shared letter
 
 -- "0 | whole | accepted, or read to the end"
 abbrev pub numberOf : Reply → ℕ

@@ -32,6 +32,8 @@ pub enum Kind {
     SyntaxError,
     // crossed
     ConflictingRepeat,
+    // shared letter
+    AmbiguousLetter,
 }
 
 // A refusal: its kind, and the place that the documents fix for it.
@@ -64,6 +66,7 @@ pub fn kind_number(kind: Kind) -> u64
         Kind::BufferTooSmall => 11,
         Kind::SyntaxError => 12,
         Kind::ConflictingRepeat => 13,
+        Kind::AmbiguousLetter => 14,
     }
 }
 

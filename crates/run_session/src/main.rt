@@ -1,11 +1,36 @@
-// run_session GRAMMAR TABLES SCANS: walks the scans of a file, with the house letters, by the tables of a book that is checked
-// against the grammar's. Prints the reply's number and place, the number of rules and that of units, then each listed rule on a line.
+// run_session GRAMMAR TABLES SCANS [LETTERS]: walks the scans of a file, with the letters of a letters book or else the house letters, by the
+// tables of a book that is checked against the grammar's. Prints the reply's number and place, the number of rules and that of units, then
+// each listed rule on a line.
+use session::SessionReply;
 
-fn show(grammar: &[u8], tables: &[u8], scans: &[u8]) {
+fn walk(
+    lettered: bool,
+    grammar: &[u8],
+    tables: &[u8],
+    letters: &[u8],
+    scans: &[u8],
+    stack: &mut [u8],
+    listing: &mut [u8],
+) -> SessionReply {
+    if lettered {
+        return scan_session::run_lettered(grammar, tables, letters, scans, stack, listing);
+    }
+    scan_session::run_scans(grammar, tables, scans, stack, listing)
+}
+
+fn show(lettered: bool, grammar: &[u8], tables: &[u8], letters: &[u8], scans: &[u8]) {
     let mut stack = program::lend(0);
     let mut listing = program::lend(0);
     let mut out = program::output();
-    let answer = scan_session::run_scans(grammar, tables, scans, &mut stack, &mut listing);
+    let answer = walk(
+        lettered,
+        grammar,
+        tables,
+        letters,
+        scans,
+        &mut stack,
+        &mut listing,
+    );
     let reply = walker::as_reply(answer);
     program::print_figures(
         &mut out,
@@ -19,7 +44,7 @@ fn show(grammar: &[u8], tables: &[u8], scans: &[u8]) {
 }
 
 fn main() {
-    let usage = b"usage: run_session GRAMMAR TABLES SCANS\n";
+    let usage = b"usage: run_session GRAMMAR TABLES SCANS [LETTERS]\n";
     let mut grammar = [0u8; program::FILE];
     let first = program::read_argument(1, b"GRAMMAR", usage, &mut grammar);
     if first.failed {
@@ -35,8 +60,20 @@ fn main() {
     if third.failed {
         return;
     }
+    let mut letters = [0u8; program::FILE];
+    let fourth = program::read_optional(4, b"LETTERS", usage, &mut letters);
+    if fourth.failed {
+        return;
+    }
     let n = first.size;
     let m = second.size;
     let k = third.size;
-    show(&grammar[..n], &tables[..m], &scans[..k]);
+    let l = fourth.size;
+    show(
+        program::has_argument(4),
+        &grammar[..n],
+        &tables[..m],
+        &letters[..l],
+        &scans[..k],
+    );
 }

@@ -1,1 +1,2 @@
+pub mod TerminalLaws
 pub mod ScanLaws

@@ -4,3 +4,4 @@ pub mod OutcomeLaws
 pub mod TokenLaws
 pub mod FormLaws
 pub mod Promise
+pub mod Renamed

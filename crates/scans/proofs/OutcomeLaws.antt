@@ -1,28 +1,19 @@
 -- What reading a file into a slice gives, from what reading its lines gave.
-use Prim.Native.Nat.{ℕ, zero, suc, _-_, _<_, _≤_}
+use Prim.Native.Nat.{ℕ, _<_, _≤_}
 use mathlib.Core.Path.{_≡_, refl, sym, ap, _∙_}
-use mathlib.Core.List.{List, _++_}
+use mathlib.Core.List.{List}
 use native.Mathlib.Omega.{arith}
-use native.Mathlib.Nat.{zero-add}
 use borrow.Author.Tests.{le-leb, lt-leb}
-use lib.ListN.{length, drop, replicate, length-replicate}
-use lib.Seq.{sets, sets-eq}
+use lib.ListN.{length, replicate}
+use lib.Seq.{sets}
 use Rattle.reply.specs.declared.Kind.the-variants as kind
 use Rattle.reply.specs.declared.Refusal.{Refusal}
 use Rattle.reply.specs.declared.Reply.{Reply}
 use Rattle.reply.specs.declared.Reply.the-variants as reply
+use Rattle.reply.specs.Reply.{padded}
+use Rattle.reply.proofs.PaddedLaws.{put-zeros}
 use Rattle.scans.specs.File.{Scanned, tokens, refused, refusedAt, allLines, scanned, replyOf, outcomeOf}
 use Rattle.scans.specs.Read.{Stored}
-
-drop-zeros : (n k : ℕ) → drop {A = ℕ} k (replicate n 0) ≡ replicate (n - k) 0
-drop-zeros n zero = let e : n ≡ n - 0 = omega arith in ap (λ (m : ℕ). replicate m 0) e
-drop-zeros zero (suc k) = let e : 0 ≡ 0 - suc k = omega arith in ap (λ (m : ℕ). replicate m 0) e
-drop-zeros (suc n) (suc k) = let e : n - k ≡ suc n - suc k = omega arith in drop-zeros n k ∙ ap (λ (m : ℕ). replicate m 0) e
-
-sets-zeros : (l : List ℕ) (room : ℕ) → length l ≤ room → sets (replicate room 0) 0 l ≡ l ++ replicate (room - length l) 0
-sets-zeros l room h =
-    let e : length {A = ℕ} (replicate room 0) ≡ room = length-replicate room 0 in
-    sets-eq l (replicate room 0) 0 (omega arith) ∙ simp (zero-add, drop-zeros room (length l))
 
 -- r and `held` are the reply and the slice that reading s into a slice of `room` tokens gives
 abbrev pub Answers : List ℕ → List ℕ → ℕ → Reply → List ℕ → Type 0
@@ -64,12 +55,12 @@ module _ (letters s : List ℕ) (room : ℕ) where
           go (refused w) q p = let z : _≡_ {A = ℕ} 0 1 = cc in absurd (omega arith)
 
       pub enough-room : lent ≡ replicate room 0 → n ≤ room → Answers letters s room (reply.Accepted n) held
-      unfolding outcomeOf
+      unfolding outcomeOf padded
       enough-room z f =
           let l = listed .0 in
           let k : length l ≤ room = omega (arith, listed .2) in (
             ap reply.Accepted (sym (listed .2)) ∙ simp (by-lines, listed .1, le-leb (length l) room k),
-            d .stored l (listed .1) ∙ ap (λ (m : List ℕ). sets m 0 l) z ∙ sets-zeros l room k ∙ simp (by-lines, listed .1, le-leb (length l) room k),
+            d .stored l (listed .1) ∙ ap (λ (m : List ℕ). sets m 0 l) z ∙ put-zeros l room k ∙ simp (by-lines, listed .1, le-leb (length l) room k),
           )
 
       pub no-room : room < n → {a : Reply} {zeros : List ℕ} → a ≡ reply.Refused (record { kind = kind.BufferTooSmall; place = 0 })

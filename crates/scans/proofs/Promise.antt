@@ -119,12 +119,12 @@ module _ (letters : List ℕ) (first : ℕ) (s : List ℕ) where
 
   -- ---- lines that are written in a file
   -- one line
-  record Next (at k : ℕ) (x : Scan) : Type 0 where
-    fuel : ℕ
-    enough : length s ≤ at + length (lineText x) + fuel
-    rows : rowsFrom first s k at ≡ scan (first + at) x ∷ rowsFrom first s fuel (at + length (lineText x))
+  pub record Next (at k : ℕ) (x : Scan) : Type 0 where
+    pub fuel : ℕ
+    pub enough : length s ≤ at + length (lineText x) + fuel
+    pub rows : rowsFrom first s k at ≡ scan (first + at) x ∷ rowsFrom first s fuel (at + length (lineText x))
 
-  next : (at k : ℕ) (x : Scan) (r : List ℕ) → InForm x → drop at s ≡ lineText x ++ r → length s ≤ at + k → Next at k x
+  pub next : (at k : ℕ) (x : Scan) (r : List ℕ) → InForm x → drop at s ≡ lineText x ++ r → length s ≤ at + k → Next at k x
   next at k x r F e h = go k h
     where
       inside : at < length s

@@ -5,14 +5,15 @@ use mathlib.Core.List.{List, [], _∷_, _++_, map}
 use mathlib.Core.Bool.{Bool, true, false, cond, _&&_}
 use native.Mathlib.Omega.{arith}
 use borrow.Author.Needs.{needs}
-use borrow.Author.Tests.{leb-true}
+use borrow.Author.Tests.{leb-true, le-leb}
 use lib.Dec.{leb}
 use lib.ListN.{length, getD, replicate}
 use Rattle.fixpoint.specs.Each.{Each}
+use Rattle.reply.specs.declared.Refusal.{Refusal}
 use Rattle.reply.specs.declared.Reply.the-variants as reply
 use Rattle.reply.specs.declared.Kind.the-variants as kind
 use Rattle.scan_lines.specs.Tokens.{Scanned, tokens, refused, refusedAt, codeOf}
-use Rattle.scans.specs.File.{house, allLines, scanned, outcomeOf, scansOf}
+use Rattle.scans.specs.File.{house, allLines, scanned, outcomeOf}
 
 -- what is read at all is what the lines give
 pub scanned-lines : (letters s l : List ℕ) → scanned letters s ≡ tokens l → allLines letters 0 s ≡ tokens l
@@ -45,26 +46,29 @@ no-four b e = omega (arith, go (leb 65 b && leb b 90), e)
     go true = each house (search needs) (b - 65)
     go false = omega arith
 
--- what a reply of 0 tells
-pub record Listed (s : List ℕ) (room n : ℕ) : Type 0 where
+-- what a reply of 0 tells of a file that came to x
+pub record Listed (x : Scanned) (room n : ℕ) : Type 0 where
   pub list : List ℕ
-  pub read : scanned house s ≡ tokens list
+  pub read : x ≡ tokens list
   pub counted : length list ≡ n
   pub fits : n ≤ room
-  pub held : scansOf s room .tokens ≡ list ++ replicate (room - n) 0
+  pub held : outcomeOf x room .tokens ≡ list ++ replicate (room - n) 0
 
-pub scans-listed : (s : List ℕ) (room n : ℕ) → scansOf s room .reply ≡ reply.Accepted n → Listed s room n
-unfolding scansOf outcomeOf
-scans-listed s room n e = go (scanned house s) refl
+pub scans-listed : (x : Scanned) (room n : ℕ) → outcomeOf x room .reply ≡ reply.Accepted n → Listed x room n
+unfolding outcomeOf
+scans-listed (tokens l) room n e = go (leb (length l) room) refl
   where
-    room-for : (l : List ℕ) → scanned house s ≡ tokens l → (t : Bool) → leb (length l) room ≡ t → Listed s room n
-    room-for l q true p =
-        let f = simp (q, p) at e in
+    go : (t : Bool) → leb (length l) room ≡ t → Listed (tokens l) room n
+    go true p =
+        let f = simp p at e in
         let c : length l ≡ n = cc in
-        let h : scansOf s room .tokens ≡ l ++ replicate (room - length l) 0 = simp (q, p) in
-        record { list = l; read = q; counted = c; fits = omega (arith, leb-true (length l) room p); held = h ∙ ap (λ (m : ℕ). l ++ replicate (room - m) 0) c }
-    room-for l q false p = let f = simp (q, p) at e in let z : _≡_ {A = ℕ} 0 1 = cc in absurd (omega arith)
+        let h : outcomeOf (tokens l) room .tokens ≡ l ++ replicate (room - length l) 0 = simp p in
+        record { list = l; read = refl; counted = c; fits = omega (arith, leb-true (length l) room p); held = h ∙ ap (λ (m : ℕ). l ++ replicate (room - m) 0) c }
+    go false p = let f = simp p at e in let z : _≡_ {A = ℕ} 0 1 = cc in absurd (omega arith)
+scans-listed (refused x) room n e = let z : _≡_ {A = ℕ} 0 1 = cc in absurd (omega arith)
 
-    go : (x : Scanned) → scanned house s ≡ x → Listed s room n
-    go (tokens l) q = room-for l q (leb (length l) room) refl
-    go (refused x) q = let f = simp q at e in let z : _≡_ {A = ℕ} 0 1 = cc in absurd (omega arith)
+-- and what a refusal tells where there is room for all
+pub scans-refused : (x : Scanned) (room : ℕ) {why : Refusal} → ((l : List ℕ) → x ≡ tokens l → length l ≤ room) → outcomeOf x room .reply ≡ reply.Refused why → x ≡ refused why
+unfolding outcomeOf
+scans-refused (tokens l) room few e = let f = simp (le-leb (length l) room (few l refl)) at e in let z : _≡_ {A = ℕ} 0 1 = cc in absurd (omega arith)
+scans-refused (refused x) room {why} few e = let f : x ≡ why = cc in ap refused f

@@ -1,5 +1,5 @@
 // Reads scan files: a token for each line.
-// The door is `read_scans`.
+// The door is `read_scans`; `read_by` and `refuse_file` are inner, for other letters.
 use reply::Kind;
 use reply::Refusal;
 use reply::Reply;
@@ -80,7 +80,7 @@ fn read_lines(letters: &[u8; 26], file: &[u8], tokens: &mut [u8]) -> Reply
 }
 
 // A refusal leaves zeros.
-fn refuse_file(lent: &mut [u8], why: Refusal) -> Reply
+pub fn refuse_file(lent: &mut [u8], why: Refusal) -> Reply
     ensures refused { λ r. ⌜ r ≡ Reply.Refused why ⌝ }
     ensures zeroed { λ r. ⌜ now (lent .exit) ≡ replicate (length (now (lent .entry))) 0 ⌝ }
 {
@@ -89,7 +89,7 @@ fn refuse_file(lent: &mut [u8], why: Refusal) -> Reply
 }
 
 // Reads a scan file by the codes of its letters.
-fn read_by(letters: &[u8; 26], file: &[u8], tokens: &mut [u8]) -> Reply
+pub fn read_by(letters: &[u8; 26], file: &[u8], tokens: &mut [u8]) -> Reply
     ensures replied { λ r. ⌜ r ≡ outcomeOf (scanned (now (letters .entry)) (now (file .entry))) (length (now (tokens .entry))) .reply ⌝ }
     ensures stored { λ r. ⌜ now (tokens .exit) ≡ outcomeOf (scanned (now (letters .entry)) (now (file .entry))) (length (now (tokens .entry))) .tokens ⌝ }
 {

@@ -1,5 +1,5 @@
--- A line of a table book: a letter, then numbers. Document 01, 'Books': "A book is ASCII lines, each ended by LF, its fields in
--- fixed order parted by commas". No line of a table book has a mark.
+-- A line of a table book or a letters book: a letter, then numbers. Document 01, 'Books': "A book is ASCII lines, each ended by LF, its
+-- fields in fixed order parted by commas". No such line has a mark.
 use Prim.Native.Nat.{ℕ, zero, suc, min}
 use mathlib.Core.Path.{_≡_}
 use mathlib.Core.List.{List, [], _∷_, _++_}

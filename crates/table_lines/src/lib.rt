@@ -1,5 +1,5 @@
-// Lines of table books: a letter, then numbers to the line's end; and what comes of a line and of a block of lines.
-// Inner: for the readers of blocks.
+// Lines of table and letters books: a letter, then numbers to the line's end; and what comes of a line and of a block of lines.
+// Inner: for the readers of blocks and of letters books.
 use reply::Kind;
 use reply::Refusal;
 use text::Cursor;
@@ -143,7 +143,7 @@ fn read_numbers(s: &[u8], letter: u8, first: Cursor, numbers: &mut [usize]) -> L
 }
 
 // The line at `at`. Its numbers are stored in `numbers`, as many as there is room for. A broken line leaves `numbers` free: a local
-// of the readers of blocks, not read then.
+// of the readers, not read then.
 pub fn read_line(s: &[u8], at: usize, numbers: &mut [usize]) -> Line
     requires { ⌜ length (now s) < 65537 ⌝ }
     ensures { λ r. ⌜ r ≡ lineOf (lineAt (now (s .entry)) at) ⌝ }

@@ -24,6 +24,8 @@ use Rattle.expected_promise.specs.Promise as expected
 use Rattle.expected_promise.proofs.Promise as listed
 use Rattle.generate_promise.specs.Promise.{GeneratorPromise}
 use Rattle.generate_promise.proofs.Promise as loads
+use Rattle.letters_promise.specs.Promise.{LettersPromise}
+use Rattle.letters_promise.proofs.Promise as lettered
 use Rattle.listing_promise.specs.Promise.{ListingPromise}
 use Rattle.listing_promise.proofs.Promise as listings
 use Rattle.canonical.specs.Promise.{OrderPromise}
@@ -75,6 +77,10 @@ order-promise = order.order-promise
 -- Document 02, S-7, of every session that is whole: `Promise` has its sentences, one by one
 pub listing-promise : ListingPromise
 listing-promise = listings.listing-promise
+
+-- Document 02, S-8, of every letters book and every session through one: `Promise` has its sentences, one by one
+pub letters-promise : LettersPromise
+letters-promise = lettered.letters-promise
 
 -- None of them speaks of nothing: the books of document 01 are built and accepted, and its starred sessions answer what is told
 pub built : Each Built (smallest ∷ g1 ∷ g1-cut ∷ d ∷ [])

@@ -10,8 +10,13 @@
 //     9, GRAMMAR SEED, DEPTH, TOKENS, LISTING,   make_load; 65,536 rules stand for all that the program can lend
 //     10, GRAMMAR TABLES LOADED SEED, DEPTH,     run_session over the load that make_load writes of the grammar LOADED
 //     11, GRAMMAR SCANS,                         bound_listing, of so many scans
-// Prints for each the name of its last file, what the call answers, and what is not 0 in each slice that was lent, which held 7s; of a load
-// a line stands for a run of equal bytes, and of one that is walked 1 for the same listing from both calls, 0 for another.
+//     12, LETTERS TERMINALS, LENGTH,             read_letters, into a slice of so many bytes
+//     13, LETTERS SCANS TERMINALS, LENGTH,       read_lettered, into a slice of so many bytes
+//     14, GRAMMAR TABLES LETTERS SCANS STACK, LISTING,         run_lettered
+//     15, GRAMMAR TABLES LETTERS SCANS STACK, LISTING, CODES,  list_expected_lettered
+// Prints for each the name of its last file, what the call answers, and what is not 0 in each slice that was lent, which held 7s; of letters
+// that are good all codes, zeros too; of a load a line stands for a run of equal bytes, and of one that is walked 1 for the same listing
+// from both calls, 0 for another.
 use expected_trials::ExpectedReply;
 use generator::GeneratorReply;
 use program::Input;
@@ -125,18 +130,65 @@ fn show_scans(out: &mut [u8; OUTPUT], file: &[u8], tokens: &mut [u8]) {
     program::print_bytes(out, tokens);
 }
 
-// Lends the first bytes of the slice to one of the two.
-fn show_in(out: &mut [u8; OUTPUT], call: usize, input: &[u8], slice: &mut [u8], room: usize)
-    requires { ⌜ room ≤ length (now slice) ⌝ }
-{
-    if call == 3 {
-        show_build(out, input, &mut slice[..room]);
-        return;
+// How many codes are printed, zeros too.
+fn code_lines(reply: Reply) -> usize {
+    if reply::number(reply) == 0 {
+        return letters::LETTERS;
     }
-    show_scans(out, input, &mut slice[..room]);
+    0
 }
 
-fn run_one(call: usize, i: usize, room: usize)
+fn show_letters(out: &mut [u8; OUTPUT], book: &[u8], terminals: usize, codes: &mut [u8]) {
+    let reply = letters::read_letters(book, terminals, codes);
+    print_reply(out, reply);
+    program::print_list(out, codes, code_lines(reply));
+}
+
+fn show_lettered(
+    out: &mut [u8; OUTPUT],
+    letters: &[u8],
+    terminals: usize,
+    file: &[u8],
+    tokens: &mut [u8],
+) {
+    let reply = lettered_scans::read_lettered(letters, terminals, file, tokens);
+    print_reply(out, reply);
+    program::print_bytes(out, tokens);
+}
+
+// Makes one of the four calls.
+fn show_one(
+    out: &mut [u8; OUTPUT],
+    call: usize,
+    letters: &[u8],
+    terminals: usize,
+    input: &[u8],
+    slice: &mut [u8],
+) {
+    match call {
+        3 => show_build(out, input, slice),
+        4 => show_scans(out, input, slice),
+        12 => show_letters(out, input, terminals, slice),
+        _ => show_lettered(out, letters, terminals, input, slice),
+    }
+}
+
+// Lends the first bytes of the slice.
+fn show_in(
+    out: &mut [u8; OUTPUT],
+    call: usize,
+    letters: &[u8],
+    terminals: usize,
+    input: &[u8],
+    slice: &mut [u8],
+    room: usize,
+)
+    requires { ⌜ room ≤ length (now slice) ⌝ }
+{
+    show_one(out, call, letters, terminals, input, &mut slice[..room]);
+}
+
+fn run_one(call: usize, i: usize, letters: &[u8], terminals: usize, room: usize)
     requires { ⌜ room ≤ 65536 ⌝ }
 {
     let mut file = [0u8; program::FILE];
@@ -144,22 +196,41 @@ fn run_one(call: usize, i: usize, room: usize)
     let input = read(i, &mut file);
     let n = input.size;
     let mut out = named(i);
-    show_in(&mut out, call, &file[..n], &mut slice, room);
+    show_in(
+        &mut out,
+        call,
+        letters,
+        terminals,
+        &file[..n],
+        &mut slice,
+        room,
+    );
     program::flush(&mut out);
+}
+
+fn run_lettered_scans(i: usize, terminals: usize, room: usize)
+    requires { ⌜ (i + 1 < 18446744073709551616) × (room ≤ 65536) ⌝ }
+{
+    let mut letters = [0u8; program::FILE];
+    let input = read(i, &mut letters);
+    let n = input.size;
+    run_one(13, i + 1, &letters[..n], terminals, room);
 }
 
 fn walk(
     call: usize,
     grammar: &[u8],
     tables: &[u8],
+    letters: &[u8],
     input: &[u8],
     stack: &mut [u8],
     listing: &mut [u8],
 ) -> SessionReply {
-    if call == 5 {
-        return session::run_session(grammar, tables, input, stack, listing);
+    match call {
+        5 => session::run_session(grammar, tables, input, stack, listing),
+        6 => scan_session::run_scans(grammar, tables, input, stack, listing),
+        _ => scan_session::run_lettered(grammar, tables, letters, input, stack, listing),
     }
-    scan_session::run_scans(grammar, tables, input, stack, listing)
 }
 
 // Prints the reply of a session and its counts.
@@ -179,11 +250,15 @@ fn show_session(
     call: usize,
     grammar: &[u8],
     tables: &[u8],
+    letters: &[u8],
     input: &[u8],
     stack: &mut [u8],
     listing: &mut [u8],
 ) {
-    print_walked(out, walk(call, grammar, tables, input, stack, listing));
+    print_walked(
+        out,
+        walk(call, grammar, tables, letters, input, stack, listing),
+    );
     program::print_bytes(out, listing);
     program::print_bytes(out, stack);
 }
@@ -194,6 +269,7 @@ fn show_session_in(
     call: usize,
     grammar: &[u8],
     tables: &[u8],
+    letters: &[u8],
     input: &[u8],
     stack: &mut [u8],
     n: usize,
@@ -207,13 +283,23 @@ fn show_session_in(
         call,
         grammar,
         tables,
+        letters,
         input,
         &mut stack[..n],
         &mut listing[..k],
     );
 }
 
-fn show_lent(call: usize, i: usize, grammar: &[u8], tables: &[u8], input: &[u8], n: usize, k: usize)
+fn show_lent(
+    call: usize,
+    i: usize,
+    grammar: &[u8],
+    tables: &[u8],
+    letters: &[u8],
+    input: &[u8],
+    n: usize,
+    k: usize,
+)
     requires { ⌜ (n ≤ 65536) × (k ≤ 65536) ⌝ }
 {
     let mut stack = [7u8; 65536];
@@ -224,6 +310,7 @@ fn show_lent(call: usize, i: usize, grammar: &[u8], tables: &[u8], input: &[u8],
         call,
         grammar,
         tables,
+        letters,
         input,
         &mut stack,
         n,
@@ -237,15 +324,25 @@ fn expect(
     call: usize,
     grammar: &[u8],
     tables: &[u8],
+    letters: &[u8],
     input: &[u8],
     stack: &mut [u8],
     listing: &mut [u8],
     codes: &mut [u8],
 ) -> ExpectedReply {
-    if call == 7 {
-        return expected::list_expected(grammar, tables, input, stack, listing, codes);
+    match call {
+        7 => expected::list_expected(grammar, tables, input, stack, listing, codes),
+        8 => expected_scans::list_expected_scans(grammar, tables, input, stack, listing, codes),
+        _ => expected_scans::list_expected_lettered(
+            grammar,
+            tables,
+            letters,
+            input,
+            stack,
+            listing,
+            codes,
+        ),
     }
-    expected_scans::list_expected_scans(grammar, tables, input, stack, listing, codes)
 }
 
 // Prints the codes that are counted.
@@ -254,12 +351,13 @@ fn show_expected(
     call: usize,
     grammar: &[u8],
     tables: &[u8],
+    letters: &[u8],
     input: &[u8],
     stack: &mut [u8],
     listing: &mut [u8],
     codes: &mut [u8],
 ) {
-    let answer = expect(call, grammar, tables, input, stack, listing, codes);
+    let answer = expect(call, grammar, tables, letters, input, stack, listing, codes);
     print_reply(out, expected::as_reply(answer));
     program::print_list(out, codes, expected::code_count(answer));
     program::print_bytes(out, listing);
@@ -272,6 +370,7 @@ fn show_expected_in(
     call: usize,
     grammar: &[u8],
     tables: &[u8],
+    letters: &[u8],
     input: &[u8],
     stack: &mut [u8],
     n: usize,
@@ -287,6 +386,7 @@ fn show_expected_in(
         call,
         grammar,
         tables,
+        letters,
         input,
         &mut stack[..n],
         &mut listing[..k],
@@ -308,6 +408,7 @@ fn show_expected_lent(
     i: usize,
     grammar: &[u8],
     tables: &[u8],
+    letters: &[u8],
     input: &[u8],
     n: usize,
     k: usize,
@@ -324,6 +425,7 @@ fn show_expected_lent(
         call,
         grammar,
         tables,
+        letters,
         input,
         &mut stack,
         lent(n),
@@ -376,33 +478,61 @@ fn show_walked_load(
     program::flush(&mut out);
 }
 
-// A session over a file; for a load that is walked n and k are its seed and its depth.
+// Both books, the letters and the input of a session, read.
+fn show_session_of(
+    call: usize,
+    i: usize,
+    grammar: &[u8],
+    tables: &[u8],
+    letters: &[u8],
+    n: usize,
+    k: usize,
+    m: usize,
+)
+    requires { ⌜ (n ≤ 65536) × (k ≤ 65536) × (m ≤ 65536) ⌝ }
+{
+    let mut input = [0u8; program::FILE];
+    let last = read(i, &mut input);
+    let c = last.size;
+    match call {
+        5 | 6 | 14 => show_lent(call, i, grammar, tables, letters, &input[..c], n, k),
+        10 => show_walked_load(i, grammar, tables, &input[..c], n, k),
+        _ => show_expected_lent(call, i, grammar, tables, letters, &input[..c], n, k, m),
+    }
+}
+
+// A session with the house letters; for a load that is walked n and k are its seed and its depth.
 fn run_session(call: usize, i: usize, n: usize, k: usize, m: usize)
     requires { ⌜ (i + 2 < 18446744073709551616) × (n ≤ 65536) × (k ≤ 65536) × (m ≤ 65536) ⌝ }
 {
     let mut grammar = [0u8; program::FILE];
     let mut tables = [0u8; program::FILE];
-    let mut input = [0u8; program::FILE];
     let first = read(i, &mut grammar);
     let second = read(i + 1, &mut tables);
-    let third = read(i + 2, &mut input);
+    let a = first.size;
+    let b = second.size;
+    show_session_of(call, i + 2, &grammar[..a], &tables[..b], b"", n, k, m);
+}
+
+// A session with a bank's own letters.
+fn run_lettered(call: usize, i: usize, n: usize, k: usize, m: usize)
+    requires { ⌜ (i + 3 < 18446744073709551616) × (n ≤ 65536) × (k ≤ 65536) × (m ≤ 65536) ⌝ }
+{
+    let mut grammar = [0u8; program::FILE];
+    let mut tables = [0u8; program::FILE];
+    let mut letters = [0u8; program::FILE];
+    let first = read(i, &mut grammar);
+    let second = read(i + 1, &mut tables);
+    let third = read(i + 2, &mut letters);
     let a = first.size;
     let b = second.size;
     let c = third.size;
-    if call < 7 {
-        show_lent(call, i + 2, &grammar[..a], &tables[..b], &input[..c], n, k);
-        return;
-    }
-    if call == 10 {
-        show_walked_load(i + 2, &grammar[..a], &tables[..b], &input[..c], n, k);
-        return;
-    }
-    show_expected_lent(
+    show_session_of(
         call,
-        i + 2,
+        i + 3,
         &grammar[..a],
         &tables[..b],
-        &input[..c],
+        &letters[..c],
         n,
         k,
         m,
@@ -526,8 +656,8 @@ fn run_bound(i: usize)
 
 // Runs the case that begins at argument i, and answers where the next begins.
 fn run_case(i: usize) -> usize
-    requires { ⌜ i + 7 < 18446744073709551616 ⌝ }
-    ensures { λ r. ⌜ (i < r) × (r ≤ i + 7) ⌝ }
+    requires { ⌜ i + 8 < 18446744073709551616 ⌝ }
+    ensures { λ r. ⌜ (i < r) × (r ≤ i + 8) ⌝ }
 {
     let call = figure(i);
     match call {
@@ -540,7 +670,7 @@ fn run_case(i: usize) -> usize
             i + 3
         }
         3 | 4 => {
-            run_one(call, i + 1, figure(i + 2));
+            run_one(call, i + 1, b"", 0, figure(i + 2));
             i + 3
         }
         5 | 6 | 10 => {
@@ -554,6 +684,22 @@ fn run_case(i: usize) -> usize
         11 => {
             run_bound(i + 1);
             i + 3
+        }
+        12 => {
+            run_one(call, i + 1, b"", figure(i + 2), figure(i + 3));
+            i + 4
+        }
+        13 => {
+            run_lettered_scans(i + 1, figure(i + 3), figure(i + 4));
+            i + 5
+        }
+        14 => {
+            run_lettered(call, i + 1, figure(i + 5), figure(i + 6), 0);
+            i + 7
+        }
+        15 => {
+            run_lettered(call, i + 1, figure(i + 5), figure(i + 6), figure(i + 7));
+            i + 8
         }
         _ => {
             run_session(call, i + 1, figure(i + 4), figure(i + 5), figure(i + 6));

@@ -2,7 +2,8 @@
 use mathlib.Core.Path.{_≡_}
 use lib.ListN.{length}
 use borrow.Author.Needs.{needs}
-use Rattle.scan_session.proofs.ScanLaws.{scans-in, session-over}
+use Rattle.scans.specs.File.{scanned, house, scansOf}
+use Rattle.scan_session.proofs.ScanLaws.{scans-in, house-few, session-over}
 use Rattle.scan_session.proofs.walk_scans.Statement.{statement}
 use Rattle.scan_session.proofs.walk_scans.Tie as tie
 
@@ -16,11 +17,12 @@ slice-aggregate-walk-books : tie.Need-slice-aggregate-walk-books
 slice-aggregate-walk-books c = search needs
 
 walk-books-requires : tie.Need-walk-books-requires
+unfolding scansOf
 walk-books-requires c κs =
     let at-read = c .before .before .before .before in
     let held = at-read .read-scans .last .1 .0 in
     let e : length held ≡ 10922 = search needs in
-    scans-in (at-read .before .before .before .before .before .before .before .args .file .now) held _ (at-read .read-scans .ensures .0) e
+    scans-in (scanned house (at-read .before .before .before .before .before .before .before .args .file .now)) held _ (at-read .read-scans .ensures .0) e
 
 same-length : tie.Need-same-length
 same-length c = search needs
@@ -29,13 +31,14 @@ same-length-2 : tie.Need-same-length-2
 same-length-2 c = search needs
 
 returns : tie.Need-returns
+unfolding scansOf
 returns c =
     let at-books = c .before .before .before .before in
     let at-read = at-books .before .before .before .before .before in
     let start = at-read .before .before .before .before .before .before .before in
     let k = start .args in
     let r = at-read .read-scans .ensures in
-    session-over (length (k .stack .now)) (length (k .listing .now)) (k .grammar .now) (k .tables .now) _ (k .file .now) _ (r .0) (r .1) (start .pre)
+    session-over (length (k .stack .now)) (length (k .listing .now)) (k .grammar .now) (k .tables .now) _ (scanned house (k .file .now)) (house-few (k .file .now) (start .pre)) _ (r .0) (r .1)
     (at-books .walk-books .ensures)
 
 pub walk-scans-spec : {M : Type 1} → statement M

@@ -9,19 +9,19 @@ slice-relend-prefix-show-expected : tie.Need-slice-relend-prefix-show-expected
 slice-relend-prefix-show-expected c = search needs
 
 slice-aggregate-show-expected : tie.Need-slice-aggregate-show-expected
-slice-aggregate-show-expected c = sym (length-take-le _ _ (c .before .before .before .before .before .before .before .before .pre .0))
+slice-aggregate-show-expected c = sym (length-take-le _ _ (c .before .before .before .before .before .before .before .before .before .pre .0))
 
 slice-relend-prefix-show-expected-2 : tie.Need-slice-relend-prefix-show-expected-2
 slice-relend-prefix-show-expected-2 c = search needs
 
 slice-aggregate-show-expected-2 : tie.Need-slice-aggregate-show-expected-2
-slice-aggregate-show-expected-2 c = sym (length-take-le _ _ (c .before .before .before .before .before .before .before .before .before .pre .1))
+slice-aggregate-show-expected-2 c = sym (length-take-le _ _ (c .before .before .before .before .before .before .before .before .before .before .pre .1))
 
 slice-relend-prefix-show-expected-3 : tie.Need-slice-relend-prefix-show-expected-3
 slice-relend-prefix-show-expected-3 c = search needs
 
 slice-aggregate-show-expected-3 : tie.Need-slice-aggregate-show-expected-3
-slice-aggregate-show-expected-3 c = sym (length-take-le _ _ (c .before .before .before .before .before .before .before .before .before .before .pre .2))
+slice-aggregate-show-expected-3 c = sym (length-take-le _ _ (c .before .before .before .before .before .before .before .before .before .before .before .pre .2))
 
 show-expected-requires : tie.Need-show-expected-requires
 show-expected-requires c κs = search needs

@@ -9,13 +9,13 @@ slice-relend-prefix-show-session : tie.Need-slice-relend-prefix-show-session
 slice-relend-prefix-show-session c = search needs
 
 slice-aggregate-show-session : tie.Need-slice-aggregate-show-session
-slice-aggregate-show-session c = sym (length-take-le _ _ (c .before .before .before .before .before .before .before .pre .0))
+slice-aggregate-show-session c = sym (length-take-le _ _ (c .before .before .before .before .before .before .before .before .pre .0))
 
 slice-relend-prefix-show-session-2 : tie.Need-slice-relend-prefix-show-session-2
 slice-relend-prefix-show-session-2 c = search needs
 
 slice-aggregate-show-session-2 : tie.Need-slice-aggregate-show-session-2
-slice-aggregate-show-session-2 c = sym (length-take-le _ _ (c .before .before .before .before .before .before .before .before .pre .1))
+slice-aggregate-show-session-2 c = sym (length-take-le _ _ (c .before .before .before .before .before .before .before .before .before .pre .1))
 
 show-session-requires : tie.Need-show-session-requires
 show-session-requires c κs = search needs

@@ -1,0 +1,3 @@
+pub mod Shared
+pub mod Letters
+pub mod Stored
