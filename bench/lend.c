@@ -88,6 +88,44 @@ static void read_scans(void) {
     done("buraigue_read_scans");
 }
 
+/* a bank whose donation number is X, and whose product is A: the scans of the same bag */
+static const uint8_t own[] = "L,3,0,0,0,0,0,2,0,0,0,0,0,0,0,0,0,0,0,0,0,0,0,0,1,0,0\n", fours[] = "L,0,0,0,4,0,0,2,0,0,0,0,0,0,0,0,3,0,0,0,0,0,0,0,1,0,0\n",
+                     own_codes[] = {3, 0, 0, 0, 0, 0, 2, 0, 0, 0, 0, 0, 0, 0, 0, 0, 0, 0, 0, 0, 0, 0, 0, 1, 0, 0},
+                     own_scans[] = "1,X,W0001\n1,X,W0001\n2,G,O\n3,A,E4532\n";
+enum { OWN = sizeof own - 1, FOURS = sizeof fours - 1 };
+
+static void read_letter(const uint8_t *book, size_t length, size_t terminals, size_t n, enum buraigue_reply reply, uint64_t at) {
+    uint64_t number = buraigue_read_letters(book, length, terminals, lend(&one, n), n, &place);
+    expect(number, reply, at, holds(&one, own_codes, reply ? 0 : sizeof own_codes));
+}
+
+static void read_letters(void) {
+    read_letter(own, OWN, 4, BURAIGUE_LETTERS, BURAIGUE_ACCEPTED, 0);
+    read_letter(own, OWN, 3, BURAIGUE_LETTERS + FEW, BURAIGUE_ACCEPTED, 0);
+    read_letter(own, OWN, 2, BURAIGUE_LETTERS, BURAIGUE_UNDECLARED, 0);
+    read_letter(own, OWN, 0, BURAIGUE_LETTERS, BURAIGUE_LIMIT_EXCEEDED, 0);
+    read_letter(own, OWN, SIZE_MAX, BURAIGUE_LETTERS, BURAIGUE_LIMIT_EXCEEDED, 0);
+    read_letter(own, OWN, 4, BURAIGUE_LETTERS - 1, BURAIGUE_BUFFER_TOO_SMALL, 0);
+    read_letter(own, OWN - 1, 4, BURAIGUE_LETTERS, BURAIGUE_MALFORMED, 0);
+    read_letter(own, 0, 4, BURAIGUE_LETTERS, BURAIGUE_MALFORMED, 0);
+    read_letter(fours, FOURS, 4, BURAIGUE_LETTERS, BURAIGUE_AMBIGUOUS_LETTER, 3);
+    done("buraigue_read_letters");
+}
+
+static void read_own(const uint8_t *book, size_t length, size_t size, size_t n, enum buraigue_reply reply, uint64_t at) {
+    uint64_t number = buraigue_read_lettered(book, length, 4, own_scans, size, lend(&one, n), n, &place);
+    expect(number, reply, at, holds(&one, tokens, reply ? 0 : sizeof tokens));
+}
+
+static void read_lettered(void) {
+    read_own(own, OWN, SCANS, sizeof tokens, BURAIGUE_ACCEPTED, 4);
+    read_own(own, OWN, SCANS, BURAIGUE_TOKENS, BURAIGUE_ACCEPTED, 4);
+    read_own(own, OWN, SCANS, FEW, BURAIGUE_BUFFER_TOO_SMALL, 0);
+    read_own(own, OWN, SCANS - 1, BURAIGUE_TOKENS, BURAIGUE_MALFORMED, 26);
+    read_own(fours, FOURS, SCANS - 1, BURAIGUE_TOKENS, BURAIGUE_AMBIGUOUS_LETTER, 3);
+    done("buraigue_read_lettered");
+}
+
 static void check_table(size_t length, enum buraigue_reply reply, uint64_t at) {
     lend(&one, 0);
     uint64_t number = buraigue_check_tables(grammar, g, tables, length, &place);
@@ -187,10 +225,22 @@ static void bounds(void) {
     done("buraigue_bound_listing");
 }
 
+/* a session through the bank's letters, as `run` has the calls */
+static uint64_t run_own(const uint8_t *grammar, size_t g, const uint8_t *tables, size_t t, const uint8_t *file, size_t length, uint8_t *stack,
+                        size_t n, uint8_t *listing, size_t k, uint64_t *place, uint64_t *rules, uint64_t *units) {
+    return buraigue_run_lettered(grammar, g, tables, t, own, OWN, file, length, stack, n, listing, k, place, rules, units);
+}
+static uint64_t run_fours(const uint8_t *grammar, size_t g, const uint8_t *tables, size_t t, const uint8_t *file, size_t length, uint8_t *stack,
+                          size_t n, uint8_t *listing, size_t k, uint64_t *place, uint64_t *rules, uint64_t *units) {
+    return buraigue_run_lettered(grammar, g, tables, t, fours, FOURS, file, length, stack, n, listing, k, place, rules, units);
+}
+
 int main(void) {
     g = load("examples/d.grammar", grammar), t = load("examples/d.tables", tables), a = load("examples/ambiguous.grammar", ambiguous);
     read_grammars();
     read_scans();
+    read_letters();
+    read_lettered();
     check_tables();
     build_tables();
     sessions(buraigue_run_session, tokens, sizeof tokens);
@@ -202,6 +252,11 @@ int main(void) {
     run(buraigue_run_scans, t, "1,D,W0001\n1,D,W0002\n", 20, 9, 5, BURAIGUE_CONFLICTING_REPEAT, 10);
     run(buraigue_run_scans, t, scans, SCANS - 1, 9, 5, BURAIGUE_MALFORMED, 26);
     done("buraigue_run_scans");
+    sessions(run_own, own_scans, SCANS);
+    run(run_own, t, scans, SCANS, 9, 5, BURAIGUE_UNDECLARED, 0);
+    run(run_own, t, "1,X,W0001\n2,X,W0001\n", 20, 9, 5, BURAIGUE_SYNTAX_ERROR, 1);
+    run(run_fours, t, scans, SCANS - 1, 9, 5, BURAIGUE_AMBIGUOUS_LETTER, 3);
+    done("buraigue_run_lettered");
     lists();
     loads();
     bounds();

@@ -1,5 +1,5 @@
 /* How long reading takes: grammar books of 32, 64 and 127 rules, read and asked for a bound on listings, table books and scan files of 4, 16
-   and 64 KiB, best of many runs.
+   and 64 KiB, scan files with the house letters and through a letters book that is the same, best of many runs.
    sh bench/run.sh read */
 #include "bench.h"
 
@@ -36,17 +36,20 @@ static size_t scan_file(size_t size) {
     return at;
 }
 
-enum what { GRAMMAR, BOUND, TABLE, SCANS };
+static const char own[] = "L,0,0,0,1,5,7,2,0,0,0,0,0,0,0,0,3,0,0,0,6,0,0,0,0,0,0\n";
+
+enum what { GRAMMAR, BOUND, TABLE, SCANS, LETTERED };
 
 static uint64_t read_once(enum what what, size_t n, uint64_t *place) {
     if (what == GRAMMAR) return buraigue_read_grammar(book, n, items, sizeof items, place);
     if (what == BOUND) return buraigue_bound_listing(book, n, 65535, place, &most, &unbounded);
     if (what == TABLE) return buraigue_check_tables((const uint8_t *)grammar, sizeof grammar - 1, book, n, place);
-    return buraigue_read_scans(book, n, tokens, sizeof tokens, place);
+    if (what == SCANS) return buraigue_read_scans(book, n, tokens, sizeof tokens, place);
+    return buraigue_read_lettered((const uint8_t *)own, sizeof own - 1, 63, book, n, tokens, sizeof tokens, place);
 }
 
 static void measure(enum what what, size_t n) {
-    static const char *names[] = {"grammar", "bound", "table", "scans"};
+    static const char *names[] = {"grammar", "bound", "table", "scans", "lettered"};
     double best = 1e9;
     uint64_t place = 0, number = 99;
     for (int i = 0; i < 400; i++) {
@@ -66,5 +69,6 @@ int main(void) {
     for (int i = 0; i < 3; i++) measure(BOUND, grammar_book(rules[i]));
     for (int i = 0; i < 3; i++) measure(TABLE, table_book(sizes[i]));
     for (int i = 0; i < 3; i++) measure(SCANS, scan_file(sizes[i]));
+    for (int i = 0; i < 3; i++) measure(LETTERED, scan_file(sizes[i]));
     return 0;
 }

@@ -28,6 +28,13 @@ static void read_grammar(void) { buraigue_read_grammar(grammar, g, items, sizeof
 static void read_scans(void) {
     for (int i = 0; i < FILES; i++) buraigue_read_scans(files[i].bytes, files[i].length, tokens, sizeof tokens, &place);
 }
+/* the house letters as a book, for books that have their codes; any other is refused */
+static const uint8_t own[] = "L,0,0,0,1,5,7,2,0,0,0,0,0,0,0,0,3,0,0,0,6,0,0,0,0,0,0\n";
+static void read_letters(void) { buraigue_read_letters(own, sizeof own - 1, 63, tokens, sizeof tokens, &place); }
+static void read_lettered(void) {
+    for (int i = 0; i < FILES; i++)
+        buraigue_read_lettered(own, sizeof own - 1, 63, files[i].bytes, files[i].length, tokens, sizeof tokens, &place);
+}
 static void check_tables(void) { buraigue_check_tables(grammar, g, tables, t, &place); }
 static void build_tables(void) { buraigue_build_tables(grammar, g, book, sizeof book, &place, &size); }
 
@@ -41,6 +48,11 @@ static void run_session(void) {
 static void run_scans(void) {
     for (int i = 0; i < FILES; i++)
         buraigue_run_scans(grammar, g, tables, t, files[i].bytes, files[i].length, states, sizeof states, listing, sizeof listing, &place, &rules, &units);
+}
+static void run_lettered(void) {
+    for (int i = 0; i < FILES; i++)
+        buraigue_run_lettered(grammar, g, tables, t, own, sizeof own - 1, files[i].bytes, files[i].length, states, sizeof states, listing,
+                              sizeof listing, &place, &rules, &units);
 }
 static void list_over(const uint8_t *scans, uint64_t k) {
     buraigue_list_expected(grammar, g, tables, t, scans, k, states, sizeof states, listing, sizeof listing, codes, sizeof codes, &place, &size);
@@ -67,9 +79,9 @@ static void make_load(void) {
 static void bound_listing(void) { buraigue_bound_listing(grammar, g, 65535, &place, &rules, &units); }
 
 static const struct { const char *name; void (*call)(void); } calls[] = {
-    {"read_grammar", read_grammar}, {"read_scans", read_scans}, {"check_tables", check_tables},
-    {"build_tables", build_tables}, {"run_session", run_session}, {"run_scans", run_scans}, {"list_expected", list_expected},
-    {"make_load", make_load}, {"bound_listing", bound_listing}};
+    {"read_grammar", read_grammar}, {"read_scans", read_scans}, {"read_letters", read_letters}, {"read_lettered", read_lettered},
+    {"check_tables", check_tables}, {"build_tables", build_tables}, {"run_session", run_session}, {"run_scans", run_scans},
+    {"run_lettered", run_lettered}, {"list_expected", list_expected}, {"make_load", make_load}, {"bound_listing", bound_listing}};
 enum { CALLS = sizeof calls / sizeof *calls };
 
 static void *run(void *call) {
