@@ -1,5 +1,7 @@
 // Nullable symbols and first sets of a grammar in memory, and first of the rest of an item.
 // Inner: for the checker and the builder.
+#![tactic(auto)]
+
 ghost use Rattle.std.specs.Prelude.{◌≡◌, ◌+◌, ◌<◌, ◌≤◌, length, replicate};
 ghost use Rattle.language.specs.Grammar.{Grammar};
 ghost use Rattle.items.specs.Layout.{Shaped, Holds};

@@ -1,8 +1,9 @@
 // bound_listing GRAMMAR SCANS: how many rules the listing of a session of so many scans can have. Prints the reply's number and place, and the
 // bound, or `-` where a right side is empty and there is none.
+#![tactic(auto)]
 
-fn show(grammar: &[u8], scans: usize) {
-    let mut out = program::output();
+fn show(rt: HostRuntime, grammar: &[u8], scans: usize) {
+    let mut out = program::output(rt);
     let answer = listing_bound::bound_listing(grammar, scans);
     let reply = listing_bound::as_reply(answer);
     program::print_or_none(
@@ -15,17 +16,17 @@ fn show(grammar: &[u8], scans: usize) {
     program::flush(&mut out);
 }
 
-fn main() {
+fn main(rt: HostRuntime) {
     let usage = b"usage: bound_listing GRAMMAR SCANS\n";
     let mut grammar = [0u8; program::FILE];
-    let book = program::read_argument(1, b"GRAMMAR", usage, &mut grammar);
+    let book = program::read_argument(rt, 1, b"GRAMMAR", usage, &mut grammar);
     if book.failed {
         return;
     }
-    let scans = program::read_number(2, b"SCANS", usage);
+    let scans = program::read_number(rt, 2, b"SCANS", usage);
     if scans.failed {
         return;
     }
     let n = book.size;
-    show(&grammar[..n], scans.value as usize);
+    show(rt, &grammar[..n], scans.value as usize);
 }

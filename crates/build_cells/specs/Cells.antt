@@ -3,7 +3,7 @@ use Rattle.std.specs.Prelude.{ℕ, zero, suc, ◌+◌, ◌*◌, ◌≤◌, ◌<�
 use Rattle.std.proofs.Math.Option.{Option}
 use Rattle.language.specs.Grammar.{Grammar, IsNonterminal}
 use Rattle.language.specs.Sentence.{AllProductive, Reachable}
-use Rattle.leftcorner.specs.Claim.{◌↔◌}
+use Rattle.std.specs.Prelude.{◌↔◌}
 use Rattle.leftcorner.specs.Table.{Action, S, Table}
 use Rattle.leftcorner.specs.Construction.{Asked, CellsAgree}
 use Rattle.analysis.specs.ByRules.{FirstByRules}

@@ -1,5 +1,7 @@
 // The cells of the builder's table: announces and pops join the moves, unless items ask two different actions of one cell.
 // Inner: for `build_memory`.
+#![tactic(auto)]
+
 ghost use Rattle.std.specs.Prelude.{◌≡◌, true, List, ℕ, suc, ◌+◌, ◌*◌, ◌<◌, ◌≤◌, length, replicate};
 ghost use Rattle.language.specs.Grammar.{Grammar};
 ghost use Rattle.leftcorner.specs.Table.{Table};

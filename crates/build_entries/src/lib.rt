@@ -1,5 +1,7 @@
 // Finds the entries of a grammar that stands in memory, and stores their strings as items behind its rules.
 // Inner: for `build_memory`.
+#![tactic(auto)]
+
 ghost use Rattle.std.specs.Prelude.{◌≡◌, List, ℕ, ◌+◌, ◌≤◌, ◌<◌, length, get_or, take, drop};
 ghost use Rattle.std.proofs.Math.Option.{some};
 ghost use Rattle.language.specs.Grammar.{Grammar, Rule, rule_at};

@@ -1,5 +1,7 @@
 // Kernel sets in memory, and what joins them as a state is left. A kernel set is the rising list of the numbers item * 16 + dot of its items.
 // Inner: for the builder.
+#![tactic(auto)]
+
 ghost use Rattle.std.specs.Prelude.{◌≡◌, ◌+◌, ◌<◌, ◌≤◌, length, take};
 ghost use Rattle.fixpoint.specs.Flags.{Decides};
 ghost use Rattle.moves.specs.Moves.{Cells};
@@ -11,7 +13,7 @@ ghost use Rattle.build_kernel_sets.specs.Leaving.{Leaves};
 use symbol::{CODES, SYMBOLS, Symbol};
 
 // A state that is led to, 0 for none, and how many states and kernel lines there are.
-#[derive(Drop)]
+#[derive(Clone, Copy)]
 struct Visit {
     state: usize,
     states: usize,
@@ -120,7 +122,7 @@ fn store_next(kinds: &mut [u8], values: &mut [u8], gotos: &mut [u8], q: usize, x
 }
 
 // How many states and kernel lines there are.
-#[derive(Drop)]
+#[derive(Clone, Copy)]
 pub struct Size {
     pub states: usize,
     pub lines: usize,

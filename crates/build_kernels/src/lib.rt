@@ -1,5 +1,7 @@
 // The states of a grammar's table, found from the entries on.
 // Inner: for `build_memory`.
+#![tactic(auto)]
+
 ghost use Rattle.std.specs.Prelude.{ℕ, ◌+◌, ◌*◌, ◌<◌, ◌≤◌, length, get_or};
 ghost use Rattle.language.specs.Grammar.{Grammar};
 ghost use Rattle.items.specs.Layout.{Shaped};
@@ -128,7 +130,7 @@ fn write_lines(sets: &[usize], starts: &[usize], states: usize, lines: usize, ke
 }
 
 // The states of a table, with their counts of states and kernel lines, or more of them than a table book may have.
-#[derive(Drop)]
+#[derive(Clone, Copy)]
 pub enum Discovery {
     States(usize, usize),
     TooMany,

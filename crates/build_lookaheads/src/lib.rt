@@ -1,5 +1,7 @@
 // The builder's lookaheads: the smallest that satisfy the inclusions, by passes over the states.
 // Inner: for `build_memory`.
+#![tactic(auto)]
+
 ghost use Rattle.std.specs.Prelude.{◌≡◌, ◌+◌, ◌*◌, ◌<◌, ◌≤◌, length};
 ghost use Rattle.language.specs.Grammar.{Grammar};
 ghost use Rattle.build_states.specs.Lookaheads.{Lookahead};

@@ -1,5 +1,7 @@
 // The construction's table of a grammar book, in memory.
 // Inner: for `builder` and `explain_grammar`.
+#![tactic(auto)]
+
 ghost use Rattle.std.specs.Prelude.{◌≡◌, List, ℕ, ◌≤◌, length};
 ghost use Rattle.language.specs.Grammar.{Grammar};
 ghost use Rattle.grammar.specs.Book.{accepted, grammar_of};
@@ -16,7 +18,7 @@ use table::Counts;
 
 // What building comes to: a table, one whose lowest state with a conflict is told first, why the grammar book is refused, or that there would be
 // more entries, states or kernel lines than a table may have.
-#[derive(Drop)]
+#[derive(Clone, Copy)]
 pub enum Built {
     Table(Counts),
     Conflict(usize, Counts),

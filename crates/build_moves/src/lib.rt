@@ -1,5 +1,7 @@
 // What moves from a kernel set, given as the rising numbers item * 16 + dot of its items.
 // Inner: for the builder.
+#![tactic(auto)]
+
 ghost use Rattle.std.specs.Prelude.{◌≡◌, ◌+◌, ◌*◌, ◌<◌, ◌≤◌, ◌++◌, length, take};
 ghost use Rattle.items.specs.Layout.{Shaped};
 ghost use Rattle.analysis.specs.Adds.{Adds};

@@ -6,7 +6,7 @@ use Rattle.language.specs.Grammar.{Grammar, Rule, rule_at}
 use Rattle.language.specs.Sentence.{In}
 use Rattle.leftcorner.specs.Table.{Table, entry_at, string_of, right_of, mark_of}
 use Rattle.leftcorner.specs.Construction.{KernelAt, Wanted}
-use Rattle.leftcorner.specs.Claim.{◌↔◌}
+use Rattle.std.specs.Prelude.{◌↔◌}
 use Rattle.build_book.proofs.Once.{Once}
 
 -- what an item is of: rule i, or the string of an entry

@@ -8,7 +8,7 @@ use Rattle.language.specs.Sentence.{In}
 use Rattle.language.specs.First.{First}
 use Rattle.leftcorner.specs.Table.{Action, Table, next_state}
 use Rattle.leftcorner.specs.Construction.{EntryAt, KernelAt, ActionAt, Asked, EntriesMeet, LookaheadsMeet}
-use Rattle.leftcorner.specs.Claim.{◌↔◌}
+use Rattle.std.specs.Prelude.{◌↔◌}
 use Rattle.reply.specs.declared.Kind.TheVariants.{LimitExceeded, Conflict, BufferTooSmall}
 use Rattle.reply.specs.declared.Reply.TheVariants.{Accepted}
 use Rattle.check_verdict.specs.Verdict.{refused}

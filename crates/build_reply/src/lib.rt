@@ -1,5 +1,7 @@
 // The book of a table in memory, and the reply to whoever asked for it.
 // Inner: for `builder`.
+#![tactic(auto)]
+
 ghost use Rattle.std.specs.Prelude.{◌≡◌, ◌+◌, length, replicate};
 ghost use Rattle.build_writer.specs.MemoryTable.{memory_text, WriterRoom};
 ghost use Rattle.build_reply.specs.Reply.{refused_by, Writes};
@@ -8,7 +10,7 @@ use reply::{Kind, Refusal, Reply};
 use table::Counts;
 
 // The reply, and how many bytes of the slice the book takes: 0 after a refusal.
-#[derive(Drop)]
+#[derive(Clone, Copy)]
 pub struct BuildReply {
     pub reply: Reply,
     pub length: usize,

@@ -1,9 +1,11 @@
 // build_tables GRAMMAR: builds the table book of a grammar book and prints it, or the refusal's number and place.
+#![tactic(auto)]
+
 use reply::Reply;
 
-fn show(grammar: &[u8]) {
+fn show(rt: HostRuntime, grammar: &[u8]) {
     let mut book = [0u8; 65536];
-    let mut out = program::output();
+    let mut out = program::output(rt);
     let built = builder::build_tables(grammar, &mut book);
     let n = built.length;
     let reply = built.reply;
@@ -18,10 +20,11 @@ fn show(grammar: &[u8]) {
     program::flush(&mut out);
 }
 
-fn main() {
+fn main(rt: HostRuntime) {
     // One byte more than a book may have.
     let mut grammar = [0u8; program::FILE];
     let input = program::read_argument(
+        rt,
         1,
         b"GRAMMAR",
         b"usage: build_tables GRAMMAR\n",
@@ -31,5 +34,5 @@ fn main() {
         return;
     }
     let n = input.size;
-    show(&grammar[..n]);
+    show(rt, &grammar[..n]);
 }

@@ -1,5 +1,7 @@
 // Writes a table that stands in memory as a table book.
 // Inner: for `builder`.
+#![tactic(auto)]
+
 ghost use Rattle.std.specs.Prelude.{◌≡◌, [], ◌∷◌, map, ◌+◌, ◌*◌, ◌<◌, ◌≤◌, min, length, replicate};
 ghost use Rattle.items.specs.Layout.{Shaped};
 ghost use Rattle.memory.specs.Memory.{state_at, item_at, dot_at};

@@ -1,5 +1,7 @@
 // The builder: the construction's table book of a grammar book.
 // The door is `build_tables`.
+#![tactic(auto)]
+
 ghost use Rattle.std.specs.Prelude.{◌≡◌, ◌≤◌, length};
 ghost use Rattle.builder.specs.Build.{build_of};
 

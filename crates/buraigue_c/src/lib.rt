@@ -1,6 +1,8 @@
 // The calls on bytes for C and Rust (include/buraigue.h): each answers the reply's number, and puts its place, and what it counts, where
 // references point.
 // Each is a door.
+#![tactic(auto)]
+
 ghost use Rattle.std.specs.Prelude.{◌≡◌, length, replicate};
 ghost use Rattle.grammar.specs.Memory.{as_reply, reply_of, read_of, memory_of};
 ghost use Rattle.scans.specs.File.{scans_of, outcome_of};

@@ -1,5 +1,7 @@
 // What the calls for C tell of a reply, in single figures.
 // Inner: for `buraigue_c`.
+#![tactic(auto)]
+
 ghost use Rattle.std.specs.Prelude.{◌≡◌};
 ghost use Rattle.walker.specs.Walked as walker;
 ghost use Rattle.c_told.specs.Given.{ReplyGiven};

@@ -6,7 +6,7 @@ use Rattle.std.specs.Prelude.{ℕ, ◌≡◌, List, [], ◌∷◌, ◌++◌, tru
 use Rattle.language.specs.Grammar.{Rule, Grammar}
 use Rattle.language.specs.Sentence.{In}
 use Rattle.leftcorner.specs.Table.{EntryLine, KernelLine, ActionLine, Table}
-use Rattle.leftcorner.specs.Claim.{◌↔◌}
+use Rattle.std.specs.Prelude.{◌↔◌}
 use Rattle.reply.specs.declared.Kind.TheVariants.{Malformed}
 use Rattle.reply.specs.declared.Reply.TheVariants.{Accepted}
 use Rattle.grammar.specs.Book.{accepted, grammar_of}

@@ -1,5 +1,7 @@
 // What is asked of the cells of a state, a number for each code: the first action, and the first that differs from it.
 // Inner: for `cells`.
+#![tactic(auto)]
+
 ghost use Rattle.std.specs.Prelude.{◌≡◌, ℕ, ◌+◌, ◌<◌, ◌≤◌, length};
 ghost use Rattle.fixpoint.specs.Flags.{Off, Decides};
 ghost use Rattle.cell_demands.specs.Demands.{Asks, Wants, CodeAsks};

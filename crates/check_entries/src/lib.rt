@@ -1,5 +1,7 @@
 // The list of entries: the goal alone, then every other distinct group once; and which entries the groups of a rule use.
 // Inner: for the checker, the builder and `walk_rules`.
+#![tactic(auto)]
+
 ghost use Rattle.std.specs.Prelude.{◌≡◌, true, ℕ, ◌+◌, ◌*◌, ◌-◌, ◌<◌, ◌≤◌, length, get_or, replicate};
 ghost use Rattle.std.proofs.Math.Option.{some};
 ghost use Rattle.language.specs.Grammar.{Grammar, Rule, rule_at};
@@ -14,7 +16,7 @@ ghost use Rattle.check_entries.specs.Uses.{HoldsStrings, HoldsUses, FilledRule, 
 use fixpoint::Found;
 
 // Why the list of entries is not that of the construction.
-#[derive(Drop)]
+#[derive(Clone, Copy)]
 pub enum EntryFault {
     // The first entry is not the goal alone.
     NotGoal,

@@ -1,5 +1,7 @@
 // Why the kernels at a state are not those of the construction.
 // Inner: for the checker and `explain_states`.
+#![tactic(auto)]
+
 ghost use Rattle.std.specs.Prelude.{◌≡◌, ◌+◌, ◌<◌, ◌≤◌, length};
 ghost use Rattle.fixpoint.specs.Flags.{Decides};
 ghost use Rattle.fixpoint.specs.Misses.{Any, Misses};

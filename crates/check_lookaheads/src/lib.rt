@@ -1,5 +1,7 @@
 // The inclusions that lookaheads must meet; states whose lookaheads are too few are flagged.
 // Inner: for the checker.
+#![tactic(auto)]
+
 ghost use Rattle.std.specs.Prelude.{◌≡◌, ◌*◌, ◌<◌, ◌≤◌, length};
 ghost use Rattle.fixpoint.specs.Flags.{Decides};
 ghost use Rattle.kernel_lines.specs.Lines.{Lines, Linked};

@@ -1,5 +1,7 @@
 // The verdict on tables in memory.
 // Inner: for `checker`.
+#![tactic(auto)]
+
 ghost use Rattle.std.specs.Prelude.{◌≡◌, ℕ, ◌+◌, ◌<◌, ◌≤◌, length, replicate};
 ghost use Rattle.language.specs.Grammar.{Grammar};
 ghost use Rattle.leftcorner.specs.Table.{Table};
@@ -16,7 +18,7 @@ use reply::{Kind, Reply};
 use symbol::{CODES, SYMBOLS};
 
 // What is told of one state: whether its items and its cells are those of the construction, and whether its items agree on the cells.
-#[derive(Drop)]
+#[derive(Clone, Copy)]
 struct State {
     items: bool,
     agree: bool,
@@ -159,7 +161,7 @@ fn answer(items: usize, narrow: usize, agree: usize, cells: usize) -> Reply
 }
 
 // The lowest states, 0 for none, whose items or cells are not those of the construction, or whose items do not agree on the cells.
-#[derive(Drop)]
+#[derive(Clone, Copy)]
 struct Faults {
     items: usize,
     agree: usize,

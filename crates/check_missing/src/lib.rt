@@ -1,5 +1,7 @@
 // Which lookahead a kernel line of a state lacks.
 // Inner: for `explain_states`.
+#![tactic(auto)]
+
 ghost use Rattle.std.specs.Prelude.{◌≡◌, List, ℕ, ◌+◌, ◌*◌, ◌<◌, ◌≤◌, length};
 ghost use Rattle.language.specs.Grammar.{Grammar};
 ghost use Rattle.leftcorner.specs.Table.{Table};
@@ -19,7 +21,7 @@ use memory::Totals;
 use symbol::CODES;
 
 // A kernel line, a code that it lacks, and the state whose items ask it; 0 where it is asked of the goal's entry.
-#[derive(Drop)]
+#[derive(Clone, Copy)]
 pub enum MissingCode {
     Code(usize, usize, usize),
     Nothing,

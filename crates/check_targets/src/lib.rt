@@ -1,5 +1,7 @@
 // The moves from a state, against the kernels of the states that they lead to.
 // Inner: for the checker and `explain_states`.
+#![tactic(auto)]
+
 ghost use Rattle.std.specs.Prelude.{◌≡◌, ◌+◌, ◌<◌, ◌≤◌, length};
 ghost use Rattle.fixpoint.specs.Flags.{Decides};
 ghost use Rattle.fixpoint.specs.Misses.{Misses};
@@ -13,7 +15,7 @@ use memory::Totals;
 use symbol::SYMBOLS;
 
 // Why the kernels are not those of the construction, as far as a state tells.
-#[derive(Drop)]
+#[derive(Clone, Copy)]
 pub enum ItemFault {
     // It is neither the state of an entry nor named as next.
     Unnamed,

@@ -2,7 +2,7 @@
 -- the construction. Of the checker, this is all that a walk has to know.
 use Rattle.std.specs.Prelude.{ℕ, ◌≡◌, List}
 use Rattle.language.specs.Grammar.{Grammar}
-use Rattle.leftcorner.specs.Claim.{◌↔◌}
+use Rattle.std.specs.Prelude.{◌↔◌}
 use Rattle.leftcorner.specs.Table.{Table}
 use Rattle.reply.specs.declared.Reply.TheVariants.{Accepted}
 use Rattle.checker.specs.Checked.{verdict_of, Accepts}

@@ -1,5 +1,7 @@
 // The checker of tables, over both books.
 // The door is `check_tables`; `load_tables` is inner, for `session`, and `check_books`, for the program that explains.
+#![tactic(auto)]
+
 ghost use Rattle.std.specs.Prelude.{◌≡◌};
 ghost use Rattle.table.specs.Book.{tables_of};
 ghost use Rattle.table.specs.Memory.{reply_of, slices, SlicesRoom, Holds};
@@ -12,7 +14,7 @@ use reply::Reply;
 use table::TableReply;
 
 // What reading both books comes to, and the reply to what was read.
-#[derive(Drop)]
+#[derive(Clone, Copy)]
 pub struct Checked {
     pub answer: TableReply,
     pub verdict: Reply,

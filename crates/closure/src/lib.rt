@@ -1,5 +1,7 @@
 // The closure of a state, computed from tables in memory.
 // Inner: for the checker and the builder.
+#![tactic(auto)]
+
 ghost use Rattle.std.specs.Prelude.{◌≡◌, ℕ, ◌+◌, ◌*◌, ◌<◌, ◌≤◌, length, replicate};
 ghost use Rattle.items.specs.Layout.{Shaped};
 ghost use Rattle.fixpoint.specs.Flags.{On, Marks, Decides};

@@ -1,11 +1,13 @@
 // Numbers that stand in a book as digits, compared as the whole numbers they are, however long.
 // Inner: for the readers of table lines.
+#![tactic(auto)]
+
 ghost use Rattle.std.specs.Prelude.{◌≡◌, ◌≤◌, ◌<◌, ltb};
 ghost use Rattle.digits.specs.Exact.{exact_at};
 ghost use Rattle.digits.specs.Compare.{digit_at, order_with, ends_below};
 
 // How one number stands to another, by the digits that were read of both.
-#[derive(Drop)]
+#[derive(Clone, Copy)]
 pub enum Order {
     Less,
     Equal,

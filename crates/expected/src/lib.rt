@@ -1,5 +1,7 @@
 // What could have come: the codes that would have fitted where a session ends.
 // The door is `list_expected`; `as_reply` and `code_count` are for whoever calls it, `refuse` and `list_books` are inner.
+#![tactic(auto)]
+
 ghost use Rattle.std.specs.Prelude.{◌≡◌, ◌++◌, suc, ◌≤◌, ◌<◌, length, take, replicate};
 ghost use Rattle.language.specs.Grammar.{Grammar};
 ghost use Rattle.leftcorner.specs.Table.{Table};

@@ -5,7 +5,8 @@ use Rattle.language.specs.Grammar.{Grammar, IsTerminal}
 use Rattle.language.specs.Rising.{RisingFrom}
 use Rattle.language.specs.Sentence.{In, Sentence, BeginsSentence}
 use Rattle.leftcorner.specs.Table.{Table, automaton}
-use Rattle.leftcorner.specs.Claim.{◌↔◌, Outgrows}
+use Rattle.std.specs.Prelude.{◌↔◌}
+use Rattle.leftcorner.specs.Claim.{Outgrows}
 use Rattle.reply.specs.Reply.{kind_number}
 use Rattle.reply.specs.declared.Refusal.{Refusal}
 use Rattle.reply.specs.declared.Reply.TheVariants as reply
@@ -13,7 +14,7 @@ use Rattle.checker.specs.Checked.{verdict_of, Accepts}
 use Rattle.walker.specs.declared.Walked.TheVariants.{Refused}
 use Rattle.session.specs.Session.{session}
 use Rattle.expected_trial.specs.Trial.{as_tokens}
-use Rattle.expected_trials.specs.Trials.{Expected, refused_by, short_at, listed_at}
+use Rattle.expected_trials.specs.Trials.{refused_by, short_at, listed_at}
 use Rattle.expected.specs.Expected.{EndsAt, expected}
 
 module _ (g : Grammar) where

@@ -1,5 +1,7 @@
 // What could have come over a scan file.
 // The doors are `list_expected_scans`, with the house letters, and `list_expected_lettered`, with a bank's own.
+#![tactic(auto)]
+
 ghost use Rattle.std.specs.Prelude.{◌≡◌, ◌≤◌, length, replicate};
 ghost use Rattle.scans.specs.File.{scanned, house};
 ghost use Rattle.checker.specs.Checked.{checked_of};

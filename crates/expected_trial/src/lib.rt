@@ -1,5 +1,7 @@
 // The trial of one code: the walk over some tokens and the code behind them.
 // Inner: for `expected_trials`; `clear_walks` is for `expected`.
+#![tactic(auto)]
+
 ghost use Rattle.std.specs.Prelude.{◌≡◌, ◌++◌, ◌<◌, length, take, replicate};
 ghost use Rattle.walk_tables.specs.Memory.{Shaped};
 ghost use Rattle.walker.specs.Walked.{memory_walk};
@@ -9,7 +11,7 @@ use reply::clear;
 use walker::Walked;
 
 // What the trial of a code tells: that it could come, that it could not, or that the walk outgrows what is lent before it is taken.
-#[derive(Drop)]
+#[derive(Clone, Copy)]
 pub enum Trial {
     Fits,
     Misfit,

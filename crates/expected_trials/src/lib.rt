@@ -1,5 +1,7 @@
 // The codes that would have fitted after some tokens: each is tried, by the walk over the tokens and the code behind them.
 // Inner: for `expected`, whose answer is an `ExpectedReply`.
+#![tactic(auto)]
+
 ghost use Rattle.std.specs.Prelude.{◌≡◌, ◌++◌, suc, ◌≤◌, ◌<◌, length, take, replicate};
 ghost use Rattle.walk_tables.specs.Memory.{Shaped};
 ghost use Rattle.walker.specs.Walked.{memory_walk};
@@ -11,14 +13,14 @@ use machine::Machine;
 use reply::{Kind, Refusal, clear};
 
 // The place of the session's reply 0 or 12, and the number of codes in the list.
-#[derive(Drop)]
+#[derive(Clone, Copy)]
 pub struct Listed {
     pub place: usize,
     pub codes: usize,
 }
 
 // A list, or the refusal.
-#[derive(Drop)]
+#[derive(Clone, Copy)]
 pub enum ExpectedReply {
     Listed(Listed),
     Refused(Refusal),

@@ -1,4 +1,6 @@
 // explain_grammar GRAMMAR..: builds the tables of each grammar book, prints the reply's number and place, and tells in words why there are none.
+#![tactic(auto)]
+
 ghost use Rattle.std.specs.Prelude.{◌≡◌, ◌+◌, ◌<◌, ◌≤◌, length};
 ghost use Rattle.moves.specs.Moves.{Cells};
 ghost use Rattle.check_memory.specs.Given.{TableRoom};
@@ -6,7 +8,7 @@ ghost use Rattle.build_writer.specs.MemoryTable as writer;
 
 use build_memory::Built;
 use explain_states::Question;
-use program::{OUTPUT, print_count, print_text};
+use program::{Printer, print_count, print_text};
 use reply::{Kind, Refusal, Reply};
 use symbol::SYMBOLS;
 use table::Counts;
@@ -82,7 +84,7 @@ fn wide(x: u8) -> usize
 
 // The symbols on the way.
 fn print_symbols(
-    out: &mut [u8; OUTPUT],
+    out: &mut Printer,
     kinds: &[u8],
     values: &[u8],
     gotos: &[u8],
@@ -102,14 +104,7 @@ fn print_symbols(
 }
 
 // How state q is reached.
-fn print_way(
-    out: &mut [u8; OUTPUT],
-    kinds: &[u8],
-    values: &[u8],
-    gotos: &[u8],
-    strings: usize,
-    q: usize,
-)
+fn print_way(out: &mut Printer, kinds: &[u8], values: &[u8], gotos: &[u8], strings: usize, q: usize)
     requires cells { Cells kinds.now values.now gotos.now }
     requires le_q { (1 ≤ q) × (q < 256) }
 {
@@ -136,7 +131,7 @@ fn room_after(found: usize) -> usize {
 
 // The conflicts of the states from `first` on, and how each state is reached.
 fn explain_conflicts(
-    out: &mut [u8; OUTPUT],
+    out: &mut Printer,
     items: &[u8],
     entries: &[u8],
     kernels: &[u8],
@@ -178,16 +173,16 @@ fn explain_conflicts(
 }
 
 // The first line: the reply's number and place.
-fn print_reply(out: &mut [u8; OUTPUT], reply: Reply) {
+fn print_reply(out: &mut Printer, reply: Reply) {
     program::print_pair(out, reply::number(reply), reply::place(reply) as u64);
 }
 
-fn print_refusal(out: &mut [u8; OUTPUT], kind: Kind, place: usize) {
+fn print_refusal(out: &mut Printer, kind: Kind, place: usize) {
     print_reply(out, Reply::Refused(Refusal { kind, place }));
 }
 
 // A grammar book that is refused.
-fn explain_book(out: &mut [u8; OUTPUT], grammar: &[u8], why: Refusal) {
+fn explain_book(out: &mut Printer, grammar: &[u8], why: Refusal) {
     let reply = Reply::Refused(why);
     print_reply(out, reply);
     explain_lines::explain_grammar_book(out, grammar, reply::number(reply), reply::place(reply));
@@ -195,7 +190,7 @@ fn explain_book(out: &mut [u8; OUTPUT], grammar: &[u8], why: Refusal) {
 
 // A table without conflicts: its book may still be too long.
 fn explain_length(
-    out: &mut [u8; OUTPUT],
+    out: &mut Printer,
     items: &[u8],
     entries: &[u8],
     kernels: &[u8],
@@ -221,7 +216,7 @@ fn explain_length(
     print_text(out, b"the tables can be built\n");
 }
 
-fn show(grammar: &[u8]) {
+fn show(rt: HostRuntime, grammar: &[u8]) {
     let mut items = [0u8; table::ITEMS];
     let mut entries = [0u8; table::ENTRY_STATES];
     let mut kernels = [0u8; table::KERNELS];
@@ -240,7 +235,7 @@ fn show(grammar: &[u8]) {
         &mut values,
         &mut gotos,
     );
-    let mut out = program::output();
+    let mut out = program::output(rt);
     match built {
         Built::Refused(why) => explain_book(&mut out, grammar, why),
         Built::TooLarge => {
@@ -282,10 +277,11 @@ fn show(grammar: &[u8]) {
 }
 
 // Reads the grammar book that argument i names.
-fn run(i: usize) {
+fn run(rt: HostRuntime, i: usize) {
     // One byte more than a book may have.
     let mut grammar = [0u8; program::FILE];
     let input = program::read_argument(
+        rt,
         i,
         b"GRAMMAR",
         b"usage: explain_grammar GRAMMAR..\n",
@@ -295,15 +291,15 @@ fn run(i: usize) {
         return;
     }
     let n = input.size;
-    show(&grammar[..n]);
+    show(rt, &grammar[..n]);
 }
 
-fn main() {
-    let count = os::arg_count();
-    run(1);
+fn main(rt: HostRuntime) {
+    let count = program::argument_count(rt);
+    run(rt, 1);
     let mut i = 2;
     while i < count {
-        run(i);
+        run(rt, i);
         i += 1;
     }
 }

@@ -1,9 +1,11 @@
 // What is wrong with a refused line of a book, in words: a second, forgiving look at the line.
 // Inner: for the programs that explain.
+#![tactic(auto)]
+
 ghost use Rattle.std.specs.Prelude.{◌≡◌, true, ◌<◌, ◌≤◌, length};
 ghost use Rattle.items.specs.Layout.{Shaped};
 
-use program::{OUTPUT, print_byte, print_count, print_text};
+use program::{Printer, print_byte, print_count, print_text};
 use range::in_range;
 use symbol::Symbol;
 use table_lines::Line;
@@ -11,7 +13,7 @@ use text::{Cursor, Field};
 
 // A field: its kind, b'0' for a number, b'A' for a letter, b'^' for a mark, 0 for a broken one; its value; and the
 // cursor past it.
-#[derive(Drop)]
+#[derive(Clone, Copy)]
 struct Part {
     kind: u8,
     value: usize,
@@ -19,7 +21,7 @@ struct Part {
 }
 
 // The largest figures that the lines before declare.
-#[derive(Drop)]
+#[derive(Clone, Copy)]
 struct Declared {
     terminals: usize,
     nonterminals: usize,
@@ -29,7 +31,7 @@ struct Declared {
 }
 
 // What a number of a line stands for.
-#[derive(Drop)]
+#[derive(Clone, Copy)]
 enum Figure {
     State,
     Item,
@@ -47,7 +49,7 @@ fn wide(b: u8) -> usize {
 }
 
 // Prints a text in which each # stands for a number: a, then b, then c.
-fn print_words(out: &mut [u8; OUTPUT], text: &[u8], a: usize, b: usize, c: usize) {
+fn print_words(out: &mut Printer, text: &[u8], a: usize, b: usize, c: usize) {
     let mut first = a;
     let mut second = b;
     let mut i = 0;
@@ -132,7 +134,7 @@ fn is_shown(b: u8) -> bool {
 }
 
 // The line at `place`, or as much of it as is shown, with `?` for what is no printable ASCII.
-fn print_line(out: &mut [u8; OUTPUT], book: &[u8], place: usize)
+fn print_line(out: &mut Printer, book: &[u8], place: usize)
     requires { length book.now ≤ 65536 }
 {
     let mut i = place;
@@ -157,7 +159,7 @@ fn print_line(out: &mut [u8; OUTPUT], book: &[u8], place: usize)
 }
 
 // A field's text, between quotes.
-fn print_part(out: &mut [u8; OUTPUT], book: &[u8], at: usize)
+fn print_part(out: &mut Printer, book: &[u8], at: usize)
     requires { length book.now ≤ 65536 }
 {
     let mut i = at;
@@ -228,7 +230,7 @@ fn is_cr_lf(book: &[u8], i: usize) -> bool
 }
 
 // A byte that no field has, at i.
-fn explain_byte(out: &mut [u8; OUTPUT], book: &[u8], i: usize, k: usize)
+fn explain_byte(out: &mut Printer, book: &[u8], i: usize, k: usize)
     requires { i < length book.now }
 {
     if is_order_mark(book, i) {
@@ -275,7 +277,7 @@ fn is_digits(book: &[u8], at: usize, end: usize) -> bool
 }
 
 // The fault of a field, up to `end`, none of whose bytes is odd.
-fn print_fault(out: &mut [u8; OUTPUT], book: &[u8], at: usize, end: usize)
+fn print_fault(out: &mut Printer, book: &[u8], at: usize, end: usize)
     requires { end ≤ length book.now }
 {
     if is_digits(book, at, end) {
@@ -286,7 +288,7 @@ fn print_fault(out: &mut [u8; OUTPUT], book: &[u8], at: usize, end: usize)
 }
 
 // A field, number k, at `at`, that is no number, mark or letter with its end.
-fn explain_broken(out: &mut [u8; OUTPUT], book: &[u8], at: usize, k: usize)
+fn explain_broken(out: &mut Printer, book: &[u8], at: usize, k: usize)
     requires { length book.now ≤ 65536 }
 {
     let i = odd_byte(book, at);
@@ -340,7 +342,7 @@ fn is_due(due: u8, letter: usize) -> bool {
 }
 
 // The letters that are due.
-fn print_due(out: &mut [u8; OUTPUT], due: u8) {
+fn print_due(out: &mut Printer, due: u8) {
     match due {
         b'R' => print_text(out, b"R or U"),
         b'k' => print_text(out, b"K, S, N, A or P"),
@@ -386,7 +388,7 @@ fn takes(line: u8, k: usize, kind: u8) -> bool {
 }
 
 // Field k, from 2 on, is of another kind than is due.
-fn explain_kind(out: &mut [u8; OUTPUT], book: &[u8], at: usize, line: u8, k: usize)
+fn explain_kind(out: &mut Printer, book: &[u8], at: usize, line: u8, k: usize)
     requires { length book.now ≤ 65536 }
 {
     print_words(out, b"field # is ", k, 0, 0);
@@ -399,7 +401,7 @@ fn explain_kind(out: &mut [u8; OUTPUT], book: &[u8], at: usize, line: u8, k: usi
 }
 
 // A line that ends after n fields, where that is too soon.
-fn explain_short(out: &mut [u8; OUTPUT], line: u8, n: usize) -> bool {
+fn explain_short(out: &mut Printer, line: u8, n: usize) -> bool {
     if fewest(line) <= n {
         return false;
     }
@@ -426,7 +428,7 @@ fn is_beyond(line: u8, k: usize) -> bool {
 }
 
 // What breaks the form of a line from its second field on; false where nothing does.
-fn explain_fields(out: &mut [u8; OUTPUT], book: &[u8], second: Cursor, line: u8) -> bool
+fn explain_fields(out: &mut Printer, book: &[u8], second: Cursor, line: u8) -> bool
     requires { length book.now ≤ 65536 }
 {
     let mut c = second;
@@ -459,7 +461,7 @@ fn explain_fields(out: &mut [u8; OUTPUT], book: &[u8], second: Cursor, line: u8)
 }
 
 // What breaks the form of the line at `place`, where a line of the family `due` is due; false where nothing does.
-fn explain_form(out: &mut [u8; OUTPUT], book: &[u8], place: usize, due: u8) -> bool
+fn explain_form(out: &mut Printer, book: &[u8], place: usize, due: u8) -> bool
     requires { length book.now ≤ 65536 }
 {
     let part = read_part(
@@ -510,7 +512,7 @@ fn find_fall(numbers: &[usize; 67], count: usize) -> usize {
     67
 }
 
-fn explain_codes(out: &mut [u8; OUTPUT], numbers: &[usize; 67], count: usize) -> bool {
+fn explain_codes(out: &mut Printer, numbers: &[usize; 67], count: usize) -> bool {
     let k = find_fall(numbers, count);
     if 67 <= k {
         return false;
@@ -583,7 +585,7 @@ fn find_second(book: &[u8], place: usize, line: u8, numbers: &[usize; 67], count
     0
 }
 
-fn explain_second(out: &mut [u8; OUTPUT], line: u8, n: usize) -> bool {
+fn explain_second(out: &mut Printer, line: u8, n: usize) -> bool {
     if n == 0 {
         return false;
     }
@@ -637,7 +639,7 @@ fn find_before(items: &[u8], rules: usize, book: &[u8], place: usize, line: u8) 
 }
 
 // A line that is out of order, with the number n of the one that it must follow.
-fn explain_order(out: &mut [u8; OUTPUT], line: u8, n: usize) -> bool {
+fn explain_order(out: &mut Printer, line: u8, n: usize) -> bool {
     if n == 0 {
         return false;
     }
@@ -676,13 +678,7 @@ fn has_fall(letter: u8, rising: bool) -> bool {
 }
 
 // What else breaks a line of a table book whose fields are of their kinds: codes that do not rise, that it is a second line, or its order.
-fn explain_numbers(
-    out: &mut [u8; OUTPUT],
-    items: &[u8],
-    rules: usize,
-    book: &[u8],
-    place: usize,
-) -> bool
+fn explain_numbers(out: &mut Printer, items: &[u8], rules: usize, book: &[u8], place: usize) -> bool
     requires shaped { (Shaped items.now rules) × (rules ≤ 127) }
     requires book_len_bound { (length book.now ≤ 65536) × (place ≤ length book.now) }
 {
@@ -774,7 +770,7 @@ fn is_declared(figure: Figure, v: usize, d: Declared) -> bool {
 }
 
 // A figure that is not declared, and what is.
-fn print_declared(out: &mut [u8; OUTPUT], figure: Figure, v: usize, d: Declared) {
+fn print_declared(out: &mut Printer, figure: Figure, v: usize, d: Declared) {
     match figure {
         Figure::State => print_words(out, b"state #: states are 1 to #\n", v, d.states, 0),
         Figure::Item => print_words(out, b"item #: items are 1 to #\n", v, d.items, 0),
@@ -792,7 +788,7 @@ fn print_declared(out: &mut [u8; OUTPUT], figure: Figure, v: usize, d: Declared)
 
 // A symbol that is not declared where it stands, and what may stand there.
 fn print_symbol(
-    out: &mut [u8; OUTPUT],
+    out: &mut Printer,
     figure: Figure,
     v: usize,
     terminals: usize,
@@ -916,7 +912,7 @@ fn is_fault(number: u64, letter: usize, before: u8, k: usize, part: Part, d: Dec
 }
 
 // A field of a line: the line's letter, what stands before the field, its number, 0 for none, its place and its value.
-#[derive(Drop)]
+#[derive(Clone, Copy)]
 struct Spot {
     letter: usize,
     before: u8,
@@ -970,7 +966,7 @@ fn find_fault(book: &[u8], number: u64, place: usize, d: Declared) -> Spot
 }
 
 // A number that is out of its limits; that there are too many symbols or lines, where none is.
-fn explain_limit(out: &mut [u8; OUTPUT], book: &[u8], f: Spot)
+fn explain_limit(out: &mut Printer, book: &[u8], f: Spot)
     requires { length book.now ≤ 65536 }
 {
     if f.k == 0 {
@@ -988,7 +984,7 @@ fn explain_limit(out: &mut [u8; OUTPUT], book: &[u8], f: Spot)
     );
 }
 
-fn explain_excess(out: &mut [u8; OUTPUT], letter: usize) {
+fn explain_excess(out: &mut Printer, letter: usize) {
     if letter == wide(b'K') {
         print_text(out, b"there are more than 1023 kernel lines\n");
         return;
@@ -997,7 +993,7 @@ fn explain_excess(out: &mut [u8; OUTPUT], letter: usize) {
 }
 
 // A number that is not declared; a dot, where all others are.
-fn explain_undeclared(out: &mut [u8; OUTPUT], f: Spot, d: Declared) {
+fn explain_undeclared(out: &mut Printer, f: Spot, d: Declared) {
     if f.k == 0 {
         explain_dot(out, f.letter);
         return;
@@ -1006,7 +1002,7 @@ fn explain_undeclared(out: &mut [u8; OUTPUT], f: Spot, d: Declared) {
     print_declared(out, figure_of(f.letter, f.k), f.value, d);
 }
 
-fn explain_dot(out: &mut [u8; OUTPUT], letter: usize) {
+fn explain_dot(out: &mut Printer, letter: usize) {
     if letter == wide(b'K') {
         print_text(out, b"field 4, the dot, is past the end of the item\n");
         return;
@@ -1015,7 +1011,7 @@ fn explain_dot(out: &mut [u8; OUTPUT], letter: usize) {
 }
 
 // A mark that stands where it may not; that there is no `^`, or that a cut is last, where none does.
-fn explain_mark(out: &mut [u8; OUTPUT], f: Spot) {
+fn explain_mark(out: &mut Printer, f: Spot) {
     if f.k == 0 {
         explain_no_mark(out, f.before);
         return;
@@ -1031,7 +1027,7 @@ fn explain_mark(out: &mut [u8; OUTPUT], f: Spot) {
     print_words(out, b"field # is a / beside another mark\n", f.k, 0, 0);
 }
 
-fn explain_no_mark(out: &mut [u8; OUTPUT], last: u8) {
+fn explain_no_mark(out: &mut Printer, last: u8) {
     if last == b'R' {
         print_text(out, b"no ^ stands in the line\n");
         return;
@@ -1040,7 +1036,7 @@ fn explain_no_mark(out: &mut [u8; OUTPUT], last: u8) {
 }
 
 // A reply that is no more to the line's fields.
-fn print_meaning(out: &mut [u8; OUTPUT]) {
+fn print_meaning(out: &mut Printer) {
     print_text(
         out,
         b"the line breaks its form, or lines are missing or too many\n",
@@ -1048,7 +1044,7 @@ fn print_meaning(out: &mut [u8; OUTPUT]) {
 }
 
 // A book is known by its header's letter, G or T.
-fn print_name(out: &mut [u8; OUTPUT], header: u8) {
+fn print_name(out: &mut Printer, header: u8) {
     if header == b'G' {
         print_text(out, b"grammar book");
         return;
@@ -1057,7 +1053,7 @@ fn print_name(out: &mut [u8; OUTPUT], header: u8) {
 }
 
 // How many lines a header says, and how many follow it.
-fn print_counts(out: &mut [u8; OUTPUT], header: u8, book: &[u8], said: usize)
+fn print_counts(out: &mut Printer, header: u8, book: &[u8], said: usize)
     requires { length book.now ≤ 65536 }
 {
     if header == b'G' {
@@ -1079,7 +1075,7 @@ fn print_counts(out: &mut [u8; OUTPUT], header: u8, book: &[u8], said: usize)
     );
 }
 
-fn print_place(out: &mut [u8; OUTPUT], header: u8, book: &[u8], place: usize)
+fn print_place(out: &mut Printer, header: u8, book: &[u8], place: usize)
     requires { (length book.now ≤ 65536) × (place ≤ length book.now) }
 {
     print_name(out, header);
@@ -1089,7 +1085,7 @@ fn print_place(out: &mut [u8; OUTPUT], header: u8, book: &[u8], place: usize)
 }
 
 // What is wrong with the line at `place`, whose form is right.
-fn explain_figures(out: &mut [u8; OUTPUT], book: &[u8], number: u64, place: usize, d: Declared)
+fn explain_figures(out: &mut Printer, book: &[u8], number: u64, place: usize, d: Declared)
     requires { length book.now ≤ 65536 }
 {
     let f = find_fault(book, number, place, d);
@@ -1100,7 +1096,7 @@ fn explain_figures(out: &mut [u8; OUTPUT], book: &[u8], number: u64, place: usiz
     }
 }
 
-fn explain_nonterminal(out: &mut [u8; OUTPUT], number: u64, place: usize) {
+fn explain_nonterminal(out: &mut Printer, number: u64, place: usize) {
     if number == 5 {
         print_words(
             out,
@@ -1121,7 +1117,7 @@ fn explain_nonterminal(out: &mut [u8; OUTPUT], number: u64, place: usize) {
 }
 
 // A book that ends where a line is due.
-fn explain_end(out: &mut [u8; OUTPUT], header: u8, book: &[u8], said: usize)
+fn explain_end(out: &mut Printer, header: u8, book: &[u8], said: usize)
     requires { length book.now ≤ 65536 }
 {
     print_name(out, header);
@@ -1148,7 +1144,7 @@ fn clipped(x: usize) -> usize
 }
 
 // Reply 1 at a line of a grammar book.
-fn explain_grammar_form(out: &mut [u8; OUTPUT], book: &[u8], place: usize, rules: usize)
+fn explain_grammar_form(out: &mut Printer, book: &[u8], place: usize, rules: usize)
     requires { (length book.now ≤ 65536) × (place ≤ length book.now) }
 {
     if place == 0 {
@@ -1200,7 +1196,7 @@ fn table_due(book: &[u8], place: usize, entries: usize) -> u8
 
 // Reply 1 at a line of a table book.
 fn explain_table_form(
-    out: &mut [u8; OUTPUT],
+    out: &mut Printer,
     items: &[u8],
     rules: usize,
     book: &[u8],
@@ -1230,7 +1226,7 @@ fn is_counted(due: u8) -> bool {
 }
 
 // Where another letter stands at the end of the entries, how many the header says.
-fn explain_letter(out: &mut [u8; OUTPUT], book: &[u8], place: usize, entries: usize, due: u8)
+fn explain_letter(out: &mut Printer, book: &[u8], place: usize, entries: usize, due: u8)
     requires { (length book.now ≤ 65536) × (place < length book.now) }
 {
     if book[place] == due {
@@ -1249,13 +1245,13 @@ fn explain_letter(out: &mut [u8; OUTPUT], book: &[u8], place: usize, entries: us
 }
 
 // A book that is too long.
-pub fn explain_length(out: &mut [u8; OUTPUT], header: u8) {
+pub fn explain_length(out: &mut Printer, header: u8) {
     print_name(out, header);
     print_text(out, b": it is longer than 65536 bytes\n");
 }
 
 // The first numbers of a book's header, 0 for those that it lacks.
-#[derive(Drop)]
+#[derive(Clone, Copy)]
 struct Header {
     first: usize,
     second: usize,
@@ -1277,7 +1273,7 @@ fn read_header(book: &[u8]) -> Header
 // A refusal of a book with 1 to 4, whose header says that so many lines follow it; whether it is 1 at a line, and what breaks that is still to
 // be told.
 fn explain_book(
-    out: &mut [u8; OUTPUT],
+    out: &mut Printer,
     header: u8,
     book: &[u8],
     number: u64,
@@ -1306,7 +1302,7 @@ fn last_nonterminal(count: usize) -> usize {
 }
 
 // A refusal of a grammar book as it is read: 1 to 6.
-pub fn explain_grammar_book(out: &mut [u8; OUTPUT], book: &[u8], number: u64, place: usize) {
+pub fn explain_grammar_book(out: &mut Printer, book: &[u8], number: u64, place: usize) {
     if 65536 < book.len() {
         explain_length(out, b'G');
         return;
@@ -1331,7 +1327,7 @@ pub fn explain_grammar_book(out: &mut [u8; OUTPUT], book: &[u8], number: u64, pl
 
 // A refusal of a table book as it is read, 1 to 3, by a grammar with these figures, whose rules are in the item table.
 pub fn explain_table_book(
-    out: &mut [u8; OUTPUT],
+    out: &mut Printer,
     items: &[u8],
     terminals: usize,
     nonterminals: usize,

@@ -1,5 +1,7 @@
 // Refusals in words: the line, the item, the code, the actions.
 // Inner: for the programs that explain.
+#![tactic(auto)]
+
 ghost use Rattle.std.specs.Prelude.{◌≡◌, ◌+◌, ◌*◌, ◌<◌, ◌≤◌, length};
 ghost use Rattle.items.specs.Layout.{Shaped};
 ghost use Rattle.kernel_lines.specs.Lines.{Lines};
@@ -13,12 +15,12 @@ use check_missing::MissingCode;
 use check_targets::ItemFault;
 use fixpoint::Found;
 use memory::Totals;
-use program::{OUTPUT, print_count, print_text};
+use program::{Printer, print_count, print_text};
 use symbol::{CODES, SYMBOLS, Symbol};
 use table::Counts;
 
 // What stands before symbol k of item i: its dot, its recognition point, the cut between two groups.
-fn print_marks(out: &mut [u8; OUTPUT], items: &[u8], count: usize, i: usize, k: usize, dot: usize)
+fn print_marks(out: &mut Printer, items: &[u8], count: usize, i: usize, k: usize, dot: usize)
     requires shaped { Shaped items.now count }
     requires i_le_count { (i ≤ count) × (k ≤ 15) }
 {
@@ -38,14 +40,7 @@ fn print_marks(out: &mut [u8; OUTPUT], items: &[u8], count: usize, i: usize, k: 
 }
 
 // Item i with its dot, as a rule or an entry's string.
-fn print_dotted(
-    out: &mut [u8; OUTPUT],
-    items: &[u8],
-    count: usize,
-    rules: usize,
-    i: usize,
-    dot: usize,
-)
+fn print_dotted(out: &mut Printer, items: &[u8], count: usize, rules: usize, i: usize, dot: usize)
     requires shaped { Shaped items.now count }
     requires i_le_count { i ≤ count }
 {
@@ -69,7 +64,7 @@ fn print_dotted(
 
 // A text, then item i with its dot.
 fn print_item(
-    out: &mut [u8; OUTPUT],
+    out: &mut Printer,
     text: &[u8],
     items: &[u8],
     count: usize,
@@ -89,7 +84,7 @@ fn print_item(
 }
 
 // An action, by the number that `cells` gives it.
-fn print_action(out: &mut [u8; OUTPUT], demand: usize) {
+fn print_action(out: &mut Printer, demand: usize) {
     if demand == 0 {
         print_text(out, b"nothing");
         return;
@@ -110,14 +105,7 @@ fn print_action(out: &mut [u8; OUTPUT], demand: usize) {
 }
 
 // The symbols of item i from one number up to another.
-fn print_symbols(
-    out: &mut [u8; OUTPUT],
-    items: &[u8],
-    count: usize,
-    i: usize,
-    from: usize,
-    to: usize,
-)
+fn print_symbols(out: &mut Printer, items: &[u8], count: usize, i: usize, from: usize, to: usize)
     requires shaped { Shaped items.now count }
     requires i_le_count { (i ≤ count) × (to ≤ 15) }
 {
@@ -150,7 +138,7 @@ fn group_number(items: &[u8], count: usize, i: usize, from: usize) -> usize
 }
 
 // Entry k with its string.
-fn print_entry(out: &mut [u8; OUTPUT], items: &[u8], rules: usize, strings: usize, k: usize)
+fn print_entry(out: &mut Printer, items: &[u8], rules: usize, strings: usize, k: usize)
     requires shaped { Shaped items.now (rules + strings) }
     requires rules_bound { (rules ≤ 127) × (strings ≤ 127) }
 {
@@ -170,7 +158,7 @@ fn wide(b: u8) -> usize {
 }
 
 // Who uses entry k, by what each group uses; the goal's is used by none.
-fn print_user(out: &mut [u8; OUTPUT], uses: &[u8], k: usize) {
+fn print_user(out: &mut Printer, uses: &[u8], k: usize) {
     let mut x = 16;
     while x < uses.len() {
         if wide(uses[x]) == k {
@@ -184,14 +172,14 @@ fn print_user(out: &mut [u8; OUTPUT], uses: &[u8], k: usize) {
 }
 
 // Who uses item i, where it is an entry's.
-fn print_item_user(out: &mut [u8; OUTPUT], uses: &[u8], rules: usize, i: usize) {
+fn print_item_user(out: &mut Printer, uses: &[u8], rules: usize, i: usize) {
     if rules < i {
         print_user(out, uses, i - rules);
     }
 }
 
 // Reply 7 at place 0.
-fn explain_entries(out: &mut [u8; OUTPUT], items: &[u8], rules: usize, strings: usize, goal: usize)
+fn explain_entries(out: &mut Printer, items: &[u8], rules: usize, strings: usize, goal: usize)
     requires shaped { Shaped items.now (rules + strings) }
     requires rules_bound { (rules ≤ 127) × (1 ≤ strings) × (strings ≤ 127) }
 {
@@ -221,7 +209,7 @@ fn explain_entries(out: &mut [u8; OUTPUT], items: &[u8], rules: usize, strings: 
 
 // What item i, dot k asks of the cell for code c, where it asks something.
 fn print_demand(
-    out: &mut [u8; OUTPUT],
+    out: &mut Printer,
     items: &[u8],
     nullable: &[u8],
     first: &[u8],
@@ -265,7 +253,7 @@ fn print_demand(
 
 // The kernel items of q that ask something of the cell for code c.
 fn print_line_demands(
-    out: &mut [u8; OUTPUT],
+    out: &mut Printer,
     items: &[u8],
     kernels: &[u8],
     lookaheads: &[u8],
@@ -303,7 +291,7 @@ fn print_line_demands(
 
 // The rules that the closure adds and that ask something of it.
 fn print_rule_demands(
-    out: &mut [u8; OUTPUT],
+    out: &mut Printer,
     items: &[u8],
     present: &[u8],
     follow: &[u8],
@@ -339,7 +327,7 @@ fn print_rule_demands(
 
 // The items of q that ask something of the cell for code c.
 fn print_demands(
-    out: &mut [u8; OUTPUT],
+    out: &mut Printer,
     items: &[u8],
     kernels: &[u8],
     lookaheads: &[u8],
@@ -363,7 +351,7 @@ fn print_demands(
 }
 
 // Where a state goes.
-fn print_goes(out: &mut [u8; OUTPUT], x: usize, q: usize, s: usize) {
+fn print_goes(out: &mut Printer, x: usize, q: usize, s: usize) {
     print_count(out, b"on symbol ", x);
     print_count(out, b" state ", q);
     print_count(out, b" goes to state ", s);
@@ -372,7 +360,7 @@ fn print_goes(out: &mut [u8; OUTPUT], x: usize, q: usize, s: usize) {
 
 // Reply 7 at state q.
 fn explain_items(
-    out: &mut [u8; OUTPUT],
+    out: &mut Printer,
     items: &[u8],
     entries: &[u8],
     kernels: &[u8],
@@ -445,7 +433,7 @@ fn explain_items(
 
 // Reply 8 at state q.
 fn explain_lookaheads(
-    out: &mut [u8; OUTPUT],
+    out: &mut Printer,
     items: &[u8],
     entries: &[u8],
     kernels: &[u8],
@@ -495,7 +483,7 @@ fn explain_lookaheads(
     print_text(out, b"\n");
 }
 
-fn print_conflict(out: &mut [u8; OUTPUT], q: usize, c: usize, first: usize, second: usize) {
+fn print_conflict(out: &mut Printer, q: usize, c: usize, first: usize, second: usize) {
     print_count(out, b"state ", q);
     print_count(out, b", code ", c);
     print_text(out, b": ");
@@ -507,7 +495,7 @@ fn print_conflict(out: &mut [u8; OUTPUT], q: usize, c: usize, first: usize, seco
 
 // Reply 9 at state q: each code whose cell would hold two actions, as far as there is room. Answers their number.
 fn explain_conflicts(
-    out: &mut [u8; OUTPUT],
+    out: &mut Printer,
     items: &[u8],
     kernels: &[u8],
     lookaheads: &[u8],
@@ -557,7 +545,7 @@ fn explain_conflicts(
 }
 
 // A cell that is not what is asked.
-fn print_cell(out: &mut [u8; OUTPUT], symbol: usize, asked: usize, there: usize) {
+fn print_cell(out: &mut Printer, symbol: usize, asked: usize, there: usize) {
     print_count(out, b"on symbol ", symbol);
     if there == 0 {
         print_text(out, b": the line is missing");
@@ -574,7 +562,7 @@ fn print_cell(out: &mut [u8; OUTPUT], symbol: usize, asked: usize, there: usize)
 }
 
 // A nonterminal's line that is missing or extra.
-fn explain_goto(out: &mut [u8; OUTPUT], symbols: &[u8], gotos: &[u8], q: usize)
+fn explain_goto(out: &mut Printer, symbols: &[u8], gotos: &[u8], q: usize)
     requires { (length symbols.now ≡ 128) × (16384 ≤ length gotos.now) × (q < 256) }
 {
     let goto = check_cells::find_goto(symbols, gotos, q);
@@ -597,7 +585,7 @@ fn explain_goto(out: &mut [u8; OUTPUT], symbols: &[u8], gotos: &[u8], q: usize)
 
 // Reply 10 at state q.
 fn explain_cells(
-    out: &mut [u8; OUTPUT],
+    out: &mut Printer,
     items: &[u8],
     kernels: &[u8],
     lookaheads: &[u8],
@@ -637,7 +625,7 @@ fn explain_cells(
 
 // Replies 9 and 10 at state q: what its items ask of its cells.
 fn explain_asked(
-    out: &mut [u8; OUTPUT],
+    out: &mut Printer,
     items: &[u8],
     kernels: &[u8],
     links: &[usize],
@@ -704,7 +692,7 @@ fn explain_asked(
 }
 
 // Which reply is told, at which place, and for how many conflicts there is room.
-#[derive(Drop)]
+#[derive(Clone, Copy)]
 pub struct Question {
     pub number: u64,
     pub place: usize,
@@ -713,7 +701,7 @@ pub struct Question {
 
 // A refusal at state q, where what the check computes of the grammar is at hand.
 fn explain_state(
-    out: &mut [u8; OUTPUT],
+    out: &mut Printer,
     items: &[u8],
     entries: &[u8],
     kernels: &[u8],
@@ -813,7 +801,7 @@ fn explain_state(
 
 // A refusal of tables in memory: 7 to 10. Of conflicts as many are told as there is room for, and their number is the answer.
 pub fn explain_memory(
-    out: &mut [u8; OUTPUT],
+    out: &mut Printer,
     items: &[u8],
     entries: &[u8],
     kernels: &[u8],

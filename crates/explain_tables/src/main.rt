@@ -1,17 +1,19 @@
 // explain_tables (GRAMMAR TABLES)..: checks each table book against its grammar book, prints the reply's number and place, and tells in words
 // why the tables are refused.
+#![tactic(auto)]
+
 ghost use Rattle.std.specs.Prelude.{◌+◌, ◌≤◌};
 ghost use Rattle.check_memory.specs.Given.{TableRoom};
 
 use explain_states::Question;
 use grammar::GrammarReply;
-use program::{OUTPUT, print_text};
+use program::{Printer, print_text};
 use symbol::CODES;
 use table::{Counts, TableReply};
 
 // The tables in memory, by the reply to them: 0, or 7 to 10.
 fn explain_tables(
-    out: &mut [u8; OUTPUT],
+    out: &mut Printer,
     items: &[u8],
     entries: &[u8],
     kernels: &[u8],
@@ -51,7 +53,7 @@ fn explain_tables(
 }
 
 // Why a book is refused: the grammar book, where it is refused by itself, else the table book.
-fn explain_book(out: &mut [u8; OUTPUT], grammar: &[u8], book: &[u8], number: u64, place: usize) {
+fn explain_book(out: &mut Printer, grammar: &[u8], book: &[u8], number: u64, place: usize) {
     // Both lengths come before all else.
     if book.len() > 65536 {
         explain_lines::explain_length(out, b'T');
@@ -75,7 +77,7 @@ fn explain_book(out: &mut [u8; OUTPUT], grammar: &[u8], book: &[u8], number: u64
     );
 }
 
-fn show(grammar: &[u8], book: &[u8]) {
+fn show(rt: HostRuntime, grammar: &[u8], book: &[u8]) {
     let mut items = [0u8; table::ITEMS];
     let mut entries = [0u8; table::ENTRY_STATES];
     let mut kernels = [0u8; table::KERNELS];
@@ -99,7 +101,7 @@ fn show(grammar: &[u8], book: &[u8]) {
     let verdict = checked.verdict;
     let number = reply::number(verdict);
     let place = reply::place(verdict);
-    let mut out = program::output();
+    let mut out = program::output(rt);
     program::print_pair(&mut out, number, place as u64);
     let answer = checked.answer;
     match answer {
@@ -123,38 +125,38 @@ fn show(grammar: &[u8], book: &[u8]) {
 }
 
 // Reads both books, which the arguments i and `next` name.
-fn run(i: usize, next: usize, usage: &[u8]) {
+fn run(rt: HostRuntime, i: usize, next: usize, usage: &[u8]) {
     // One byte more than a book may have.
     let mut grammar = [0u8; program::FILE];
-    let first = program::read_argument(i, b"GRAMMAR", usage, &mut grammar);
+    let first = program::read_argument(rt, i, b"GRAMMAR", usage, &mut grammar);
     if first.failed {
         return;
     }
     let mut book = [0u8; program::FILE];
-    let second = program::read_argument(next, b"TABLES", usage, &mut book);
+    let second = program::read_argument(rt, next, b"TABLES", usage, &mut book);
     if second.failed {
         return;
     }
     let n = first.size;
     let m = second.size;
-    show(&grammar[..n], &book[..m]);
+    show(rt, &grammar[..n], &book[..m]);
 }
 
-fn main() {
+fn main(rt: HostRuntime) {
     let usage = b"usage: explain_tables (GRAMMAR TABLES)..\n";
-    let count = os::arg_count();
+    let count = program::argument_count(rt);
     if count < 2 {
-        program::tell_missing(b"GRAMMAR", usage);
+        program::tell_missing(rt, b"GRAMMAR", usage);
         return;
     }
     if count % 2 == 0 {
-        program::tell_missing(b"TABLES", usage);
+        program::tell_missing(rt, b"TABLES", usage);
         return;
     }
     let cases = count / 2;
     let mut k = 0;
     while k < cases {
-        run(2 * k + 1, 2 * k + 2, usage);
+        run(rt, 2 * k + 1, 2 * k + 2, usage);
         k += 1;
     }
 }

@@ -1,11 +1,13 @@
 // Least sets as flags in memory.
 // Inner: for crates that keep flags in memory.
+#![tactic(auto)]
+
 ghost use Rattle.std.specs.Prelude.{◌≤◌, length};
 ghost use Rattle.fixpoint.specs.Flags.{Off};
 ghost use Rattle.fixpoint.specs.Lowest.{Lowest};
 
 // A number that was looked for.
-#[derive(Drop)]
+#[derive(Clone, Copy)]
 pub enum Found {
     At(usize),
     Nothing,

@@ -1,5 +1,7 @@
 // The choices that the generator has for each nonterminal: its rules, and the first of least derivation height.
 // Inner: for `generator`.
+#![tactic(auto)]
+
 ghost use Rattle.std.specs.Prelude.{◌≡◌, ◌+◌, ◌*◌, ◌/◌, ◌%◌, ◌<◌, ◌≤◌, length};
 ghost use Rattle.std.proofs.lemmas.List.Edits.{sets};
 ghost use Rattle.items.specs.Layout.{Shaped};
@@ -25,7 +27,7 @@ const SHORTEST: usize = 384;
 const RULES: usize = 512;
 
 // A rule, and the state after it was chosen.
-#[derive(Drop)]
+#[derive(Clone, Copy)]
 pub struct Chosen {
     pub rule: usize,
     pub state: u32,

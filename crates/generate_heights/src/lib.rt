@@ -1,5 +1,7 @@
 // Derivation heights of a grammar in memory, and the first rule of least height.
 // Inner: for `generate_choices`.
+#![tactic(auto)]
+
 ghost use Rattle.std.specs.Prelude.{◌≡◌, false, ◌-◌, ◌<◌, ◌≤◌, length};
 ghost use Rattle.items.specs.Layout.{Shaped};
 ghost use Rattle.language.specs.Grammar.{Grammar, IsNonterminal};

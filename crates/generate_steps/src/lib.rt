@@ -1,5 +1,7 @@
 // The steps that a load is written by: a token, a rule where its mark is, the next depth.
 // Inner: for `generator`.
+#![tactic(auto)]
+
 ghost use Rattle.std.specs.Prelude.{◌≡◌, ◌⊎◌, [], ◌∷◌, ◌-◌, ◌<◌, ◌≤◌, length};
 ghost use Rattle.generate_steps.specs.Put.{PutsToken, PutsRule, at_mark};
 
@@ -7,7 +9,7 @@ ghost use Rattle.generate_steps.specs.Put.{PutsToken, PutsRule, at_mark};
 pub const TOKENS: usize = 65535;
 
 // How far the expansion is: the state, and how many tokens and rules are written.
-#[derive(Drop)]
+#[derive(Clone, Copy)]
 pub struct Point {
     pub state: u32,
     pub tokens: usize,
@@ -15,7 +17,7 @@ pub struct Point {
 }
 
 // The next point, or the first token or rule that does not fit.
-#[derive(Drop)]
+#[derive(Clone, Copy)]
 pub enum Step {
     Fits(Point),
     Full,

@@ -1,5 +1,7 @@
 // Test loads: a sentence and its listing from a grammar book, a seed and a depth.
 // The door is `make_load`.
+#![tactic(auto)]
+
 ghost use Rattle.std.specs.Prelude.{◌≡◌, length, replicate};
 ghost use Rattle.language.specs.Grammar.{Grammar};
 ghost use Rattle.language.specs.Sentence.{AllProductive};
@@ -15,14 +17,14 @@ use grammar_header::Heading;
 use reply::{Kind, Refusal, Reply, clear};
 
 // The figures of a load.
-#[derive(Drop)]
+#[derive(Clone, Copy)]
 pub struct Generated {
     pub tokens: usize,
     pub rules: usize,
 }
 
 // A load is written, or refused.
-#[derive(Drop)]
+#[derive(Clone, Copy)]
 pub enum GeneratorReply {
     Written(Generated),
     Refused(Refusal),

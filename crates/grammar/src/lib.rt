@@ -1,5 +1,7 @@
 // Reads a grammar book into the item table.
 // The door is `read_grammar`.
+#![tactic(auto)]
+
 ghost use Rattle.std.specs.Prelude.{◌≡◌, ◌+◌, ◌*◌, ◌≤◌, length, replicate};
 ghost use Rattle.language.specs.Grammar.{Grammar};
 ghost use Rattle.grammar.specs.Book.{rules_from, end_of, book_of, reduced_of, grammar_of};
@@ -15,14 +17,14 @@ use reply::{Kind, Refusal, Reply, clear};
 pub const TABLE: usize = 8192;
 
 // The position past the rule lines, or why one is refused.
-#[derive(Drop)]
+#[derive(Clone, Copy)]
 pub enum RuleLines {
     Read(usize),
     Refused(Refusal),
 }
 
 // The figures of a grammar that is in the item table, or why its book is refused.
-#[derive(Drop)]
+#[derive(Clone, Copy)]
 pub enum GrammarReply {
     Read(Heading),
     Refused(Refusal),

@@ -1,5 +1,7 @@
 // The first line of a grammar book, `G,t,n,r,goal`.
 // Inner: for `grammar`.
+#![tactic(auto)]
+
 ghost use Rattle.std.specs.Prelude.{◌≡◌};
 ghost use Rattle.grammar_header.specs.Header.{header_of, figures_of};
 
@@ -9,7 +11,7 @@ use symbol::Symbol;
 use text::{Cursor, Field, read_field};
 
 // The figures of a grammar: t, n, the number of rules, and the goal's code.
-#[derive(Drop)]
+#[derive(Clone, Copy)]
 pub struct Heading {
     pub terminals: usize,
     pub nonterminals: usize,
@@ -18,7 +20,7 @@ pub struct Heading {
 }
 
 // A header with the position past its line, or why it is refused.
-#[derive(Drop)]
+#[derive(Clone, Copy)]
 pub enum HeaderLine {
     Read(Heading, usize),
     Refused(Refusal),

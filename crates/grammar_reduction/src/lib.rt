@@ -1,5 +1,7 @@
 // Whether a grammar in memory is reduced: each nonterminal productive and reachable.
 // Inner: for `grammar` and `analysis`, on rules in memory.
+#![tactic(auto)]
+
 ghost use Rattle.std.specs.Prelude.{◌≡◌, ◌+◌, ◌<◌, ◌≤◌, length, replicate};
 ghost use Rattle.language.specs.Grammar.{Grammar};
 ghost use Rattle.items.specs.Layout.{Shaped, Holds};

@@ -1,5 +1,7 @@
 // Rule lines of a grammar book, `R,left,..` or `U,left,..`, read into the item table.
 // Inner: for `grammar`.
+#![tactic(auto)]
+
 ghost use Rattle.std.specs.Prelude.{◌≡◌, ◌+◌, ◌%◌, ◌≤◌, ◌<◌, eqb, length};
 ghost use Rattle.language.specs.Listing.{unit_of};
 ghost use Rattle.grammar_rule.specs.RuleLine.{is_rule, rule_at};
@@ -12,7 +14,7 @@ use symbol::Symbol;
 use text::{Cursor, Field, read_field};
 
 // What the last part of a right side was, as far as its marks stand where they may.
-#[derive(Drop)]
+#[derive(Clone, Copy)]
 pub enum Stage {
     Before,
     AtCaret,
@@ -23,7 +25,7 @@ pub enum Stage {
 
 // How far a right side is read: its symbols, how many of them stand left of `^`, whether one passes 65,535, and whether
 // one is undeclared.
-#[derive(Drop)]
+#[derive(Clone, Copy)]
 pub struct Progress {
     pub count: usize,
     pub point: usize,
@@ -33,14 +35,14 @@ pub struct Progress {
 }
 
 // A right side to its line's end with the position past it, or a field that breaks the line's form.
-#[derive(Drop)]
+#[derive(Clone, Copy)]
 pub enum Parts {
     Complete(Progress, usize),
     Broken,
 }
 
 // The position past a rule line that was read, or why it is refused.
-#[derive(Drop)]
+#[derive(Clone, Copy)]
 pub enum RuleLine {
     Read(usize),
     Refused(Refusal),

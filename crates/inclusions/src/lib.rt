@@ -1,5 +1,7 @@
 // What the items of a state ask of the lookaheads of others, added as flags at line * 64 + code.
 // Inner: for the checker and the builder.
+#![tactic(auto)]
+
 ghost use Rattle.std.specs.Prelude.{◌≡◌, ℕ, suc, ◌+◌, ◌*◌, ◌<◌, ◌≤◌, length};
 ghost use Rattle.language.specs.Grammar.{Grammar};
 ghost use Rattle.leftcorner.specs.Table.{Table};
@@ -75,7 +77,7 @@ pub fn add_lines(
 }
 
 // An item with its dot, and where the flags of its lookaheads start.
-#[derive(Drop)]
+#[derive(Clone, Copy)]
 struct DottedItem {
     item: usize,
     dot: usize,

@@ -1,5 +1,7 @@
 // The items of a state with their lookaheads, and what can begin behind their dots.
 // Inner: for the checker and the builder.
+#![tactic(auto)]
+
 ghost use Rattle.std.specs.Prelude.{◌≡◌, ◌+◌, ◌≤◌, length};
 ghost use Rattle.analysis.specs.Adds.{Adds};
 ghost use Rattle.item_first.specs.Rows.{FirstsAt, FirstRoom};

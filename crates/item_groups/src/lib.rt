@@ -1,5 +1,7 @@
 // The groups of rules in memory: where each ends, and which of them is the first that is a given string.
 // Inner: for crates that know the item table to be in shape.
+#![tactic(auto)]
+
 ghost use Rattle.std.specs.Prelude.{◌≡◌, List, ℕ, ◌+◌, ◌<◌, ◌≤◌, length};
 ghost use Rattle.language.specs.Grammar.{Grammar, Rule};
 ghost use Rattle.language.specs.WellFormed.{WellFormed, RuleFormed};
@@ -10,7 +12,7 @@ ghost use Rattle.item_groups.specs.Groups.{GroupEnd, PartIs};
 ghost use Rattle.item_groups.specs.Uses.{Seeks};
 
 // What comes of the search for a string among groups, which are numbered.
-#[derive(Drop)]
+#[derive(Clone, Copy)]
 pub enum Search {
     // The number of the first that is the string.
     Found(usize),

@@ -1,5 +1,7 @@
 // The item table in memory: rules, then entry strings, a row of 64 bytes each.
 // Inner: for crates that know the table to be in shape.
+#![tactic(auto)]
+
 ghost use Rattle.std.specs.Prelude.{◌≡◌, ◌+◌, ◌*◌, ◌<◌, ◌≤◌};
 ghost use Rattle.items.specs.Layout.{Shaped, left_at, length_at, mark_at, unit_at, symbol_at, start_at};
 

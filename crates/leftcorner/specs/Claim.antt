@@ -1,4 +1,5 @@
 -- What demand 3 says of one list of tokens, over the definitions of Machine.antt and of crate `language`.
+use Rattle.std.specs.Prelude.{◌↔◌}
 use Rattle.std.specs.Prelude.{ℕ, zero, suc, ◌≤◌, ◌<◌, ◌≡◌, ◌⊎◌, List, [], ◌∷◌, ◌++◌, length, take, drop}
 use Rattle.std.proofs.Math.Option.{some}
 use Rattle.language.specs.Grammar.{Grammar, Rule, rule_at}
@@ -7,12 +8,6 @@ use Rattle.language.specs.Listing.{listing, units, units_in}
 use Rattle.language.specs.Sentence.{Sentence, BeginsSentence}
 use Rattle.language.specs.First.{next}
 use Rattle.leftcorner.specs.Machine.{Automaton, announce, pop, Event, on, rules_of, to_come, taken, step, start, Ending, accepted, failed, Walk, Verdict, whole_at, wrong_at, short_at, walk}
-
--- one holds exactly when the other does
-infix 20 ◌↔◌
-pub record ◌↔◌ (A B : Type 0) : Type 0 where
-  pub to : A → B
-  pub from : B → A
 
 -- the scans before p begin a sentence; with the scan found there they begin none, or the scans end there and are none
 pub data WrongAt (g : Grammar) (w : List ℕ) (p : ℕ) : Type 0 where

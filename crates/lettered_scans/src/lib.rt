@@ -1,5 +1,7 @@
 // Scan files read through a bank's own letters.
 // The door is `read_lettered`; `too_long_lem` and `terminals_of` are inner, for sessions.
+#![tactic(auto)]
+
 ghost use Rattle.std.specs.Prelude.{◌≡◌, length};
 ghost use Rattle.scans.specs.File.{outcome_of};
 ghost use Rattle.lettered_scans.specs.Lettered.{lettered, too_long, terminals_in};

@@ -1,5 +1,7 @@
 // Letters books: the codes of a bank's own scanner letters.
 // The door is `read_letters`.
+#![tactic(auto)]
+
 ghost use Rattle.std.specs.Prelude.{◌≡◌, ℕ, ◌≤◌, ◌<◌, length, get_or};
 ghost use Rattle.std.proofs.lemmas.List.Edits.{sets};
 ghost use Rattle.fixpoint.specs.Flags.{Decides};

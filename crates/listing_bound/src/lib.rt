@@ -1,5 +1,7 @@
 // How long the listing of a session can be: a bound from a grammar book and a number of scans.
 // The door is `bound_listing`.
+#![tactic(auto)]
+
 ghost use Rattle.std.specs.Prelude.{◌≡◌, ◌-◌, ◌*◌, ◌≤◌};
 ghost use Rattle.language.specs.Grammar.{Grammar};
 ghost use Rattle.items.specs.Layout.{Shaped, Holds};
@@ -11,7 +13,7 @@ use grammar_header::Heading;
 use reply::{Kind, Refusal, Reply};
 
 // The most rules that a session lists; or that there is no bound, since a right side is empty; or why the answer is refused.
-#[derive(Drop)]
+#[derive(Clone, Copy)]
 pub enum ListingBound {
     Rules(usize),
     Unbounded,

@@ -1,5 +1,7 @@
 // Both books as a machine in memory: read, checked and linked once, for every walk over them.
 // Inner: for sessions.
+#![tactic(auto)]
+
 ghost use Rattle.std.specs.Prelude.{◌≡◌, length, replicate};
 ghost use Rattle.checker.specs.Checked.{checked_of};
 ghost use Rattle.machine.specs.Machine.{MachineIs};
@@ -16,14 +18,14 @@ pub const ROWS: usize = 8448;
 pub const WORK: usize = table::LOOKAHEADS;
 
 // What a walk over the machine has to know beside the four slices: the state of the goal's entry, and the number of terminals.
-#[derive(Drop)]
+#[derive(Clone, Copy)]
 pub struct Machine {
     pub start: u8,
     pub terminals: usize,
 }
 
 // The machine of two books that are accepted, or their refusal.
-#[derive(Drop)]
+#[derive(Clone, Copy)]
 pub enum MachineReply {
     Ready(Machine),
     Refused(Refusal),

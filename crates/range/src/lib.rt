@@ -1,5 +1,7 @@
 // Ranges of figures.
 // Inner: for the readers of lines.
+#![tactic(auto)]
+
 ghost use Rattle.std.specs.Prelude.{◌≡◌};
 ghost use Rattle.range.specs.Range.{within};
 

@@ -1,10 +1,12 @@
 // The replies of every reader, builder and walker, and the zeroing of lent slices.
 // The types, `number` and `place` are for whoever calls a door; the rest is inner.
+#![tactic(auto)]
+
 ghost use Rattle.std.specs.Prelude.{◌≡◌, length, replicate};
 ghost use Rattle.reply.specs.Reply.{kind_number, number_of, place_of};
 
 // Why something is refused. Each variant's comment has the word that the documents use for it.
-#[derive(Drop)]
+#[derive(Clone, Copy)]
 pub enum Kind {
     // torn
     Malformed,
@@ -37,14 +39,14 @@ pub enum Kind {
 }
 
 // A refusal: its kind, and the place that the documents fix for it.
-#[derive(Drop)]
+#[derive(Clone, Copy)]
 pub struct Refusal {
     pub kind: Kind,
     pub place: usize,
 }
 
 // Accepted ("whole") carries the number of tokens read, and 0 where no token is read.
-#[derive(Drop)]
+#[derive(Clone, Copy)]
 pub enum Reply {
     Accepted(usize),
     Refused(Refusal),

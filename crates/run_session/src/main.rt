@@ -1,6 +1,8 @@
 // run_session GRAMMAR TABLES SCANS [LETTERS]: walks the scans of a file, with the letters of a letters book or else the house letters, by the
 // tables of a book that is checked against the grammar's. Prints the reply's number and place, the number of rules and that of units, then
 // each listed rule on a line.
+#![tactic(auto)]
+
 use session::SessionReply;
 
 fn walk(
@@ -18,10 +20,17 @@ fn walk(
     scan_session::run_scans(grammar, tables, scans, stack, listing)
 }
 
-fn show(lettered: bool, grammar: &[u8], tables: &[u8], letters: &[u8], scans: &[u8]) {
+fn show(
+    rt: HostRuntime,
+    lettered: bool,
+    grammar: &[u8],
+    tables: &[u8],
+    letters: &[u8],
+    scans: &[u8],
+) {
     let mut stack = program::lend(0);
     let mut listing = program::lend(0);
-    let mut out = program::output();
+    let mut out = program::output(rt);
     let answer = walk(
         lettered,
         grammar,
@@ -43,25 +52,25 @@ fn show(lettered: bool, grammar: &[u8], tables: &[u8], letters: &[u8], scans: &[
     program::flush(&mut out);
 }
 
-fn main() {
+fn main(rt: HostRuntime) {
     let usage = b"usage: run_session GRAMMAR TABLES SCANS [LETTERS]\n";
     let mut grammar = [0u8; program::FILE];
-    let first = program::read_argument(1, b"GRAMMAR", usage, &mut grammar);
+    let first = program::read_argument(rt, 1, b"GRAMMAR", usage, &mut grammar);
     if first.failed {
         return;
     }
     let mut tables = [0u8; program::FILE];
-    let second = program::read_argument(2, b"TABLES", usage, &mut tables);
+    let second = program::read_argument(rt, 2, b"TABLES", usage, &mut tables);
     if second.failed {
         return;
     }
     let mut scans = [0u8; program::FILE];
-    let third = program::read_argument(3, b"SCANS", usage, &mut scans);
+    let third = program::read_argument(rt, 3, b"SCANS", usage, &mut scans);
     if third.failed {
         return;
     }
     let mut letters = [0u8; program::FILE];
-    let fourth = program::read_optional(4, b"LETTERS", usage, &mut letters);
+    let fourth = program::read_optional(rt, 4, b"LETTERS", usage, &mut letters);
     if fourth.failed {
         return;
     }
@@ -70,7 +79,8 @@ fn main() {
     let k = third.size;
     let l = fourth.size;
     show(
-        program::has_argument(4),
+        rt,
+        program::has_argument(rt, 4),
         &grammar[..n],
         &tables[..m],
         &letters[..l],

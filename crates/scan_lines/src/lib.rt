@@ -1,5 +1,7 @@
 // Lines of scan files: their form, and the token of each.
 // Inner: for `scans`.
+#![tactic(auto)]
+
 ghost use Rattle.std.specs.Prelude.{◌≡◌, true, List, ℕ, ◌<◌, drop};
 ghost use Rattle.scan_lines.specs.Line.{text_byte, text_end, text_from, line_at, scan_of};
 ghost use Rattle.scan_lines.specs.Tokens.{code_of, repeats, differs, judge};
@@ -9,7 +11,7 @@ use reply::Kind;
 use text::{Cursor, Field};
 
 // A line: its sequence number, its letter, and its text from the first byte to the LF.
-#[derive(Drop)]
+#[derive(Clone, Copy)]
 pub struct Line {
     pub sequence: usize,
     pub letter: u8,
@@ -18,28 +20,28 @@ pub struct Line {
 }
 
 // The text of a line, up to its LF, or none.
-#[derive(Drop)]
+#[derive(Clone, Copy)]
 pub enum Text {
     Until(usize),
     Broken,
 }
 
 // What stands where a line is due.
-#[derive(Drop)]
+#[derive(Clone, Copy)]
 pub enum Parsed {
     Line(Line),
     Broken,
 }
 
 // The line before a line.
-#[derive(Drop)]
+#[derive(Clone, Copy)]
 pub enum Previous {
     Nothing,
     Line(Line),
 }
 
 // What a line gives: its token, or why it is refused.
-#[derive(Drop)]
+#[derive(Clone, Copy)]
 pub enum Judged {
     Token(u8),
     Refused(Kind),

@@ -1,5 +1,7 @@
 // A session over a scan file.
 // The doors are `run_scans`, with the house letters, and `run_lettered`, with a bank's own.
+#![tactic(auto)]
+
 ghost use Rattle.std.specs.Prelude.{◌≡◌, ◌≤◌, length};
 ghost use Rattle.scans.specs.File.{scanned, house};
 ghost use Rattle.checker.specs.Checked.{checked_of};

@@ -1,5 +1,7 @@
 // Reads scan files: a token for each line.
 // The door is `read_scans`; `read_by` and `refuse_file` are inner, for other letters.
+#![tactic(auto)]
+
 ghost use Rattle.std.specs.Prelude.{◌≡◌, length, set, replicate};
 ghost use Rattle.scans.specs.File.{all_lines, outcome_of, scanned, scans_of};
 ghost use Rattle.scans.specs.Read.{Stored};

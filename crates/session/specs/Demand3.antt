@@ -8,7 +8,8 @@ use Rattle.language.specs.Listing.{listing, units}
 use Rattle.language.specs.Sentence.{In, Sentence}
 use Rattle.leftcorner.specs.Machine.{Ending, Walk, start}
 use Rattle.leftcorner.specs.Table.{Table, automaton}
-use Rattle.leftcorner.specs.Claim.{◌↔◌, WrongAt, Outgrows}
+use Rattle.std.specs.Prelude.{◌↔◌}
+use Rattle.leftcorner.specs.Claim.{WrongAt, Outgrows}
 use Rattle.reply.specs.Reply.{number_of}
 use Rattle.reply.specs.declared.Kind.TheVariants.{BufferTooSmall, SyntaxError}
 use Rattle.reply.specs.declared.Reply.TheVariants as reply

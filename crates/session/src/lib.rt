@@ -1,5 +1,7 @@
 // A session of scans: both books are read and checked, then the tokens are walked.
 // The door is `run_session`; `refuse`, `walk_machine` and `walk_books` are inner.
+#![tactic(auto)]
+
 ghost use Rattle.std.specs.Prelude.{◌≡◌, length};
 ghost use Rattle.language.specs.Grammar.{Grammar};
 ghost use Rattle.leftcorner.specs.Table.{Table};

@@ -1,5 +1,7 @@
 // The first of a session's tokens that is no terminal.
 // Inner: for `session`.
+#![tactic(auto)]
+
 ghost use Rattle.std.specs.Prelude.{◌≡◌, ◌<◌, ◌≤◌};
 ghost use Rattle.stray_tokens.specs.Stray.{stray_from, Spans};
 
@@ -7,7 +9,7 @@ use fixpoint::Found;
 use symbol::Symbol;
 
 // The least and the greatest of some tokens; of none, the greatest byte and the least.
-#[derive(Drop)]
+#[derive(Clone, Copy)]
 struct Span {
     least: u8,
     most: u8,

@@ -1,5 +1,7 @@
 // Symbol codes: the end of the tokens, terminals and nonterminals.
 // Inner: for the readers of lines, and for the tokens of a session.
+#![tactic(auto)]
+
 ghost use Rattle.std.specs.Prelude.{◌≡◌};
 ghost use Rattle.symbol.specs.Symbol.{is_end, is_terminal, is_lookahead, is_nonterminal, is_declared};
 
@@ -12,7 +14,7 @@ pub const CODES: usize = 64;
 pub const SYMBOLS: usize = 128;
 
 // A symbol by its code.
-#[derive(Drop)]
+#[derive(Clone, Copy)]
 pub struct Symbol {
     pub code: usize,
 }

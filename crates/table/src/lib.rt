@@ -1,5 +1,7 @@
 // Reads a table book, with the grammar book it belongs to, into memory.
 // The door is `read_tables`; `clear_all` is inner.
+#![tactic(auto)]
+
 ghost use Rattle.std.specs.Prelude.{◌≡◌, false, ◌<◌, length, replicate};
 ghost use Rattle.language.specs.Grammar.{Grammar};
 ghost use Rattle.grammar.specs.Memory.{heading_of};
@@ -27,7 +29,7 @@ pub const CELLS: usize = 16640;
 pub const NAMED: usize = 256;
 
 // The figures of tables that are in memory: the grammar's, and the numbers of states, entries and kernel lines.
-#[derive(Drop)]
+#[derive(Clone, Copy)]
 pub struct Counts {
     pub grammar: Heading,
     pub states: usize,
@@ -36,7 +38,7 @@ pub struct Counts {
 }
 
 // What reading both books comes to.
-#[derive(Drop)]
+#[derive(Clone, Copy)]
 pub enum TableReply {
     Read(Counts),
     Refused(Refusal),

@@ -1,5 +1,7 @@
 // Action lines of table books, the cells and gotos in memory.
 // Inner: for `table_blocks`.
+#![tactic(auto)]
+
 ghost use Rattle.std.specs.Prelude.{◌≡◌, List, [], ◌∷◌, Bool, ℕ, ◌+◌, ◌*◌, ◌≤◌, ◌<◌, length};
 ghost use Rattle.leftcorner.specs.Table.{ActionLine, L};
 ghost use Rattle.memory.specs.Memory.{pop_value};

@@ -1,5 +1,7 @@
 // The blocks of a table book, entry lines, kernel lines and action lines, read into memory.
 // Inner: for `table`.
+#![tactic(auto)]
+
 ghost use Rattle.std.specs.Prelude.{◌≡◌, ◌≤◌, ◌<◌, length};
 ghost use Rattle.language.specs.Grammar.{Grammar};
 ghost use Rattle.grammar.specs.Memory.{heading_of};
@@ -11,7 +13,7 @@ use reply::Refusal;
 use table_lines::Block;
 
 // The blocks that were read: the numbers of entries and of kernel lines.
-#[derive(Drop)]
+#[derive(Clone, Copy)]
 pub enum Blocks {
     Read(usize, usize),
     Refused(Refusal),

@@ -1,5 +1,7 @@
 // Entry lines of table books, and their strings and states in memory.
 // Inner: for `table_blocks`, the builder and `explain_lines`.
+#![tactic(auto)]
+
 ghost use Rattle.std.specs.Prelude.{◌≡◌, List, [], ◌∷◌, ◌++◌, not, ◌||◌, ℕ, ◌+◌, ◌*◌, ◌≤◌, ◌<◌, ltb, length, get_or, take, drop};
 ghost use Rattle.std.proofs.lemmas.List.Edits.{sets};
 ghost use Rattle.language.specs.Grammar.{Grammar, Rule};

@@ -4,7 +4,6 @@ use Rattle.language.specs.Grammar.{Grammar, IsNonterminal}
 use Rattle.language.specs.Sentence.{Reachable, AllProductive}
 use Rattle.language.specs.WellFormed as grammar
 use Rattle.leftcorner.specs.Table.{Table}
-use Rattle.leftcorner.specs.Construction.{WellFormed}
 use Rattle.table_order.specs.Order.{kernel_key, action_key}
 use Rattle.table_order.proofs.OrderLaws.{RisingBy}
 use Rattle.table_order.proofs.UseLaws.{EntriesFollow}

@@ -1,5 +1,7 @@
 // The first line of a table book.
 // Inner: for `table`.
+#![tactic(auto)]
+
 ghost use Rattle.std.specs.Prelude.{◌≡◌, ◌<◌, length};
 ghost use Rattle.table_head.specs.Head.{head_of};
 
@@ -8,7 +10,7 @@ use reply::{Kind, Refusal};
 use table_lines::Line;
 
 // The first line of a table book, with the position past it.
-#[derive(Drop)]
+#[derive(Clone, Copy)]
 pub enum Head {
     Read(usize, usize, usize),
     Refused(Refusal),

@@ -1,5 +1,7 @@
 // Kernel lines of table books, their figures and lookaheads in memory.
 // Inner: for `table_blocks`.
+#![tactic(auto)]
+
 ghost use Rattle.std.specs.Prelude.{◌≡◌, List, [], ◌∷◌, ℕ, ◌+◌, ◌*◌, ◌≤◌, ◌<◌, length, get_or, take, drop, set};
 ghost use Rattle.items.specs.Layout.{Shaped, length_at};
 ghost use Rattle.leftcorner.specs.Table.{KernelLine};

@@ -1,5 +1,7 @@
 // Lines of table and letters books: a letter, then numbers to the line's end; and what comes of a line and of a block of lines.
 // Inner: for the readers of blocks and of letters books.
+#![tactic(auto)]
+
 ghost use Rattle.std.specs.Prelude.{◌≡◌, ◌≤◌, ◌<◌, max, length, set};
 ghost use Rattle.digits.specs.Exact.{exact_at};
 ghost use Rattle.digits.specs.Compare.{Leads};
@@ -11,7 +13,7 @@ use text::{Cursor, Field};
 
 // What is kept of a line's numbers beside the numbers themselves: how many there are, the largest, the last, and
 // whether those from the fourth on rise. Every number above 65,535 is kept as 65,536; whether they rise is exact.
-#[derive(Drop)]
+#[derive(Clone, Copy)]
 pub struct Tally {
     pub count: usize,
     pub largest: usize,
@@ -20,14 +22,14 @@ pub struct Tally {
 }
 
 // A line: its letter, its numbers, and the position past its LF.
-#[derive(Drop)]
+#[derive(Clone, Copy)]
 pub enum Line {
     Whole(u8, Tally, usize),
     Broken,
 }
 
 // Whether a line is as it must be, or what is wrong with it.
-#[derive(Drop)]
+#[derive(Clone, Copy)]
 pub enum Judgement {
     Fine,
     Faulty(Kind),
@@ -35,7 +37,7 @@ pub enum Judgement {
 
 // What comes of a place where a line of a block may stand: it is taken, with the position past it; or no line of the
 // block stands there; or a line is refused.
-#[derive(Drop)]
+#[derive(Clone, Copy)]
 pub enum Step {
     Taken(usize),
     Stopped,
@@ -43,7 +45,7 @@ pub enum Step {
 }
 
 // A block that was read: the number of its lines, and the position past them.
-#[derive(Drop)]
+#[derive(Clone, Copy)]
 pub enum Block {
     Read(usize, usize),
     Refused(Refusal),

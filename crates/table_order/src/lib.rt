@@ -1,5 +1,7 @@
 // The order of a table book's lines: a line is compared with the one before it.
 // Inner: for the readers of table books.
+#![tactic(auto)]
+
 ghost use Rattle.std.specs.Prelude.{◌≡◌, ◌≤◌, length};
 ghost use Rattle.table_order.specs.Order.{below};
 ghost use Rattle.table_order.specs.Last.{is_after};

@@ -1,5 +1,7 @@
 // Fields of books: what stands at a cursor, up to the comma or the LF that ends it.
 // Inner: for the readers of lines.
+#![tactic(auto)]
+
 ghost use Rattle.std.specs.Prelude.{◌≡◌, ◌≤◌, ◌+◌, ◌*◌, drop, leb};
 ghost use Rattle.range.specs.Range.{within};
 ghost use Rattle.text.specs.Field.{class_of, end_of, add_digit, closed, digits_from, field_at};
@@ -8,14 +10,14 @@ ghost use Rattle.text.specs.Inner.{summed, Saturated, single_of};
 use range::in_range;
 
 // A place in a line: the next byte, and whether the line's LF has been passed.
-#[derive(Drop)]
+#[derive(Clone, Copy)]
 pub struct Cursor {
     pub at: usize,
     pub ended: bool,
 }
 
 // The classes of the bytes that fields are made of.
-#[derive(Drop)]
+#[derive(Clone, Copy)]
 pub enum Class {
     Digit,
     Letter,
@@ -24,14 +26,14 @@ pub enum Class {
 }
 
 // The end of a field: the cursor past a comma or an LF, or neither of them.
-#[derive(Drop)]
+#[derive(Clone, Copy)]
 pub enum End {
     Past(Cursor),
     Missing,
 }
 
 // A field with the cursor past its end. Every number above 65,535 is 65,536.
-#[derive(Drop)]
+#[derive(Clone, Copy)]
 pub enum Field {
     Number(usize, Cursor),
     Mark(u8, Cursor),
@@ -40,7 +42,7 @@ pub enum Field {
 }
 
 // A number as far as its digits are read, in 16 bits: itself, or 65,535 and that it is above.
-#[derive(Drop)]
+#[derive(Clone, Copy)]
 struct Sum {
     value: u16,
     above: bool,

@@ -5,7 +5,7 @@ use Rattle.std.specs.Prelude.{ℕ, ◌≤◌, ◌≡◌, List, [], ◌∷◌, le
 use Rattle.language.specs.Grammar.{Grammar, IsTerminal}
 use Rattle.language.specs.Sentence.{In}
 use Rattle.leftcorner.specs.Table.{Table}
-use Rattle.leftcorner.specs.Claim.{◌↔◌}
+use Rattle.std.specs.Prelude.{◌↔◌}
 use Rattle.reply.specs.declared.Reply.TheVariants.{Accepted}
 use Rattle.fixpoint.specs.Each.{Each}
 use Rattle.text.specs.Promise.{NumberPromise}

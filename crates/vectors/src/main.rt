@@ -17,20 +17,21 @@
 // Prints for each the name of its last file, what the call answers, and what is not 0 in each slice that was lent, which held 7s; of letters
 // that are good all codes, zeros too; of a load a line stands for a run of equal bytes, and of one that is walked 1 for the same listing
 // from both calls, 0 for another.
+#![tactic(auto)]
+
 ghost use Rattle.std.specs.Prelude.{◌≡◌, ◌+◌, ◌<◌, ◌≤◌, length};
-ghost use Rattle.io.specs.Counts.{IsPrefixLen};
 
 use expected_trials::ExpectedReply;
 use generator::GeneratorReply;
-use program::{Input, LENT, OUTPUT, argument_number, lend, print_text};
+use program::{Input, LENT, Printer, argument_number, lend, print_text};
 use reply::Reply;
 use session::SessionReply;
 
 // The number that argument i begins with, at most 65,536.
-fn figure(i: usize) -> usize
+fn figure(rt: HostRuntime, i: usize) -> usize
     ensures { result ≤ 65536 }
 {
-    let n = argument_number(i);
+    let n = argument_number(rt, i);
     if n < 65536 {
         return n as usize;
     }
@@ -38,10 +39,11 @@ fn figure(i: usize) -> usize
 }
 
 // The file that argument i names.
-fn read(i: usize, buf: &mut [u8]) -> Input
-    ensures { IsPrefixLen result.size buf.new }
+fn read(rt: HostRuntime, i: usize, buf: &mut [u8]) -> Input
+    ensures { result.size ≤ length buf.new }
 {
     program::read_argument(
+        rt,
         i,
         b"a word of a case",
         b"usage: vectors (CALL, WORD..)..\n",
@@ -50,47 +52,47 @@ fn read(i: usize, buf: &mut [u8]) -> Input
 }
 
 // An output that begins with argument i.
-fn named(i: usize) -> [u8; OUTPUT] {
-    let mut out = program::output();
+fn named(rt: HostRuntime, i: usize) -> Printer {
+    let mut out = program::output(rt);
     program::print_argument(&mut out, i);
     print_text(&mut out, b"\n");
     out
 }
 
-fn print_reply(out: &mut [u8; OUTPUT], reply: Reply) {
+fn print_reply(out: &mut Printer, reply: Reply) {
     program::print_pair(out, reply::number(reply), reply::place(reply) as u64);
 }
 
-fn show_grammar(out: &mut [u8; OUTPUT], book: &[u8]) {
+fn show_grammar(out: &mut Printer, book: &[u8]) {
     let mut items = [0u8; grammar::TABLE];
     let answer = grammar::read_grammar(book, &mut items);
     print_reply(out, grammar::as_reply(answer));
 }
 
-fn run_grammar(i: usize) {
+fn run_grammar(rt: HostRuntime, i: usize) {
     let mut book = [0u8; program::FILE];
-    let input = read(i, &mut book);
+    let input = read(rt, i, &mut book);
     let n = input.size;
-    let mut out = named(i);
+    let mut out = named(rt, i);
     show_grammar(&mut out, &book[..n]);
     program::flush(&mut out);
 }
 
-fn show_check(out: &mut [u8; OUTPUT], grammar: &[u8], tables: &[u8]) {
+fn show_check(out: &mut Printer, grammar: &[u8], tables: &[u8]) {
     let reply = checker::check_tables(grammar, tables);
     print_reply(out, reply);
 }
 
-fn run_check(i: usize)
+fn run_check(rt: HostRuntime, i: usize)
     requires { i + 1 < 18446744073709551616 }
 {
     let mut grammar = [0u8; program::FILE];
     let mut tables = [0u8; program::FILE];
-    let first = read(i, &mut grammar);
-    let second = read(i + 1, &mut tables);
+    let first = read(rt, i, &mut grammar);
+    let second = read(rt, i + 1, &mut tables);
     let n = first.size;
     let m = second.size;
-    let mut out = named(i + 1);
+    let mut out = named(rt, i + 1);
     show_check(&mut out, &grammar[..n], &tables[..m]);
     program::flush(&mut out);
 }
@@ -110,7 +112,7 @@ fn count_set(bytes: &[u8]) -> usize {
 }
 
 // Prints the length that is answered and how many bytes are not 0, then the book.
-fn show_build(out: &mut [u8; OUTPUT], grammar: &[u8], book: &mut [u8]) {
+fn show_build(out: &mut Printer, grammar: &[u8], book: &mut [u8]) {
     let built = builder::build_tables(grammar, book);
     let reply = built.reply;
     print_reply(out, reply);
@@ -118,7 +120,7 @@ fn show_build(out: &mut [u8; OUTPUT], grammar: &[u8], book: &mut [u8]) {
     print_text(out, book);
 }
 
-fn show_scans(out: &mut [u8; OUTPUT], file: &[u8], tokens: &mut [u8]) {
+fn show_scans(out: &mut Printer, file: &[u8], tokens: &mut [u8]) {
     let reply = scans::read_scans(file, tokens);
     print_reply(out, reply);
     program::print_bytes(out, tokens);
@@ -132,14 +134,14 @@ fn code_lines(reply: Reply) -> usize {
     0
 }
 
-fn show_letters(out: &mut [u8; OUTPUT], book: &[u8], terminals: usize, codes: &mut [u8]) {
+fn show_letters(out: &mut Printer, book: &[u8], terminals: usize, codes: &mut [u8]) {
     let reply = letters::read_letters(book, terminals, codes);
     print_reply(out, reply);
     program::print_list(out, codes, code_lines(reply));
 }
 
 fn show_lettered(
-    out: &mut [u8; OUTPUT],
+    out: &mut Printer,
     letters: &[u8],
     terminals: usize,
     file: &[u8],
@@ -152,7 +154,7 @@ fn show_lettered(
 
 // Makes one of the four calls.
 fn show_one(
-    out: &mut [u8; OUTPUT],
+    out: &mut Printer,
     call: usize,
     letters: &[u8],
     terminals: usize,
@@ -169,7 +171,7 @@ fn show_one(
 
 // Lends the first bytes of the slice.
 fn show_in(
-    out: &mut [u8; OUTPUT],
+    out: &mut Printer,
     call: usize,
     letters: &[u8],
     terminals: usize,
@@ -182,14 +184,14 @@ fn show_in(
     show_one(out, call, letters, terminals, input, &mut slice[..room]);
 }
 
-fn run_one(call: usize, i: usize, letters: &[u8], terminals: usize, room: usize)
+fn run_one(rt: HostRuntime, call: usize, i: usize, letters: &[u8], terminals: usize, room: usize)
     requires { room ≤ 65536 }
 {
     let mut file = [0u8; program::FILE];
     let mut slice = [7u8; 65536];
-    let input = read(i, &mut file);
+    let input = read(rt, i, &mut file);
     let n = input.size;
-    let mut out = named(i);
+    let mut out = named(rt, i);
     show_in(
         &mut out,
         call,
@@ -202,13 +204,13 @@ fn run_one(call: usize, i: usize, letters: &[u8], terminals: usize, room: usize)
     program::flush(&mut out);
 }
 
-fn run_lettered_scans(i: usize, terminals: usize, room: usize)
+fn run_lettered_scans(rt: HostRuntime, i: usize, terminals: usize, room: usize)
     requires { (i + 1 < 18446744073709551616) × (room ≤ 65536) }
 {
     let mut letters = [0u8; program::FILE];
-    let input = read(i, &mut letters);
+    let input = read(rt, i, &mut letters);
     let n = input.size;
-    run_one(13, i + 1, &letters[..n], terminals, room);
+    run_one(rt, 13, i + 1, &letters[..n], terminals, room);
 }
 
 fn walk(
@@ -228,7 +230,7 @@ fn walk(
 }
 
 // Prints the reply of a session and its counts.
-fn print_walked(out: &mut [u8; OUTPUT], answer: SessionReply) {
+fn print_walked(out: &mut Printer, answer: SessionReply) {
     let reply = walker::as_reply(answer);
     program::print_figures(
         out,
@@ -240,7 +242,7 @@ fn print_walked(out: &mut [u8; OUTPUT], answer: SessionReply) {
 }
 
 fn show_session(
-    out: &mut [u8; OUTPUT],
+    out: &mut Printer,
     call: usize,
     grammar: &[u8],
     tables: &[u8],
@@ -259,7 +261,7 @@ fn show_session(
 
 // Lends the first n and k bytes of both slices.
 fn show_session_in(
-    out: &mut [u8; OUTPUT],
+    out: &mut Printer,
     call: usize,
     grammar: &[u8],
     tables: &[u8],
@@ -285,6 +287,7 @@ fn show_session_in(
 }
 
 fn show_lent(
+    rt: HostRuntime,
     call: usize,
     i: usize,
     grammar: &[u8],
@@ -298,7 +301,7 @@ fn show_lent(
 {
     let mut stack = [7u8; 65536];
     let mut listing = [7u8; 65536];
-    let mut out = named(i);
+    let mut out = named(rt, i);
     show_session_in(
         &mut out,
         call,
@@ -335,7 +338,7 @@ fn expect(
 
 // Prints the codes that are counted.
 fn show_expected(
-    out: &mut [u8; OUTPUT],
+    out: &mut Printer,
     call: usize,
     grammar: &[u8],
     tables: &[u8],
@@ -354,7 +357,7 @@ fn show_expected(
 
 // Lends the first n, k and m bytes of the slices.
 fn show_expected_in(
-    out: &mut [u8; OUTPUT],
+    out: &mut Printer,
     call: usize,
     grammar: &[u8],
     tables: &[u8],
@@ -392,6 +395,7 @@ fn lent(n: usize) -> usize
 }
 
 fn show_expected_lent(
+    rt: HostRuntime,
     call: usize,
     i: usize,
     grammar: &[u8],
@@ -407,7 +411,7 @@ fn show_expected_lent(
     let mut stack = lend(7);
     let mut listing = lend(7);
     let mut codes = [7u8; 65536];
-    let mut out = named(i);
+    let mut out = named(rt, i);
     show_expected_in(
         &mut out,
         call,
@@ -426,7 +430,7 @@ fn show_expected_lent(
 }
 
 // Prints the reply of a load and its counts.
-fn print_written(out: &mut [u8; OUTPUT], answer: GeneratorReply) {
+fn print_written(out: &mut Printer, answer: GeneratorReply) {
     let reply = generator::as_reply(answer);
     program::print_figures(
         out,
@@ -438,7 +442,7 @@ fn print_written(out: &mut [u8; OUTPUT], answer: GeneratorReply) {
 }
 
 // Walks a load, and compares the listings.
-fn show_walk(out: &mut [u8; OUTPUT], grammar: &[u8], tables: &[u8], tokens: &[u8], listing: &[u8]) {
+fn show_walk(out: &mut Printer, grammar: &[u8], tables: &[u8], tokens: &[u8], listing: &[u8]) {
     let mut stack = lend(7);
     let mut walked = lend(7);
     let answer = session::run_session(grammar, tables, tokens, &mut stack, &mut walked);
@@ -447,6 +451,7 @@ fn show_walk(out: &mut [u8; OUTPUT], grammar: &[u8], tables: &[u8], tokens: &[u8
 }
 
 fn show_walked_load(
+    rt: HostRuntime,
     i: usize,
     grammar: &[u8],
     tables: &[u8],
@@ -458,7 +463,7 @@ fn show_walked_load(
 {
     let mut tokens = [7u8; generate_steps::TOKENS];
     let mut listing = lend(7);
-    let mut out = named(i);
+    let mut out = named(rt, i);
     let answer = generator::make_load(loaded, seed as u32, depth, &mut tokens, &mut listing);
     print_written(&mut out, answer);
     let n = generator::token_count(answer);
@@ -468,6 +473,7 @@ fn show_walked_load(
 
 // Both books, the letters and the input of a session, read.
 fn show_session_of(
+    rt: HostRuntime,
     call: usize,
     i: usize,
     grammar: &[u8],
@@ -480,42 +486,43 @@ fn show_session_of(
     requires { (n ≤ 65536) × (k ≤ 65536) × (m ≤ 65536) }
 {
     let mut input = [0u8; program::FILE];
-    let last = read(i, &mut input);
+    let last = read(rt, i, &mut input);
     let c = last.size;
     match call {
-        5 | 6 | 14 => show_lent(call, i, grammar, tables, letters, &input[..c], n, k),
-        10 => show_walked_load(i, grammar, tables, &input[..c], n, k),
-        _ => show_expected_lent(call, i, grammar, tables, letters, &input[..c], n, k, m),
+        5 | 6 | 14 => show_lent(rt, call, i, grammar, tables, letters, &input[..c], n, k),
+        10 => show_walked_load(rt, i, grammar, tables, &input[..c], n, k),
+        _ => show_expected_lent(rt, call, i, grammar, tables, letters, &input[..c], n, k, m),
     }
 }
 
 // A session with the house letters; for a load that is walked n and k are its seed and its depth.
-fn run_session(call: usize, i: usize, n: usize, k: usize, m: usize)
+fn run_session(rt: HostRuntime, call: usize, i: usize, n: usize, k: usize, m: usize)
     requires { (i + 2 < 18446744073709551616) × (n ≤ 65536) × (k ≤ 65536) × (m ≤ 65536) }
 {
     let mut grammar = [0u8; program::FILE];
     let mut tables = [0u8; program::FILE];
-    let first = read(i, &mut grammar);
-    let second = read(i + 1, &mut tables);
+    let first = read(rt, i, &mut grammar);
+    let second = read(rt, i + 1, &mut tables);
     let a = first.size;
     let b = second.size;
-    show_session_of(call, i + 2, &grammar[..a], &tables[..b], b"", n, k, m);
+    show_session_of(rt, call, i + 2, &grammar[..a], &tables[..b], b"", n, k, m);
 }
 
 // A session with a bank's own letters.
-fn run_lettered(call: usize, i: usize, n: usize, k: usize, m: usize)
+fn run_lettered(rt: HostRuntime, call: usize, i: usize, n: usize, k: usize, m: usize)
     requires { (i + 3 < 18446744073709551616) × (n ≤ 65536) × (k ≤ 65536) × (m ≤ 65536) }
 {
     let mut grammar = [0u8; program::FILE];
     let mut tables = [0u8; program::FILE];
     let mut letters = [0u8; program::FILE];
-    let first = read(i, &mut grammar);
-    let second = read(i + 1, &mut tables);
-    let third = read(i + 2, &mut letters);
+    let first = read(rt, i, &mut grammar);
+    let second = read(rt, i + 1, &mut tables);
+    let third = read(rt, i + 2, &mut letters);
     let a = first.size;
     let b = second.size;
     let c = third.size;
     show_session_of(
+        rt,
         call,
         i + 3,
         &grammar[..a],
@@ -528,7 +535,7 @@ fn run_lettered(call: usize, i: usize, n: usize, k: usize, m: usize)
 }
 
 // Prints so many equal bytes as a line: the byte, and how many where it is not one alone; of zeros nothing.
-fn print_run(out: &mut [u8; OUTPUT], byte: u8, count: usize) {
+fn print_run(out: &mut Printer, byte: u8, count: usize) {
     if byte == 0 {
         return;
     }
@@ -540,7 +547,7 @@ fn print_run(out: &mut [u8; OUTPUT], byte: u8, count: usize) {
 }
 
 // Prints the runs of equal bytes: loads are long, and what a program may write under the gate is 1 MiB.
-fn print_runs(out: &mut [u8; OUTPUT], bytes: &[u8]) {
+fn print_runs(out: &mut Printer, bytes: &[u8]) {
     let mut byte = 0u8;
     let mut count = 0;
     let mut i = 0;
@@ -559,7 +566,7 @@ fn print_runs(out: &mut [u8; OUTPUT], bytes: &[u8]) {
 }
 
 fn show_load(
-    out: &mut [u8; OUTPUT],
+    out: &mut Printer,
     grammar: &[u8],
     seed: u32,
     depth: usize,
@@ -576,7 +583,7 @@ fn show_load(
 
 // Lends the first n and k bytes of both slices.
 fn show_load_in(
-    out: &mut [u8; OUTPUT],
+    out: &mut Printer,
     grammar: &[u8],
     seed: u32,
     depth: usize,
@@ -597,20 +604,20 @@ fn show_load_in(
     );
 }
 
-fn run_load(i: usize, n: usize, k: usize)
+fn run_load(rt: HostRuntime, i: usize, n: usize, k: usize)
     requires { (i + 2 < 18446744073709551616) × (n ≤ 65536) }
 {
     let mut grammar = [0u8; program::FILE];
     let mut tokens = [7u8; 65536];
     let mut listing = lend(7);
-    let input = read(i, &mut grammar);
+    let input = read(rt, i, &mut grammar);
     let size = input.size;
-    let mut out = named(i);
+    let mut out = named(rt, i);
     show_load_in(
         &mut out,
         &grammar[..size],
-        (argument_number(i + 1) % 4294967296) as u32,
-        argument_number(i + 2) as usize,
+        (argument_number(rt, i + 1) % 4294967296) as u32,
+        argument_number(rt, i + 2) as usize,
         &mut tokens,
         n,
         &mut listing,
@@ -619,7 +626,7 @@ fn run_load(i: usize, n: usize, k: usize)
     program::flush(&mut out);
 }
 
-fn show_bound(out: &mut [u8; OUTPUT], grammar: &[u8], scans: usize) {
+fn show_bound(out: &mut Printer, grammar: &[u8], scans: usize) {
     let answer = listing_bound::bound_listing(grammar, scans);
     let reply = listing_bound::as_reply(answer);
     program::print_or_none(
@@ -631,66 +638,80 @@ fn show_bound(out: &mut [u8; OUTPUT], grammar: &[u8], scans: usize) {
     );
 }
 
-fn run_bound(i: usize)
+fn run_bound(rt: HostRuntime, i: usize)
     requires { i + 1 < 18446744073709551616 }
 {
     let mut grammar = [0u8; program::FILE];
-    let input = read(i, &mut grammar);
+    let input = read(rt, i, &mut grammar);
     let n = input.size;
-    let mut out = named(i);
-    show_bound(&mut out, &grammar[..n], argument_number(i + 1) as usize);
+    let mut out = named(rt, i);
+    show_bound(&mut out, &grammar[..n], argument_number(rt, i + 1) as usize);
     program::flush(&mut out);
 }
 
 // Runs the case that begins at argument i, and answers where the next begins.
-fn run_case(i: usize) -> usize
+fn run_case(rt: HostRuntime, i: usize) -> usize
     requires { i + 8 < 18446744073709551616 }
     ensures { (i < result) × (result ≤ i + 8) }
 {
-    let call = figure(i);
+    let call = figure(rt, i);
     match call {
         1 => {
-            run_grammar(i + 1);
+            run_grammar(rt, i + 1);
             i + 2
         }
         2 => {
-            run_check(i + 1);
+            run_check(rt, i + 1);
             i + 3
         }
         3 | 4 => {
-            run_one(call, i + 1, b"", 0, figure(i + 2));
+            run_one(rt, call, i + 1, b"", 0, figure(rt, i + 2));
             i + 3
         }
         5 | 6 | 10 => {
-            run_session(call, i + 1, figure(i + 4), figure(i + 5), 0);
+            run_session(rt, call, i + 1, figure(rt, i + 4), figure(rt, i + 5), 0);
             i + 6
         }
         9 => {
-            run_load(i + 1, figure(i + 4), figure(i + 5));
+            run_load(rt, i + 1, figure(rt, i + 4), figure(rt, i + 5));
             i + 6
         }
         11 => {
-            run_bound(i + 1);
+            run_bound(rt, i + 1);
             i + 3
         }
         12 => {
-            run_one(call, i + 1, b"", figure(i + 2), figure(i + 3));
+            run_one(rt, call, i + 1, b"", figure(rt, i + 2), figure(rt, i + 3));
             i + 4
         }
         13 => {
-            run_lettered_scans(i + 1, figure(i + 3), figure(i + 4));
+            run_lettered_scans(rt, i + 1, figure(rt, i + 3), figure(rt, i + 4));
             i + 5
         }
         14 => {
-            run_lettered(call, i + 1, figure(i + 5), figure(i + 6), 0);
+            run_lettered(rt, call, i + 1, figure(rt, i + 5), figure(rt, i + 6), 0);
             i + 7
         }
         15 => {
-            run_lettered(call, i + 1, figure(i + 5), figure(i + 6), figure(i + 7));
+            run_lettered(
+                rt,
+                call,
+                i + 1,
+                figure(rt, i + 5),
+                figure(rt, i + 6),
+                figure(rt, i + 7),
+            );
             i + 8
         }
         _ => {
-            run_session(call, i + 1, figure(i + 4), figure(i + 5), figure(i + 6));
+            run_session(
+                rt,
+                call,
+                i + 1,
+                figure(rt, i + 4),
+                figure(rt, i + 5),
+                figure(rt, i + 6),
+            );
             i + 7
         }
     }
@@ -699,13 +720,13 @@ fn run_case(i: usize) -> usize
 // More words than are ever handed over, so that their numbers stay small.
 const MOST: usize = 1048576;
 
-fn main() {
-    let count = os::arg_count();
+fn main(rt: HostRuntime) {
+    let count = program::argument_count(rt);
     let mut i = 1;
     while i < count {
         if MOST < i {
             return;
         }
-        i = run_case(i);
+        i = run_case(rt, i);
     }
 }

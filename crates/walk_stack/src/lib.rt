@@ -1,5 +1,7 @@
 // The stack of states in a slice of bytes: what an announce pops and pushes.
 // Inner: for the steps of the walk.
+#![tactic(auto)]
+
 ghost use Rattle.std.specs.Prelude.{◌≡◌, ◌+◌, ◌-◌, ◌<◌, ◌≤◌, length};
 ghost use Rattle.walk_stack.specs.Stack.{tops, groups_over, rule_over, PushesFrom, IsTop};
 
@@ -7,7 +9,7 @@ use walk_tables::{figure, goto_at};
 
 // The top of a stack: its height and the state there. The state is kept beside the slice, so that the next step need not wait until
 // it is read back.
-#[derive(Drop)]
+#[derive(Clone, Copy)]
 pub struct Top {
     pub height: usize,
     pub state: u8,

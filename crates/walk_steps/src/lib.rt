@@ -1,5 +1,7 @@
 // The steps of the walk: a shift, an announce and a pop, each from a position in memory to what comes of it.
 // Inner: for the walker.
+#![tactic(auto)]
+
 ghost use Rattle.std.specs.Prelude.{◌≡◌, ◌<◌, ◌≤◌, length, get_or};
 ghost use Rattle.language.specs.First.{next};
 ghost use Rattle.walk_stack.specs.Stack.{tops};
@@ -11,7 +13,7 @@ use walk_tables::{figure, wide};
 
 // Where a walk stands: the states on its stack, the tokens taken, the rules announced and the units among them; the state
 // on top and the next code are kept beside.
-#[derive(Drop)]
+#[derive(Clone, Copy)]
 pub struct Position {
     pub height: usize,
     pub taken: usize,
@@ -22,7 +24,7 @@ pub struct Position {
 }
 
 // What a step comes to: the next position, or an end of the walk at this one. A step is short that outgrows a slice.
-#[derive(Drop)]
+#[derive(Clone, Copy)]
 pub enum Turn {
     On(Position),
     Whole,

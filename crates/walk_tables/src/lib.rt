@@ -1,5 +1,7 @@
 // The tables as the walk reads them: cells, gotos and the rows of rules, in flat slices of bytes.
 // Inner: for the walker and its parts.
+#![tactic(auto)]
+
 ghost use Rattle.std.specs.Prelude.{◌≡◌, ◌<◌, length};
 ghost use Rattle.walk_tables.specs.Memory.{cell_at, figure_of, goto_of};
 
@@ -7,7 +9,7 @@ use symbol::CODES;
 
 // What a state does on a code: push the next state and take a token, announce a rule, pop an entry (the value is its
 // length, and one state more is popped), or nothing.
-#[derive(Drop)]
+#[derive(Clone, Copy)]
 pub enum Cell {
     Shift(u8),
     Announce(u8),
@@ -16,7 +18,7 @@ pub enum Cell {
 }
 
 // A step that the walk is to make: the cell, and the code that it was looked up for.
-#[derive(Drop)]
+#[derive(Clone, Copy)]
 pub struct Step {
     pub cell: Cell,
     pub code: u8,

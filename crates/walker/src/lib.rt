@@ -1,5 +1,7 @@
 // The inner loop of the session walker, over tables in memory.
 // Inner: for `session` and `expected`. `Walked`, `as_reply`, `rule_count` and `unit_count` are for whoever calls a door.
+#![tactic(auto)]
+
 ghost use Rattle.std.specs.Prelude.{◌≡◌, length, replicate};
 ghost use Rattle.reply.specs.Reply.{padded};
 ghost use Rattle.walk_tables.specs.Memory.{Shaped, memory_grammar};
@@ -12,7 +14,7 @@ use walk_steps::{Position, Turn};
 use walk_tables::Cell;
 
 // What a walk to the end counts.
-#[derive(Drop)]
+#[derive(Clone, Copy)]
 pub struct Tally {
     pub tokens: usize,
     pub rules: usize,
@@ -20,7 +22,7 @@ pub struct Tally {
 }
 
 // How a walk ends.
-#[derive(Drop)]
+#[derive(Clone, Copy)]
 pub enum Walked {
     Accepted(Tally),
     Refused(Refusal),
