@@ -6,7 +6,7 @@ use mathlib.Core.Logic.{inl, inr}
 use mathlib.Core.List.{List, [], ◌∷◌}
 use Rattle.language.specs.Grammar.{Grammar}
 use Rattle.language.specs.Nullable.{Nullable, AllIn, Starts}
-use Rattle.leftcorner.specs.Claim.{◌↔◌}
+use Rattle.std.specs.Prelude.{◌↔◌}
 use Rattle.fixpoint.specs.Rows.{to_row, from_row}
 use Rattle.analysis.specs.ByRules.{BeginsByRules, FirstByRules}
 use Rattle.analysis.proofs.RuleSets.{begins_terminal}
@@ -39,4 +39,4 @@ module _ (g : Grammar) (few : g.terminals ≤ 63) {codes : ℕ} (count : codes �
   from_rules β {d} {c} (inr h) = subst (λ (x : ℕ). FirstBy codes nul fst β d x) (sym h.1) (by_end β h.0)
 
   pub first_flags : (β : List ℕ) (d c : ℕ) → FirstBy codes nul fst β d c ↔ FirstByRules g β d c
-  first_flags β d c = record { to = to_rules; from = from_rules β }
+  first_flags β d c = (to_rules, from_rules β)

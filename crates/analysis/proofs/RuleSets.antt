@@ -45,6 +45,7 @@ all_in [] f = tt
 all_in (X ∷ β) f = (f X here, all_in β (λ a m. f a (there m)))
 
 pub in_all : (N : ℕ → Type 0) (β : List ℕ) → AllIn N β → (a : ℕ) → In a β → N a
+in_all N [] h a m = elim m [ ]
 in_all N (X ∷ β) h a here = h.0
 in_all N (X ∷ β) h a (there m) = in_all N β h.1 a m
 

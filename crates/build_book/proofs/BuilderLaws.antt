@@ -12,7 +12,7 @@ use Rattle.language.proofs.FirstLaws.{right_productive, terminal_productive}
 use Rattle.language.proofs.Strings.{AllDeclared, string_derives}
 use Rattle.language.specs.WellFormed as grammar
 use Rattle.leftcorner.specs.Construction.{WellFormed, CellsAgree, MeetsWith, Meets}
-use Rattle.leftcorner.specs.Claim.{◌↔◌}
+use Rattle.std.specs.Prelude.{◌↔◌}
 use Rattle.leftcorner.proofs.Swap.{swap}
 use Rattle.analysis.specs.ByRules.{FirstByRules}
 use Rattle.analysis.proofs.RuleSets.{first_rules, rules_first}
@@ -87,10 +87,7 @@ module _ (g : Grammar) where
     symbol_productive {X = X} (inr h) = P X h
 
     pub same_first : (β : List ℕ) → AllDeclared g β → (d c : ℕ) → FirstByRules g β d c ↔ First g β d c
-    same_first β a d c = record {
-      to = λ h. rules_first g (right_productive g W P) (λ X m. symbol_productive (a X m)) h;
-      from = λ h. first_rules g h;
-    }
+    same_first β a d c = (λ h. rules_first g (right_productive g W P) (λ X m. symbol_productive (a X m)) h, λ h. first_rules g h)
 
     -- where the limits are kept, the book has the form of a table book
     pub builder_form : Limits g → WellFormed g (built g (FirstByRules g) (first? g) (terminal_codes g) (first_in g))
@@ -103,7 +100,7 @@ module _ (g : Grammar) where
 
       -- the book meets the construction
       pub writes_meets : Meets g (builder_table g)
-      writes_meets = (swap g (builder_table g) (declared g W) (FirstByRules g) (First g) same_first).to writes_by_rules
+      writes_meets = (swap g (builder_table g) (declared g W) (FirstByRules g) (First g) same_first).0 writes_by_rules
 
       -- its lines are as a table reader asks
       pub writes_readable : Readable g (builder_table g)

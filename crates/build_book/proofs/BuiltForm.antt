@@ -13,7 +13,7 @@ use Rattle.language.specs.Grammar.{Grammar, Rule, rule_at, concat, IsTerminal, I
 use Rattle.language.specs.Sentence.{In, Reachable}
 use Rattle.language.proofs.Strings.{AllDeclared}
 use Rattle.language.proofs.GrammarLaws.{at_below}
-use Rattle.leftcorner.specs.Table.{Action, S, N, L, Table}
+use Rattle.leftcorner.specs.Table.{Action, S, N, Table}
 use Rattle.leftcorner.specs.Construction.{entry_item, EntryAt, KernelAt, ActionAt, MovedBy, moved, WellFormed, Asked, to_move, to_announce, to_pop}
 use Rattle.leftcorner.proofs.Closure.{has_of}
 use Rattle.leftcorner.proofs.ReadOff.{clash}

@@ -13,7 +13,7 @@ use lib.ListN.{length, get_or}
 use Rattle.language.specs.Grammar.{Grammar}
 use Rattle.language.proofs.GrammarLaws.{rule_range}
 use Rattle.language.proofs.Strings.{AllDeclared}
-use Rattle.leftcorner.specs.Claim.{◌↔◌}
+use Rattle.std.specs.Prelude.{◌↔◌}
 use Rattle.leftcorner.specs.Table.{Action, S, N, A, P}
 use Rattle.leftcorner.specs.Construction.{Asked, to_announce, EntriesMeet, CellsAgree}
 use Rattle.leftcorner.proofs.ReadOff.{clash}
@@ -67,10 +67,10 @@ module _ {g : Grammar} {m entries kernels lookaheads nul fst : List ℕ} {rules 
   }
 
   asked_rules : {q X : ℕ} {x : Action} → Asked g (items_of g) By q X x → AskedOf g q X x
-  asked_rules a = asked_over g (items_of g) (declared g H.limits.formed) meets By (FirstByRules g) (λ β s d c. (up β s d c).to) a
+  asked_rules a = asked_over g (items_of g) (declared g H.limits.formed) meets By (FirstByRules g) (λ β s d c. (up β s d c).0) a
 
   asked_flags : {q X : ℕ} {x : Action} → AskedOf g q X x → Asked g (items_of g) By q X x
-  asked_flags a = asked_over g (items_of g) (declared g H.limits.formed) meets (FirstByRules g) By (λ β s d c. (down β s d c).to) a
+  asked_flags a = asked_over g (items_of g) (declared g H.limits.formed) meets (FirstByRules g) By (λ β s d c. (down β s d c).0) a
 
   pub place : {q X : ℕ} {x : Action} → AskedOf g q X x → (1 ≤ q) × (q ≤ length (states g)) × (X < 128)
   place a = asked_place g (FirstByRules g) (first? g) (terminal_codes g) (first_in g) H.limits (codes_low g) a

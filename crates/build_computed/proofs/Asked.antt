@@ -14,7 +14,7 @@ use Rattle.language.specs.Sentence.{In, here, there}
 use Rattle.language.proofs.Member.{in_cons, in_left, in_right, in_map, in_either}
 use Rattle.language.proofs.GrammarLaws.{rule_range}
 use Rattle.leftcorner.proofs.ReadOff.{clash}
-use Rattle.leftcorner.specs.Claim.{◌↔◌}
+use Rattle.std.specs.Prelude.{◌↔◌}
 use Rattle.leftcorner.specs.Table.{EntryLine, E, Action, S, N, A, P, Table, entry_at, groups_of, recognition_point}
 use Rattle.leftcorner.specs.Construction.{entry_item, EntryAt, Carries, Asked, to_move, to_announce, to_pop}
 use Rattle.analysis.specs.ByRules.{FirstByRules}
@@ -152,7 +152,7 @@ module _ (g : Grammar) (L : Limits g) (ks : List Kernel) (same : states g ≡ ks
       let s : concat r.groups ≡ concat (groups_of (rule_at g i)) = ap (λ (o : Option Rule). concat (groups_of o)) (sym e) in
       let n : In (X * 1024 + (512 + i)) (announce_if g (bare g) nl fl ks true i d) =
       image_in (λ (z : ℕ). z * 1024 + (512 + i)) X (first_of nl fl (concat (groups_of (rule_at g i))) d)
-      (subst (λ (β : List ℕ). In X (first_of nl fl β d)) s ((F_is (concat r.groups) d X).from F)) in
+      (subst (λ (β : List ℕ). In X (first_of nl fl β d)) s ((F_is (concat r.groups) d X).1 F)) in
       let o : In (X * 1024 + (512 + i)) (announce_if g (bare g) nl fl ks (is_marked g (bare g) nl fl ks x) (item_of x) d) =
       subst (λ (z : Bool). In (X * 1024 + (512 + i)) (announce_if g (bare g) nl fl ks z (item_of x) d)) (sym m)
       (subst (λ (z : ℕ). In (X * 1024 + (512 + i)) (announce_if g (bare g) nl fl ks true z d)) (sym a) n) in
@@ -228,7 +228,7 @@ module _ (g : Grammar) (L : Limits g) (ks : List Kernel) (same : states g ≡ ks
       announcing x d k true e n =
           let r = mark_rule g (bare g) nl fl ks (item_of x) (dot_of x) e in
           let c = in_map (λ (z : ℕ). z * 1024 + (512 + item_of x)) (first_of nl fl (concat (groups_of (rule_at g (item_of x)))) d) n in
-          let F = (F_is (concat (groups_of (rule_at g (item_of x)))) d c.0).to c.1 in
+          let F = (F_is (concat (groups_of (rule_at g (item_of x)))) d c.0).0 c.1 in
           let s = ap (λ (o : Option Rule). concat (groups_of o)) r.1 in
           at_symbol c.0 (omega (arith, c.2, low, (rule_range g (item_of x) r.1).1, L.formed.few_rules)) (A (item_of x))
           (to_announce (item_of x) r.1 (held (subst (λ (z : ℕ). Lookahead g (FirstByRules g) q (item_of x) z d) (sym r.2) k))

@@ -15,7 +15,7 @@ use Rattle.language.specs.Sentence.{In, here, there}
 use Rattle.language.proofs.GrammarLaws.{rule_range}
 use Rattle.language.specs.WellFormed as grammar
 use Rattle.leftcorner.proofs.ReadOff.{clash}
-use Rattle.leftcorner.specs.Claim.{◌↔◌}
+use Rattle.std.specs.Prelude.{◌↔◌}
 use Rattle.leftcorner.specs.Table.{Action, S, N, A, P, Table, next_state}
 use Rattle.leftcorner.specs.Construction.{Asked, to_move, to_announce, to_pop, CellsAgree, forget}
 use Rattle.analysis.specs.ByRules.{FirstByRules}

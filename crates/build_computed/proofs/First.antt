@@ -15,7 +15,7 @@ use Rattle.language.proofs.Member.{in_cons, in_left, in_right, in_map, in_either
 use Rattle.language.specs.Nullable.{Nullable, AllIn, Starts}
 use Rattle.language.specs.WellFormed as grammar
 use Rattle.leftcorner.proofs.ReadOff.{clash}
-use Rattle.leftcorner.specs.Claim.{◌↔◌}
+use Rattle.std.specs.Prelude.{◌↔◌}
 use Rattle.fixpoint.specs.Least.{seed, least_every}
 use Rattle.grammar_reduction.specs.Derives.{left_of, derive, derive_every}
 use Rattle.grammar_reduction.specs.Reaches.{rule_of, symbol_of}
@@ -301,4 +301,4 @@ module _ (g : Grammar) (W : grammar.WellFormed g) where
       first_from β d c (inr h) = subst (λ (z : ℕ). In z (first_of nl fl β d)) (sym h.1) (first_null β d h.0)
 
       pub first_is : (β : List ℕ) (d c : ℕ) → In c (first_of nl fl β d) ↔ FirstByRules g β d c
-      first_is β d c = record { to = first_to β d c; from = first_from β d c }
+      first_is β d c = (first_to β d c, first_from β d c)

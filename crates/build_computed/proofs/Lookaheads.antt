@@ -15,7 +15,7 @@ use Rattle.language.proofs.Member.{in_cons, in_left, in_right, in_map, in_either
 use Rattle.language.proofs.GrammarLaws.{rule_range}
 use Rattle.language.specs.WellFormed as grammar
 use Rattle.leftcorner.proofs.ReadOff.{clash}
-use Rattle.leftcorner.specs.Claim.{◌↔◌}
+use Rattle.std.specs.Prelude.{◌↔◌}
 use Rattle.leftcorner.specs.Table.{Table, entry_from, mark_of, groups_of, recognition_point}
 use Rattle.leftcorner.specs.Construction.{entry_item}
 use Rattle.analysis.specs.ByRules.{FirstByRules}
@@ -184,7 +184,7 @@ module _ (g : Grammar) (W : grammar.WellFormed g) (few : length (entry_strings g
           → y ≡ look_code q j c → Says y
       by_rule X β e j c n f p =
           let r = rules_of g X j n in
-          let F = (F_is β d c).to f in
+          let F = (F_is β d c).0 f in
           let k = rule_range g r.number r.stands in
           says y q j c r.number zero p (omega (arith, r.is, k.1, W.few_rules)) (first_low β d c low F) (omega (arith, r.is))
           (omega (arith, r.is))
@@ -209,7 +209,7 @@ module _ (g : Grammar) (W : grammar.WellFormed g) (few : length (entry_strings g
           let r = mark_rule g (bare g) nl fl ks (item_of x) (dot_of x) e in
           let p = groups_in g (bare g) nl fl ks (groups_of (rule_at g (item_of x))) d y n in
           let s : r.0.groups ≡ p.0 ++ p.1 ∷ p.2 = sym (ap groups_of r.1) ∙ p.4 in
-          let F = (F_is (concat p.2) d p.3).to p.5 in
+          let F = (F_is (concat p.2) d p.3).0 p.5 in
           let v = entry (item_of x) p.0 p.1 p.2 r.1 s in
           says y (entry_of g p.1) ((length g.rules + entry_of g p.1) * 16) p.3 (entry_item g (bare g) (entry_of g p.1)) zero p.6
           (omega (arith, v.high, W.few_rules)) (first_low (concat p.2) d p.3 low F)
@@ -261,7 +261,7 @@ module _ (g : Grammar) (W : grammar.WellFormed g) (few : length (entry_strings g
     listed (of_closure {q = q} {i = i} {k = k} {d = d} {X = X} j {c = c} {β = β} {r = r} h go p l F) =
         let v = listed h in
         let t = rest_at_lem g W few go in
-        let n = in_pair q (j * 16) c (rules_for X 1 g.rules) (first_of nl fl β d) (of_rules g X j r p l) ((F_is β d c).from F) in
+        let n = in_pair q (j * 16) c (rules_for X 1 g.rules) (first_of nl fl β d) (of_rules g X j r p l) ((F_is β d c).1 F) in
         let m = onward q (i * 16 + k) d (look_code q (j * 16) c) v.item v.code v.stands
         (in_left (at_mark g (bare g) nl fl ks (is_marked g (bare g) nl fl ks (i * 16 + k)) (groups_of (rule_at g (item_of (i * 16 + k)))) d)
         (subst (λ (a : List ℕ). In (look_code q (j * 16) c) (on_rest g (bare g) nl fl ks a q (i * 16 + k) d)) (sym t) (there n))) in
@@ -295,7 +295,7 @@ module _ (g : Grammar) (W : grammar.WellFormed g) (few : length (entry_strings g
         let a : item_of x ≡ i = item_of_lem i (length r.before) v.dot in
         let b : dot_of x ≡ length r.before = dot_of_lem i (length r.before) v.dot in
         let y = look_code (entry_of g γ) ((length g.rules + entry_of g γ) * 16) c in
-        let n : In y (on_groups g (bare g) nl fl ks (δs ++ γ ∷ εs) d) = in_groups g (bare g) nl fl ks δs γ εs d c ((F_is (concat εs) d c).from F) in
+        let n : In y (on_groups g (bare g) nl fl ks (δs ++ γ ∷ εs) d) = in_groups g (bare g) nl fl ks δs γ εs d c ((F_is (concat εs) d c).1 F) in
         let o : In y (on_groups g (bare g) nl fl ks (groups_of (rule_at g (item_of x))) d) = subst
         (λ (l : List (List ℕ)). In y (on_groups g (bare g) nl fl ks l d)) (sym (ap (λ (z : ℕ). groups_of (rule_at g z)) a ∙ ap groups_of p ∙ s)) n in
         let t : is_marked g (bare g) nl fl ks x ≡ true = ap (λ (z : ℕ). same_mark (recognition_point g (bare g) z) (dot_of x)) a

@@ -92,14 +92,14 @@ module _ (g : Grammar) {items entries uses kernels kinds values gotos : List ℕ
   has_state : {q i k : ℕ} → Has g t q i k → (1 ≤ q) × (q ≤ length (states g))
   has_state {q = q} (Has.in_kernel h) =
       let f = flagged g S fs h in
-      let l = S.Line-of f.line f.within in
+      let l = S.line_of f.line f.within in
       subst (λ (x : ℕ). (1 ≤ x) × (x ≤ length (states g))) f.state (l.low, l.high)
   has_state (Has.in_closure j h go e l) = has_state h
 
   to_alone : (q i k : ℕ) (σ : List ℕ) → KernelAt g t q i k σ → (τ : List ℕ) × KernelAt g (alone g (kernel_of g q)) 1 i k τ
   to_alone q i k σ h =
       let f = flagged g S fs h in
-      let l = S.Line-of f.line f.within in
+      let l = S.line_of f.line f.within in
       let w = line_alone g (subst (λ (x : ℕ). In l.number (kernel_of g x)) f.state l.stands) in (
         [],
         subst (λ (x : ℕ). KernelAt g (alone g (kernel_of g q)) 1 x k []) (sym l.item ∙ f.item)
@@ -246,7 +246,7 @@ module _ (g : Grammar) {items entries uses kernels kinds values gotos : List ℕ
 
     -- no kernel item is a rule with its dot at 0
     no_rule : {q j l : ℕ} {r : Rule} → rule_at g j ≡ some r → LineIs kernels lines q j zero l → ⊥
-    no_rule {q} {j} {l} e w = go (S.Line-of l w.within)
+    no_rule {q} {j} {l} e w = go (S.line_of l w.within)
       where
         go : LineOf g kernels l → ⊥
         go o = pick (entry_or g (state_at kernels l) o.high)

@@ -179,7 +179,7 @@ module _ (g : Grammar) {items entries uses kernels kinds values gotos : List ℕ
     module _ {Look : ℕ → ℕ → ℕ → ℕ → Type 0} (few : codes ≤ 64) (sound : (y : ℕ) → On fs y → FlagAsked Look kernels lines codes y) where
       declared_item : {q i k : ℕ} {σ : List ℕ} → Flagged q i k σ → DeclaredItem g (flag_table fs) i
       declared_item h =
-          let l = S.Line-of h.line h.within in
+          let l = S.line_of h.line h.within in
           subst (DeclaredItem g (flag_table fs)) (sym l.item ∙ h.item) (kernel_known g S.limits (flag_table fs) refl (state_at kernels h.line) l.number l.low l.high l.stands)
 
       pub flags_held : InMemory items kernels fs rules lines codes g (flag_table fs)

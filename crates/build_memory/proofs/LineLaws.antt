@@ -7,7 +7,7 @@ use mathlib.Core.Option.{some}
 use Rattle.language.specs.Grammar.{Grammar, at}
 use Rattle.language.specs.Sentence.{In}
 use Rattle.language.proofs.GrammarLaws.{at_range}
-use Rattle.leftcorner.specs.Claim.{◌↔◌}
+use Rattle.std.specs.Prelude.{◌↔◌}
 use Rattle.leftcorner.specs.Table.{K}
 use Rattle.analysis.specs.ByRules.{FirstByRules}
 use Rattle.analysis.proofs.Decided.{first?}
@@ -69,10 +69,10 @@ module _ {g : Grammar} {items kernels kinds values gotos : List ℕ} {terminals 
     line_dot = λ l q i k e. (line l q i k _ e).2;
     code_on = λ l q i k d e m.
         let w = line l q i k _ e in
-        H.every l d (low l q i k _ e) (at_same w.0 w.1 w.2 (look_over g (FirstByRules g) (FirstBy codes nul fst) (λ β x y. (same β x y).from) (code l q i k _ e d m)));
+        H.every l d (low l q i k _ e) (at_same w.0 w.1 w.2 (look_over g (FirstByRules g) (FirstBy codes nul fst) (λ β x y. (same β x y).1) (code l q i k _ e d m)));
     on_code = λ l q i k d e n on.
         let w = line l q i k _ e in
-        listed l q i k _ e d (at_same (sym w.0) (sym w.1) (sym w.2) (look_over g (FirstBy codes nul fst) (FirstByRules g) (λ β x y. (same β x y).to) (H.only l d (low l q i k _ e) n on)));
+        listed l q i k _ e d (at_same (sym w.0) (sym w.1) (sym w.2) (look_over g (FirstBy codes nul fst) (FirstByRules g) (λ β x y. (same β x y).0) (H.only l d (low l q i k _ e) n on)));
   }
 
   pub lines_held : {entries : List ℕ} → codes ≡ terminals + 1 → Numbered entries strings → HoldsLines g items entries kernels lookaheads nul fst rules strings lines all codes

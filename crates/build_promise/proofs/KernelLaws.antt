@@ -20,7 +20,7 @@ use Rattle.leftcorner.specs.Table as table
 use Rattle.leftcorner.specs.Table.{EntryLine, entry_at, entry_from, string_of, right_of, mark_of, symbols_of, recognition_point}
 use Rattle.leftcorner.specs.Construction as construction
 use Rattle.leftcorner.specs.Construction.{entry_item, EntryAt, MovedBy}
-use Rattle.leftcorner.specs.Claim.{◌↔◌}
+use Rattle.std.specs.Prelude.{◌↔◌}
 use Rattle.check_verdict.proofs.Closure.{image_in}
 use Rattle.build_states.specs.Strings.{entry_strings}
 use Rattle.build_states.proofs.EntryLaws.{entry_line, entry_number}
@@ -136,7 +136,7 @@ module _ (g : Grammar) where
   -- from sets of the same items the same moves
   module _ {H K : List Dotted} (same : Same H K) where
     has_over : {ι : Item} {n : ℕ} → Has g H ι n → Has g K ι n
-    has_over {ι = ι} {n = n} (in_kernel m) = in_kernel ((same (dot ι n)).to m)
+    has_over {ι = ι} {n = n} (in_kernel m) = in_kernel ((same (dot ι n)).0 m)
     has_over (in_closure j h go e l) = in_closure j (has_over h) go e l
 
     pub moved_over : {X : ℕ} {a : Dotted} → Moved g H X a → Moved g K X a
@@ -165,7 +165,7 @@ module _ (g : Grammar) where
       subst (λ (y : ℕ). In y h) (sym (one_number k h f f' x r.0 m r.1 r.2)) r.1
 
   pub items_apart : (k h : Kernel) → Formed k → Formed h → Same (items k) (items h) → k ≡ h
-  items_apart k h f f' s = rising_same 0 0 k h f.rising f'.rising (among k h f f' (λ a. (s a).to)) (among h k f' f (λ a. (s a).from))
+  items_apart k h f f' s = rising_same 0 0 k h f.rising f'.rising (among k h f f' (λ a. (s a).0)) (among h k f' f (λ a. (s a).1))
 
   -- ---- the moves, where the grammar was read and its entries are within the limit
 
@@ -181,7 +181,7 @@ module _ (g : Grammar) where
 
     -- "exactly the moved items"
     pub move-items : (k : Kernel) (X : ℕ) (b : Dotted) → In b (items (move g k X)) ↔ Moved g (items k) X b
-    move-items k X b = record { to = to; from = from }
+    move-items k X b = (to, from)
       where
         to : In b (items (move g k X)) → Moved g (items k) X b
         to m = let r = in_map dotted (move g k X) m in subst (Moved g (items k) X) (sym r.2) (moved_to k (move_only g k X r.0 r.1))

@@ -149,7 +149,7 @@ module _ (g : Grammar) where
 
     module _ (w : Within g) where
       same_list : {K H : List Dotted} → K ≡ H → Same K H
-      same_list e a = record { to = subst (λ (l : List Dotted). In a l) e; from = subst (λ (l : List Dotted). In a l) (sym e) }
+      same_list e a = (subst (λ (l : List Dotted). In a l) e, subst (λ (l : List Dotted). In a l) (sym e))
 
       pub record Stands (K : List Dotted) : Type 0 where
         pub state : ℕ
@@ -171,16 +171,13 @@ module _ (g : Grammar) where
               let b = moved_from g k (moved_over g s.same m) in
               let t = lalr.goes_to_lem g (limits g W w) s.state X b.0 b.1 s.low s.high b.3 in
               let n = move-items g W w.few_entries k X in
-              let back : Same (items g k) H = λ c. record { to = (s.same c).from; from = (s.same c).to } in
+              let back : Same (items g k) H = λ c. ((s.same c).1, (s.same c).0) in
               let e = same_list (ap (items g) t.kernel) in
               record {
                 state = goto g s.state X;
                 low = t.low;
                 high = t.high;
-                same = λ c. record {
-                  to = λ i. (e c).from ((n c).from (moved_over g s.same ((only c).to i)));
-                  from = λ i. (only c).from (moved_over g back ((n c).to ((e c).to i)));
-                };
+                same = λ c. (λ i. (e c).1 ((n c).1 (moved_over g s.same ((only c).0 i))), λ i. (only c).1 (moved_over g back ((n c).0 ((e c).0 i))));
               }
 
       -- the states of different kernel sets
@@ -210,17 +207,14 @@ module _ (g : Grammar) where
                 chosen = k ∷ c.chosen;
                 once = (
                   λ h m e. let r = c.some_set h m in
-                      o.0 r.0 r.1 (λ a. record {
-                        to = λ i. (r.2 a).from ((same_list (ap (items g) e) a).to ((s.same a).to i));
-                        from = λ i. (s.same a).from ((same_list (ap (items g) e) a).from ((r.2 a).to i));
-                      }),
+                      o.0 r.0 r.1 (λ a. (λ i. (r.2 a).1 ((same_list (ap (items g) e) a).0 ((s.same a).0 i)), λ i. (s.same a).1 ((same_list (ap (items g) e) a).1 ((r.2 a).0 i)))),
                   c.once,
                 );
                 some_state = λ h m. state_in h (in_cons m);
                 some_set = λ h m. set_in h (in_cons m);
                 as_many = ap suc c.as_many;
                 as_heavy =
-                    let n = no_longer K (items g k) (reached_once (reached K here)) (λ a. (s.same a).to) in
+                    let n = no_longer K (items g k) (reached_once (reached K here)) (λ a. (s.same a).0) in
                     omega (arith, c.as_heavy, n, length-map k (dotted g));
               }
             where

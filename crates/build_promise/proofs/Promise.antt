@@ -5,7 +5,7 @@ use mathlib.Core.Path.{◌≡◌, sym, ap, subst, ◌∙◌}
 use mathlib.Core.List.{◌++◌}
 use lib.ListN.{length, replicate}
 use Rattle.language.specs.Grammar.{Grammar}
-use Rattle.leftcorner.specs.Claim.{◌↔◌}
+use Rattle.std.specs.Prelude.{◌↔◌}
 use Rattle.reply.specs.declared.Reply.{Reply}
 use Rattle.reply.specs.declared.Reply.TheVariants.{Accepted}
 use Rattle.analysis.specs.ByRules.{FirstByRules}
@@ -32,24 +32,24 @@ module _ (g : Grammar) (R : Reduced g) where
   -- two actions asked with first by rules are two actions asked with `First`
   two_actions : (q : ℕ) → conflicts.TwoActions g (FirstByRules g) (first? g) (terminal_codes g) (first_in g) q ↔ TwoActions g q
   unfolding builder_table
-  two_actions q = record {
-    to = λ w. record {
+  two_actions q = (
+    λ w. record {
       symbol = w.symbol;
       one = w.one;
       other = w.other;
-      asked_one = (laws.asked_same g R).to w.asked_one;
-      asked_other = (laws.asked_same g R).to w.asked_other;
+      asked_one = (laws.asked_same g R).0 w.asked_one;
+      asked_other = (laws.asked_same g R).0 w.asked_other;
       differ = w.differ;
-    };
-    from = λ w. record {
+    },
+    λ w. record {
       symbol = w.symbol;
       one = w.one;
       other = w.other;
-      asked_one = (laws.asked_same g R).from w.asked_one;
-      asked_other = (laws.asked_same g R).from w.asked_other;
+      asked_one = (laws.asked_same g R).1 w.asked_one;
+      asked_other = (laws.asked_same g R).1 w.asked_other;
       differ = w.differ;
-    };
-  }
+    },
+  )
 
   as_many : (builder_table g).states ≡ length (states g)
   unfolding builder_table
@@ -94,4 +94,4 @@ builder_promise gs g e = record {
     told : (room : ℕ) {r : Reply} {A : Type 0} → (builder_reply g room ≡ r) ↔ A → ((build_of gs room).reply ≡ r) ↔ A
     told room h =
         let z = ap (λ (b : Book). (build_from room b).reply) e in
-        record { to = λ x. h.to (sym z ∙ x); from = λ a. z ∙ h.from a }
+        (λ x. h.0 (sym z ∙ x), λ a. z ∙ h.1 a)

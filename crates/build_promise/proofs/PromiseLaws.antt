@@ -15,7 +15,7 @@ use Rattle.language.proofs.Strings.{AllDeclared, later_declared}
 use Rattle.language.proofs.Rising.{rising_same}
 use Rattle.leftcorner.specs.Table.{EntryLine, E, Action, Table, string_of, next_state}
 use Rattle.leftcorner.specs.Construction.{EntryAt, KernelAt, ActionAt, in_kernel, Asked, EntriesMeet, LookaheadsMeet}
-use Rattle.leftcorner.specs.Claim.{◌↔◌}
+use Rattle.std.specs.Prelude.{◌↔◌}
 use Rattle.leftcorner.proofs.ItemStrings.{rest_declared}
 use Rattle.leftcorner.proofs.Swap.{flip, asked_over, lookaheads_over}
 use Rattle.check_verdict.proofs.Closure.{image_in}
@@ -79,10 +79,7 @@ module _ (g : Grammar) (R : Reduced g) where
   meets = entries_meet g u (built_entries g F (first? g) (terminal_codes g) (first_in g))
 
   pub asked_same : {q X : ℕ} {x : Action} → Asked g t F q X x ↔ Asked g u (First g) q X x
-  asked_same = record {
-    to = λ h. asked_over g u named meets F (First g) (λ β a d c. (same β a d c).to) (asked_built g F (first? g) (terminal_codes g) (first_in g) h);
-    from = λ h. built_asked g F (first? g) (terminal_codes g) (first_in g) (asked_over g u named meets (First g) F (λ β a d c. (same β a d c).from) h);
-  }
+  asked_same = (λ h. asked_over g u named meets F (First g) (λ β a d c. (same β a d c).0) (asked_built g F (first? g) (terminal_codes g) (first_in g) h), λ h. built_asked g F (first? g) (terminal_codes g) (first_in g) (asked_over g u named meets (First g) F (λ β a d c. (same β a d c).1) h))
 
   -- ---- the contexts
 
@@ -99,16 +96,16 @@ module _ (g : Grammar) (R : Reduced g) where
         (λ q. lookaheads_over g v named (entries_meet g v z) (First g) F (λ β a d c. flip (same β a d c)) q (M q))
 
     pub contexts : (q i k d : ℕ) (σ : List ℕ) → KernelAt g u q i k σ → In d σ ↔ Lookahead g (First g) q i k d
-    contexts q i k d σ h = record {
-      to = λ m. look_declared g named F (First g) (λ β a x c. (same β a x c).to)
-          (looked g F (first? g) (terminal_codes g) (first_in g) (in_kernel (from_built g F (first? g) (terminal_codes g) (first_in g) q i k σ h) m));
-      from = λ c.
+    contexts q i k d σ h = (
+      λ m. look_declared g named F (First g) (λ β a x c. (same β a x c).0)
+          (looked g F (first? g) (terminal_codes g) (first_in g) (in_kernel (from_built g F (first? g) (terminal_codes g) (first_in g) q i k σ h) m)),
+      λ c.
           let w = built_line g F (first? g) (terminal_codes g) (first_in g) q i k σ h in
           let x = on_line g F (first? g) (terminal_codes g) (first_in g) L (codes_low g) q w.number i k d w.low w.high w.stands (sym w.item) (sym w.dot)
-          (look_declared g named (First g) F (λ β a y b. (same β a y b).from) c) in
+          (look_declared g named (First g) F (λ β a y b. (same β a y b).1) c) in
           least u refl (λ _ _ _ τ n. (τ, n)) (λ _ _ _ y a n. (y, a, n)) inclusions q i k d x.0 σ
-          (to_built g F (first? g) (terminal_codes g) (first_in g) q i k x.0 x.1) h x.2;
-    }
+          (to_built g F (first? g) (terminal_codes g) (first_in g) q i k x.0 x.1) h x.2,
+    )
 
   -- ---- the states
 
@@ -118,7 +115,7 @@ module _ (g : Grammar) (R : Reduced g) where
       (entry_over g u (bare g) (built_entries g F (first? g) (terminal_codes g) (first_in g)) (i - length g.rules))
 
   kernel_is : (q : ℕ) → 1 ≤ q → q ≤ length (states g) → KernelIs g u q (kernels.items g (kernel_of g q))
-  kernel_is q l h a = record { to = to; from = from }
+  kernel_is q l h a = (to, from)
     where
       Line : Type 0
       Line = (i : ℕ) × (k : ℕ) × (σ : List ℕ) × KernelAt g u q i k σ × (a ≡ dot (item_at g u i) k)
@@ -159,7 +156,7 @@ module _ (g : Grammar) (R : Reduced g) where
     every_reached K r =
         let s = stands g R.formed w r in
         let k = kernel_is s.state s.low s.high in
-        (s.state, s.low, s.high, λ a. record { to = λ m. (k a).to ((s.same a).to m); from = λ m. (s.same a).from ((k a).from m) })
+        (s.state, s.low, s.high, λ a. (λ m. (k a).0 ((s.same a).0 m), λ m. (s.same a).1 ((k a).1 m)))
 
   among : (p q : ℕ) → 1 ≤ p → p ≤ length (states g) → ((i k : ℕ) → InKernel p i k → InKernel q i k) → (x : ℕ) → In x (kernel_of g p) → In x (kernel_of g q)
   among p q l h f x m =
@@ -173,7 +170,7 @@ module _ (g : Grammar) (R : Reduced g) where
   pub one_state : (p q : ℕ) → 1 ≤ p → p ≤ length (states g) → 1 ≤ q → q ≤ length (states g) → ((i k : ℕ) → InKernel p i k ↔ InKernel q i k) → p ≡ q
   one_state p q l h m n f = place p q l h m n
       (rising_same 0 0 (kernel_of g p) (kernel_of g q) (kernels_rising g p l h) (kernels_rising g q m n)
-      (among p q l h (λ i k. (f i k).to)) (among q p m n (λ i k. (f i k).from)))
+      (among p q l h (λ i k. (f i k).0)) (among q p m n (λ i k. (f i k).1)))
     where
       place : (p q : ℕ) → 1 ≤ p → p ≤ length (states g) → 1 ≤ q → q ≤ length (states g) → kernel_of g p ≡ kernel_of g q → p ≡ q
       place zero q l h m n e = absurd (omega (arith, l))

@@ -13,7 +13,7 @@ use lib.ListN.{length}
 use Rattle.language.specs.Grammar.{Grammar}
 use Rattle.language.specs.WellFormed as grammar
 use Rattle.leftcorner.specs.Construction.{CellsAgree}
-use Rattle.leftcorner.specs.Claim.{◌↔◌}
+use Rattle.std.specs.Prelude.{◌↔◌}
 use Rattle.reply.specs.Reply.{number_of, place_of}
 use Rattle.reply.specs.declared.Kind.TheVariants.{LimitExceeded, Conflict, BufferTooSmall}
 use Rattle.reply.specs.declared.Reply.{Reply}
@@ -62,13 +62,13 @@ module _ (g : Grammar) (W : grammar.WellFormed g) (Clash : ℕ → Type 0)
   Lowest q = Clash q × ((p : ℕ) → p < q → Clash p → ⊥)
 
   clash? : Within g → (q : ℕ) → Dec (Clash q)
-  clash? w q = map_dec (same q).to (same q).from (two_actions? g (FirstByRules g) (first? g) (terminal_codes g) (first_in g) (limits g W w) (codes_low g) q)
+  clash? w q = map_dec (same q).0 (same q).1 (two_actions? g (FirstByRules g) (first? g) (terminal_codes g) (first_in g) (limits g W w) (codes_low g) q)
 
   clash_state : Within g → (q : ℕ) → Clash q → q ≤ length (states g)
-  clash_state w q c = (asked_place g (FirstByRules g) (first? g) (terminal_codes g) (first_in g) (limits g W w) (codes_low g) ((same q).from c).asked_one).1
+  clash_state w q c = (asked_place g (FirstByRules g) (first? g) (terminal_codes g) (first_in g) (limits g W w) (codes_low g) ((same q).1 c).asked_one).1
 
   agree : (q : ℕ) → (Clash q → ⊥) → CellsAgree g (item_table g (FirstByRules g) (first? g) (terminal_codes g) (first_in g)) (FirstByRules g) q
-  agree q f = agree_where g (FirstByRules g) (first? g) (terminal_codes g) (first_in g) q (λ c. f ((same q).to c))
+  agree q f = agree_where g (FirstByRules g) (first? g) (terminal_codes g) (first_in g) q (λ c. f ((same q).0 c))
 
   -- ---- the lowest clash
 
@@ -90,7 +90,7 @@ module _ (g : Grammar) (W : grammar.WellFormed g) (Clash : ℕ → Type 0)
   conflict_replies : (room q : ℕ) → Within g → Lowest q → builder_reply g room ≡ refused Conflict q
   conflict_replies room q w c =
       replies_conflict g room q w (clash_state w q c.0)
-      (no_agreement g (FirstByRules g) (first? g) (terminal_codes g) (first_in g) q ((same q).from c.0)) (λ p l. agree p (c.1 p l))
+      (no_agreement g (FirstByRules g) (first? g) (terminal_codes g) (first_in g) q ((same q).1 c.0)) (λ p l. agree p (c.1 p l))
 
   text_replies : (room : ℕ) → Within g → None → builder_reply g room ≡ text_reply text room
   text_replies room w f = replies_text g room w (λ q. agree q (f q)) ∙ ap (λ (l : List ℕ). text_reply l room) (sym (table_text_lem g))
@@ -115,24 +115,24 @@ module _ (g : Grammar) (W : grammar.WellFormed g) (Clash : ℕ → Type 0)
 
   -- "then 9": at the lowest state that has a clash
   pub refuses_conflict : (room q : ℕ) → (builder_reply g room ≡ refused Conflict q) ↔ (WithinLimits g × Lowest q)
-  refuses_conflict room q = record {
-    to = replied room (λ (r : Reply). r ≡ refused Conflict q → WithinLimits g × Lowest q)
+  refuses_conflict room q = (
+    replied room (λ (r : Reply). r ≡ refused Conflict q → WithinLimits g × Lowest q)
         (λ _ e. differ e (λ n. omega (arith, n))) (λ p w c e. (w, subst Lowest (ap place_of e) c))
-        (λ _ _ _ e. differ e (λ n. omega (arith, n))) (λ _ _ _ _ e. differ e (λ n. omega (arith, n))) (λ _ _ _ _ e. differ e (λ n. omega (arith, n)));
-    from = λ h. conflict_replies room q (kept g W h.0) h.1;
-  }
+        (λ _ _ _ e. differ e (λ n. omega (arith, n))) (λ _ _ _ _ e. differ e (λ n. omega (arith, n))) (λ _ _ _ _ e. differ e (λ n. omega (arith, n))),
+    λ h. conflict_replies room q (kept g W h.0) h.1,
+  )
 
   abbrev Many : Type 0
   Many = TooMany g ⊎ (WithinLimits g × None × (65536 < length text))
 
   -- "2 for entries, states and kernel lines", and "then 2 for the book's bytes"
   pub refuses_many : (room : ℕ) → (builder_reply g room ≡ refused LimitExceeded 0) ↔ Many
-  refuses_many room = record {
-    to = replied room (λ (r : Reply). r ≡ refused LimitExceeded 0 → Many)
+  refuses_many room = (
+    replied room (λ (r : Reply). r ≡ refused LimitExceeded 0 → Many)
         (λ f _. inl f) (λ _ _ _ e. differ e (λ n. omega (arith, n))) (λ w f l _. inr (w, f, l))
-        (λ _ _ _ _ e. differ e (λ n. omega (arith, n))) (λ _ _ _ _ e. differ e (λ n. omega (arith, n)));
-    from = from;
-  }
+        (λ _ _ _ _ e. differ e (λ n. omega (arith, n))) (λ _ _ _ _ e. differ e (λ n. omega (arith, n))),
+    from,
+  )
     where
       from : Many → builder_reply g room ≡ refused LimitExceeded 0
       from (inl m) = replies_many g room (λ w. not_many g W w m)
@@ -140,18 +140,18 @@ module _ (g : Grammar) (W : grammar.WellFormed g) (Clash : ℕ → Type 0)
 
   -- "then 11"
   pub refuses_short : (room : ℕ) → (builder_reply g room ≡ refused BufferTooSmall 0) ↔ (WithinLimits g × None × (length text ≤ 65536) × (room < length text))
-  refuses_short room = record {
-    to = replied room (λ (r : Reply). r ≡ refused BufferTooSmall 0 → WithinLimits g × None × (length text ≤ 65536) × (room < length text))
+  refuses_short room = (
+    replied room (λ (r : Reply). r ≡ refused BufferTooSmall 0 → WithinLimits g × None × (length text ≤ 65536) × (room < length text))
         (λ _ e. differ e (λ n. omega (arith, n))) (λ _ _ _ e. differ e (λ n. omega (arith, n))) (λ _ _ _ e. differ e (λ n. omega (arith, n)))
-        (λ w f l s _. (w, f, l, s)) (λ _ _ _ _ e. differ e (λ n. omega (arith, n)));
-    from = λ h. text_replies room (kept g W h.0) h.1 ∙ simp (le-ltb 65536 (length text) h.2, lt-ltb room (length text) h.3);
-  }
+        (λ w f l s _. (w, f, l, s)) (λ _ _ _ _ e. differ e (λ n. omega (arith, n))),
+    λ h. text_replies room (kept g W h.0) h.1 ∙ simp (le-ltb 65536 (length text) h.2, lt-ltb room (length text) h.3),
+  )
 
   -- else the book
   pub writes : (room : ℕ) → (builder_reply g room ≡ Accepted 0) ↔ (WithinLimits g × None × (length text ≤ 65536) × (length text ≤ room))
-  writes room = record {
-    to = replied room (λ (r : Reply). r ≡ Accepted 0 → WithinLimits g × None × (length text ≤ 65536) × (length text ≤ room))
+  writes room = (
+    replied room (λ (r : Reply). r ≡ Accepted 0 → WithinLimits g × None × (length text ≤ 65536) × (length text ≤ room))
         (λ _ e. differ e (λ n. omega (arith, n))) (λ _ _ _ e. differ e (λ n. omega (arith, n))) (λ _ _ _ e. differ e (λ n. omega (arith, n)))
-        (λ _ _ _ _ e. differ e (λ n. omega (arith, n))) (λ w f l s _. (w, f, l, s));
-    from = λ h. text_replies room (kept g W h.0) h.1 ∙ simp (le-ltb 65536 (length text) h.2, le-ltb room (length text) h.3);
-  }
+        (λ _ _ _ _ e. differ e (λ n. omega (arith, n))) (λ w f l s _. (w, f, l, s)),
+    λ h. text_replies room (kept g W h.0) h.1 ∙ simp (le-ltb 65536 (length text) h.2, le-ltb room (length text) h.3),
+  )

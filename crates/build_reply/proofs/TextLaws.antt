@@ -9,7 +9,7 @@ use Rattle.reply.specs.declared.Kind.TheVariants.{LimitExceeded, BufferTooSmall}
 use Rattle.reply.specs.declared.Refusal.{Refusal}
 use Rattle.reply.specs.declared.Reply.TheVariants.{Accepted, Refused}
 use Rattle.check_verdict.specs.Verdict.{refused}
-use Rattle.build_book.specs.Book.{text_reply, text_slice}
+use Rattle.build_book.specs.Book.{text_reply}
 use Rattle.build_writer.specs.Sink.{in_room, fits_room}
 use Rattle.build_reply.specs.declared.BuildReply.{BuildReply}
 use Rattle.build_reply.specs.Reply.{refused_by, Writes}

@@ -28,9 +28,9 @@ unfolding add_groups
 groups_distinct l [] d = d
 groups_distinct l (γ ∷ γs) d = groups_distinct (add_string l γ) γs (join_distinct l γ d)
 
-groups_in : (l : List (List ℕ)) {γ : List ℕ} {γs : List (List ℕ)} → In γ γs → In γ (add_groups l γs)
+groups_in : {γ : List ℕ} (l : List (List ℕ)) {γs : List (List ℕ)} → In γ γs → In γ (add_groups l γs)
 unfolding add_groups
-groups_in l {γ = γ} (here {l = γs}) = still_in (groups_extend (add_string l γ) γs) (join_in l γ)
+groups_in {γ = γ} l (here {l = γs}) = still_in (groups_extend (add_string l γ) γs) (join_in l γ)
 groups_in l (there {y = δ} m) = groups_in (add_string l δ) m
 
 groups_only : (l γs : List (List ℕ)) (γ : List ℕ) → In γ (add_groups l γs) → In γ l ⊎ In γ γs
@@ -58,9 +58,9 @@ unfolding add_rules
 rules_distinct l [] d = d
 rules_distinct l (r ∷ rs) d = rules_distinct (add_groups l r.groups) rs (groups_distinct l r.groups d)
 
-rules_in : (l : List (List ℕ)) {γ : List ℕ} {r : Rule} {rs : List Rule} → In r rs → In γ r.groups → In γ (add_rules l rs)
+rules_in : {r : Rule} (l : List (List ℕ)) {γ : List ℕ} {rs : List Rule} → In r rs → In γ r.groups → In γ (add_rules l rs)
 unfolding add_rules
-rules_in l {r = r} (here {l = rs}) m = still_in (rules_extend (add_groups l r.groups) rs) (groups_in l m)
+rules_in {r = r} l (here {l = rs}) m = still_in (rules_extend (add_groups l r.groups) rs) (groups_in l m)
 rules_in l (there {y = s} n) m = rules_in (add_groups l s.groups) n m
 
 rules_only : (l : List (List ℕ)) (rs : List Rule) (γ : List ℕ) → In γ (add_rules l rs) → In γ l ⊎ ((r : Rule) × In r rs × In γ r.groups)

@@ -33,7 +33,7 @@ writes_accepted gs room e = go (grammar_of gs) refl e
           slice_is = ap (λ (b : Book). (build_from room b).slice) f ∙ slice_text g room
               ∙ ap (λ (l : List ℕ). text_slice l room (builder_reply g room)) (sym (table_text_lem g)) ∙ ap (text_slice (table_text (builder_table g)) room) h;
           length_is = ap (λ (b : Book). (build_from room b).length) f ∙ ap (text_length (table_text (builder_table g))) h;
-          accepted_book = (exactly gs (table_text (builder_table g))).from (
+          accepted_book = (exactly gs (table_text (builder_table g))).1 (
             g,
             builder_table g,
             record { reads = t; productive = D.productive; reachable = D.reachable; meets = writes_meets g D.formed D.productive D.reachable room h },

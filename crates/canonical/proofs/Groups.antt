@@ -17,9 +17,9 @@ use Rattle.build_states.proofs.Distinct.{in_at}
 use Rattle.table_order.specs.Order.{groups_in, use_from, first_use, is_group, group_lines}
 
 -- ---- a group has a first use
-use_found : (k : ℕ) {γ : List ℕ} {l : List (List ℕ)} → 1 ≤ k → In γ l → 1 ≤ use_from k l γ
-use_found k {γ} h here = rw (string_same γ) h
-use_found k {γ} h (there {y = δ} {l = l} m) = all_cond (λ n. 1 ≤ n) (same_string δ γ) (λ e. h) (λ e. use_found (suc k) (omega arith) m)
+use_found : {γ : List ℕ} (k : ℕ) {l : List (List ℕ)} → 1 ≤ k → In γ l → 1 ≤ use_from k l γ
+use_found {γ} k h here = rw (string_same γ) h
+use_found {γ} k h (there {y = δ} {l = l} m) = all_cond (λ n. 1 ≤ n) (same_string δ γ) (λ e. h) (λ e. use_found (suc k) (omega arith) m)
 
 group_in : (l : List Rule) (i : ℕ) {r : Rule} {γ : List ℕ} → at l i ≡ some r → In γ r.groups → In γ (groups_in l)
 group_in [] i e m = clash cc

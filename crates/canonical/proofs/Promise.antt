@@ -6,7 +6,7 @@ use Rattle.language.specs.Grammar.{Grammar}
 use Rattle.language.specs.Sentence.{here}
 use Rattle.language.proofs.Member.{in_right}
 use Rattle.leftcorner.specs.Table.{Table}
-use Rattle.leftcorner.specs.Claim.{◌↔◌}
+use Rattle.std.specs.Prelude.{◌↔◌}
 use Rattle.reply.specs.declared.Reply.TheVariants.{Accepted}
 use Rattle.grammar.specs.Book.{accepted, grammar_of}
 use Rattle.table_order.specs.Order.{kernel_key, action_key, use_key}
@@ -47,12 +47,12 @@ same_records : (t : Table) → SameRecords t t
 same_records t = record { states = refl; entries = λ x. same; kernels = λ x. same; actions = λ x. same }
   where
     same : {A : Type 0} → A ↔ A
-    same = record { to = λ a. a; from = λ a. a }
+    same = (λ a. a, λ a. a)
 
 -- what an accepted book holds, of the grammar that its grammar book gives
 accepted_table : (gs s : List ℕ) {g : Grammar} → grammar_of gs ≡ accepted g → verdict_of gs s ≡ Accepted 0 → (t : Table) × Accepts gs s g t
 accepted_table gs s {g} e v =
-    let r = (exactly gs s).to v in
+    let r = (exactly gs s).0 v in
     let same : r.0 ≡ g = same_grammar (sym (tables_grammar gs s r.2.reads) ∙ e) in
     (r.1, subst (λ (h : Grammar). Accepts gs s h r.1) same r.2)
   where
@@ -61,12 +61,12 @@ accepted_table gs s {g} e v =
 
 -- ---- the promise
 same_bytes : (gs hs s w : List ℕ) {g : Grammar} {t u : Table} → Accepts gs s g t → Accepts hs w g u → SameRecords t u ↔ (s ≡ w)
-same_bytes gs hs s w {g} {t} {u} a b = record {
-  to = λ h.
+same_bytes gs hs s w {g} {t} {u} a b = (
+  λ h.
       let same = same_table (tables_sound gs s a.reads) (tables_sound hs w b.reads) h a.meets b.meets in
-      reads_text gs s a.reads ∙ (ap table_text same ∙ sym (reads_text hs w b.reads));
-  from = λ q. subst (SameRecords t) (one_table gs hs s a.reads (subst (λ (x : List ℕ). tables_of hs x ≡ whole g u) (sym q) b.reads)) (same_records t);
-}
+      reads_text gs s a.reads ∙ (ap table_text same ∙ sym (reads_text hs w b.reads)),
+  λ q. subst (SameRecords t) (one_table gs hs s a.reads (subst (λ (x : List ℕ). tables_of hs x ≡ whole g u) (sym q) b.reads)) (same_records t),
+)
 
 pub order_promise : OrderPromise
 order_promise = record {

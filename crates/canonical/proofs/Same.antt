@@ -46,14 +46,14 @@ module _ {g : Grammar} {t u : Table} (o : Sound g t) (p : Sound g u) (h : SameRe
       ∙ sym b.entries_are)
     where
       to : (x : EntryLine) → In x (E a.goal_state (g.goal ∷ []) ∷ a.others) → In x (E b.goal_state (g.goal ∷ []) ∷ b.others)
-      to x n = subst (In x) b.entries_are ((h.entries x).to (subst (In x) (sym a.entries_are) n))
+      to x n = subst (In x) b.entries_are ((h.entries x).0 (subst (In x) (sym a.entries_are) n))
 
       from : (x : EntryLine) → In x (E b.goal_state (g.goal ∷ []) ∷ b.others) → In x (E a.goal_state (g.goal ∷ []) ∷ a.others)
-      from x n = subst (In x) a.entries_are ((h.entries x).from (subst (In x) (sym b.entries_are) n))
+      from x n = subst (In x) a.entries_are ((h.entries x).1 (subst (In x) (sym b.entries_are) n))
 
   pub same_table : Meets g t → Meets g u → t ≡ u
   same_table M N =
       ap₂ (λ (n : ℕ) (es : List EntryLine). table_with n es t.kernels t.actions) h.states (entries_same (goal_first_lem M) (goal_first_lem N))
       ∙ ap₂ (table_with u.states u.entries)
-      (rising_same kernel_key t.kernels u.kernels o.kernels_rise p.kernels_rise (λ x. (h.kernels x).to) (λ x. (h.kernels x).from))
-      (rising_same action_key t.actions u.actions o.actions_rise p.actions_rise (λ x. (h.actions x).to) (λ x. (h.actions x).from))
+      (rising_same kernel_key t.kernels u.kernels o.kernels_rise p.kernels_rise (λ x. (h.kernels x).0) (λ x. (h.kernels x).1))
+      (rising_same action_key t.actions u.actions o.actions_rise p.actions_rise (λ x. (h.actions x).0) (λ x. (h.actions x).1))

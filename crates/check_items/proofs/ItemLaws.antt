@@ -63,11 +63,11 @@ module _ (g : Grammar) (t : Table) {items entries kernels kinds values gotos nam
         (sym l.is_it.item ∙ (h.0 ∙ same_item k), sym l.is_it.dot ∙ h.1);
     move_has = m.move_has;
     move_only = m.move_only;
-    named = λ lo hi. H.Holds-named.only q lo hi o;
+    named = λ lo hi. H.holds_named.only q lo hi o;
   }
 
   meets_named : ItemsMeet g t q → On named q
-  meets_named w = let d = H.state_declared in H.Holds-named.every q d.0 d.1 (w.named d.0 d.1)
+  meets_named w = let d = H.state_declared in H.holds_named.every q d.0 d.1 (w.named d.0 d.1)
 
   meets_moves : ItemsMeet g t q → MovesMeet g t q
   meets_moves w = record { move_has = w.move_has; move_only = w.move_only }

@@ -9,7 +9,7 @@ use Rattle.language.proofs.Strings.{AllDeclared}
 use Rattle.language.specs.WellFormed as language
 use Rattle.leftcorner.specs.Table.{Table}
 use Rattle.leftcorner.specs.Construction.{WellFormed, EntriesMeet, ItemsMeet, LookaheadsMeet, CellsAgree, CellsMeet}
-use Rattle.leftcorner.specs.Claim.{◌↔◌}
+use Rattle.std.specs.Prelude.{◌↔◌}
 use Rattle.leftcorner.proofs.Swap.{flip, lookaheads_over, agree_over, cells_over}
 use Rattle.analysis.specs.ByRules.{FirstByRules}
 use Rattle.analysis.specs.InMemory.{SetsOf}

@@ -6,7 +6,7 @@ use mathlib.Core.List.{List}
 use Rattle.language.specs.Grammar.{Grammar}
 use Rattle.language.proofs.FirstLaws.{right_productive}
 use Rattle.language.specs.WellFormed.{declared_of}
-use Rattle.leftcorner.specs.Claim.{◌↔◌}
+use Rattle.std.specs.Prelude.{◌↔◌}
 use Rattle.leftcorner.specs.Table.{Table}
 use Rattle.leftcorner.specs.Construction.{Meets}
 use Rattle.reply.specs.declared.Reply.{Reply}
@@ -51,15 +51,15 @@ module _ (gs s : List ℕ) where
   accepted e =
       let h = checked-whole (tables_of gs s) e in
       let S = tables_sound gs s h.0 in
-      record { reads = h.0; productive = S.productive; reachable = S.reachable; meets = (verdict_exactly S).to h.1 }
+      record { reads = h.0; productive = S.productive; reachable = S.reachable; meets = (verdict_exactly S).0 h.1 }
 
   pub accepts : {g : Grammar} {t : Table} → Accepts gs s g t → checked_of gs s ≡ whole g t
   unfolding checked_of
-  accepts {g} {t} A = ap checked A.reads ∙ ap (by_reply g t) ((verdict_exactly (tables_sound gs s A.reads)).from A.meets)
+  accepts {g} {t} A = ap checked A.reads ∙ ap (by_reply g t) ((verdict_exactly (tables_sound gs s A.reads)).1 A.meets)
 
 pub exactly : Exactly
 unfolding verdict_of
-exactly gs s = record { to = λ e. to (checked_of gs s) refl e; from = λ h. ap (λ (x : Reading). as_reply (reply_of x)) (accepts gs s h.2) }
+exactly gs s = (λ e. to (checked_of gs s) refl e, λ h. ap (λ (x : Reading). as_reply (reply_of x)) (accepts gs s h.2))
   where
     to : (x : Reading) → checked_of gs s ≡ x → as_reply (reply_of x) ≡ Accepted 0 → (g : Grammar) × (t : Table) × Accepts gs s g t
     to (whole g t) q e = (g, t, accepted gs s q)

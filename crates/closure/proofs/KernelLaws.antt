@@ -1,6 +1,5 @@
 -- What a kernel line adds to the closure of its state.
 use Prim.Native.Nat.{ℕ, ◌+◌, ◌*◌, ◌-◌, ◌≤◌, ◌<◌}
-use native.Mathlib.Decide.{dec_lt}
 use native.Mathlib.Omega.{arith}
 use mathlib.Core.Path.{◌≡◌, sym, ap, subst, subst₂, ◌∙◌}
 use mathlib.Core.Logic.{◌⊎◌, inl, inr}
@@ -8,13 +7,13 @@ use mathlib.Core.Bool.{Bool, true, false, false≢true}
 use mathlib.Core.List.{List}
 use lib.ListN.{length, set}
 use Rattle.items.specs.Layout.{symbol_at}
-use Rattle.memory.specs.Memory.{state_at, item_at, dot_at}
+use Rattle.memory.specs.Memory.{item_at, dot_at}
 use Rattle.fixpoint.specs.Flags.{On}
 use Rattle.analysis.specs.FirstBy.{BeginsAt}
 use Rattle.analysis.specs.Rests.{Before, rest_at}
 use Rattle.analysis.specs.Adds.{Adds, InRow, AnyIn, RestFirst}
-use Rattle.closure.specs.Kernel.{BeforeNonterminal, FollowsNonterminal, OfLine, LineBefore, LineFollows}
-use Rattle.analysis.proofs.AddLaws.{adds_none, adds_map, adds_then, adds_one}
+use Rattle.closure.specs.Kernel.{BeforeNonterminal, FollowsNonterminal, LineBefore, LineFollows}
+use Rattle.analysis.proofs.AddLaws.{adds_none, adds_map, adds_one}
 
 -- ---- one line: item i with dot k
 

@@ -1,5 +1,5 @@
 -- The answer at the place of a session's reply 0 or 12, and at another reply.
-use Prim.Native.Nat.{ℕ, ◌≤◌}
+use Prim.Native.Nat.{ℕ}
 use native.Mathlib.Omega.{arith}
 use mathlib.Core.Logic.{inl, inr}
 use mathlib.Core.Path.{◌≡◌, ap, ◌∙◌}

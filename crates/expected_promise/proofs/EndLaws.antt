@@ -25,8 +25,8 @@ module _ (g : Grammar) (m : Automaton) (w : List ℕ) (C : Claim g m w) where
   ends n k = go (dec_le C.stack_need n) (dec_le (length C.listed) k)
     where
       of_ending : (o : Ending) → C.ending ≡ o → Ends (comes_back o (length w) C.listed)
-      of_ending accepted e = (refl, C.whole_exactly.to e)
-      of_ending (failed q) e = (C.wrong_exactly q).to e
+      of_ending accepted e = (refl, C.whole_exactly.0 e)
+      of_ending (failed q) e = (C.wrong_exactly q).0 e
 
       lacks : (n < C.stack_need) ⊎ (k < length C.listed) → Ends (walk g m n k w)
       lacks h = subst Ends (sym (C.short n k h).1) tt

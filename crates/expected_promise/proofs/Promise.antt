@@ -7,11 +7,10 @@ use mathlib.Core.Path.{◌≡◌, refl, sym, ap, subst, ◌∙◌}
 use mathlib.Core.Bool.{Bool, cond}
 use mathlib.Core.List.{List, [], ◌∷◌, ◌++◌, append-nil, append_assoc}
 use borrow.Author.Tests.{le-leb, lt-leb, le-ltb}
-use lib.Dec.{leb}
 use lib.ListN.{length, take, drop, take-append-drop}
 use lib.Seq.{length-take-le}
 use Rattle.language.specs.Grammar.{Grammar, IsTerminal}
-use Rattle.language.specs.Sentence.{In, here, there, Sentence, BeginsSentence, Declared, AllProductive}
+use Rattle.language.specs.Sentence.{In, here, there, Sentence, BeginsSentence}
 use Rattle.language.specs.WellFormed.{declared_of}
 use Rattle.language.proofs.Member.{in_left, in_right, in_either, in_cons}
 use Rattle.language.proofs.Prefix.{sentence_at}
@@ -19,7 +18,7 @@ use Rattle.language.proofs.Rising.{rising_same}
 use Rattle.language.proofs.Terminals.{sentence_terminals}
 use Rattle.leftcorner.specs.Machine.{Automaton, walk}
 use Rattle.leftcorner.specs.Table.{Table, automaton}
-use Rattle.leftcorner.specs.Claim.{◌↔◌, Claim, Outgrows}
+use Rattle.leftcorner.specs.Claim.{Claim, Outgrows}
 use Rattle.leftcorner.proofs.Demand3 as machine
 use Rattle.leftcorner.proofs.Progress.{PopsSome}
 use Rattle.leftcorner.proofs.ReadOff.{clash}
@@ -28,7 +27,7 @@ use Rattle.table.specs.Book.{Reading, whole}
 use Rattle.checker.specs.Checked.{checked_of}
 use Rattle.checker.proofs.Exactly.{accepts, accepted_sound, exactly}
 use Rattle.walker.specs.Walked.{answer}
-use Rattle.session.specs.Session.{Session, session, ended_by}
+use Rattle.session.specs.Session.{Session, session}
 use Rattle.session.proofs.SessionLaws.{session_walks}
 use Rattle.expected_trial.specs.declared.Trial.{Trial}
 use Rattle.expected_trial.specs.declared.Trial.TheVariants.{Fits, Misfit, Outgrown}
@@ -36,7 +35,7 @@ use Rattle.expected_trial.specs.Trial.{as_tokens, trial_of}
 use Rattle.expected_trials.specs.Trials.{Expected, Tried, lacking, fitting, tried, short_at, listed_at, answered_at}
 use Rattle.expected.specs.Expected.{EndsAt, on_reply, list_for, expected}
 use Rattle.expected.proofs.PlaceLaws.{on_ends, on_others}
-use Rattle.expected_promise.specs.Promise.{CouldCome, ListOf, Lists, TrialOutgrows, ListOutgrows, Promised, HandsOn, Promise}
+use Rattle.expected_promise.specs.Promise.{CouldCome, ListOf, Lists, Promised, HandsOn, Promise}
 use Rattle.expected_promise.proofs.TrialLaws.{Says, says_fits, says_misfit, says_outgrown, trial_says, never_outgrown}
 use Rattle.expected_promise.proofs.TriedLaws.{Fitting, Sorted, sorted}
 use Rattle.expected_promise.proofs.EndLaws.{begun, end_of, enough_ends}
@@ -110,7 +109,7 @@ module _ (g : Grammar) (m : Automaton) (least : PopsSome m) (claim : (v : List �
     -- the codes that fit are those that could come
     list_of : {l : List ℕ} → Fitting f (suc g.terminals) 0 l → ListOf g u l
     list_of {l} F = record {
-      exact = λ c. record { to = λ i. let o = F.only c i in says_fits (says c (omega (arith, o.0))) o.1; from = listed_code c };
+      exact = λ c. (λ i. let o = F.only c i in says_fits (says c (omega (arith, o.0))) o.1, listed_code c);
       rising = F.rising;
       some = some_in (listed_code some_code.0 some_code.1);
     }
@@ -122,7 +121,7 @@ module _ (g : Grammar) (m : Automaton) (least : PopsSome m) (claim : (v : List �
             F.every c (omega arith) lt (fits_known c le h (F.fine c (omega arith) lt))
 
     list_same : {l r : List ℕ} → ListOf g u l → ListOf g u r → l ≡ r
-    list_same {l} {r} a b = rising_same 0 0 l r a.rising b.rising (λ c i. (b.exact c).from ((a.exact c).to i)) (λ c i. (a.exact c).from ((b.exact c).to i))
+    list_same {l} {r} a b = rising_same 0 0 l r a.rising b.rising (λ c i. (b.exact c).1 ((a.exact c).0 i)) (λ c i. (a.exact c).1 ((b.exact c).0 i))
 
     abbrev Slips : ℕ → Type 0
     Slips room = ((c : ℕ) × (c ≤ g.terminals) × (q : ℕ) × (q ≤ p) × Outgrows g m n k (u ++ as_tokens c) q) ⊎ ((l : List ℕ) × ListOf g u l × (room < length l))
@@ -212,12 +211,12 @@ module _ (gs s : List ℕ) (g : Grammar) (t : Table) (books : checked_of gs s �
     listed_or_short = λ n k room p h.
         subst (Answers g (automaton g t) least claim (take p w) (front p) (started n k p h).1 p (long n k p h) n k room) (sym (answer_is n k room p h))
         (answers g (automaton g t) least claim (take p w) (front p) (started n k p h).1 p (long n k p h) n k room (tried (trial_at n k p) (suc g.terminals) 0) (sorted (trial_at n k p) (suc g.terminals) 0));
-    short_exactly = λ n k room p h. record {
-      to = λ e. slips_to g (automaton g t) least claim (take p w) (front p) (started n k p h).1 p (long n k p h) n k room (tried (trial_at n k p) (suc g.terminals) 0) (sorted (trial_at n k p) (suc g.terminals) 0)
-          (sym (answer_is n k room p h) ∙ e);
-      from = λ z. answer_is n k room p h
-          ∙ slips_from g (automaton g t) least claim (take p w) (front p) (started n k p h).1 p (long n k p h) n k room (tried (trial_at n k p) (suc g.terminals) 0) (sorted (trial_at n k p) (suc g.terminals) 0) z;
-    };
+    short_exactly = λ n k room p h. (
+      λ e. slips_to g (automaton g t) least claim (take p w) (front p) (started n k p h).1 p (long n k p h) n k room (tried (trial_at n k p) (suc g.terminals) 0) (sorted (trial_at n k p) (suc g.terminals) 0)
+          (sym (answer_is n k room p h) ∙ e),
+      λ z. answer_is n k room p h
+          ∙ slips_from g (automaton g t) least claim (take p w) (front p) (started n k p h).1 p (long n k p h) n k room (tried (trial_at n k p) (suc g.terminals) 0) (sorted (trial_at n k p) (suc g.terminals) 0) z,
+    );
     enough = needs;
   }
     where
@@ -247,7 +246,7 @@ pub promise : Promise
 promise = (
   hands_on,
   λ gs s e.
-      let h = (exactly gs s).to e in
+      let h = (exactly gs s).0 e in
       let g = h.0 in
       let t = h.1 in
       let A = h.2 in

@@ -1,5 +1,5 @@
 -- What a trial tells of a code, read off how the walk over the tokens and the code ends: for every machine of which demand 3 holds.
-use Prim.Native.Nat.{ℕ, zero, suc, ◌+◌, ◌≤◌, ◌<◌}
+use Prim.Native.Nat.{ℕ, zero, suc, ◌≤◌, ◌<◌}
 use native.Mathlib.Omega.{arith}
 use native.Mathlib.Decide.{dec_le, dec_lt}
 use mathlib.Core.Logic.{◌⊎◌, inl, inr}
@@ -8,12 +8,12 @@ use mathlib.Core.Bool.{Bool, true, false, cond}
 use mathlib.Core.List.{List, [], ◌∷◌, ◌++◌, append-nil}
 use borrow.Author.Tests.{lt-ltb, le-ltb}
 use lib.Dec.{ltb}
-use lib.ListN.{length, take, length-append}
+use lib.ListN.{length, length-append}
 use lib.Seq.{take_all}
 use Rattle.language.specs.Grammar.{Grammar}
 use Rattle.language.specs.Sentence.{Sentence, BeginsSentence}
 use Rattle.language.proofs.Prefix.{sentence_at, sentence_begins}
-use Rattle.leftcorner.specs.Machine.{Automaton, Ending, accepted, failed, Verdict, whole_at, wrong_at, short_at, walk}
+use Rattle.leftcorner.specs.Machine.{Automaton, Ending, accepted, failed, Verdict, wrong_at, short_at, walk}
 use Rattle.leftcorner.specs.Claim.{WrongAt, at_token, at_end, Outgrows, at_start, at_step, Claim, comes_back}
 use Rattle.leftcorner.proofs.Place.{begins_take, not_sentence}
 use Rattle.leftcorner.proofs.Progress.{PopsSome}
@@ -66,8 +66,8 @@ module _ (g : Grammar) (m : Automaton) (v : List ℕ) (C : Claim g m v) (n k p :
       lacks h = let s = C.short n k h in verdict s.1 (of-short s.0 s.2)
 
       of_ending : (o : Ending) → C.ending ≡ o → Says g m n k p v A (trial_of p (comes_back o (length v) C.listed))
-      of_ending accepted e = could (whole (C.whole_exactly.to e))
-      of_ending (failed q) e = of-wrong q ((C.wrong_exactly q).to e)
+      of_ending accepted e = could (whole (C.whole_exactly.0 e))
+      of_ending (failed q) e = of-wrong q ((C.wrong_exactly q).0 e)
 
       go : Dec (C.stack_need ≤ n) → Dec (length C.listed ≤ k) → Says g m n k p v A (trial_of p (walk g m n k v))
       go (yes a) (yes b) = verdict (C.enough n k a b) (of_ending C.ending refl)

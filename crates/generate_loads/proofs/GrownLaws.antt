@@ -64,6 +64,7 @@ module _ (g : Grammar) (w : WellFormed g) (p : AllProductive g) where
   some_rule X n = go (rules_of g X) (shortest_is g w p X n).one_of
     where
       go : {i : ℕ} (l : List ℕ) → In i l → 1 ≤ length l
+      go {i = i} [] m = elim m [ ]
       go (x ∷ l) m = omega arith
 
   pub chosen_is : (d X s : ℕ) → IsNonterminal g X → Chosen d X (choice g d X s).rule

@@ -31,6 +31,7 @@ nonterminal_false g X t n = go (is_terminal g.terminals X) refl
 
 -- ---- all, any, first
 pub all_in : (p : ℕ → Bool) (l : List ℕ) → all p l ≡ true → (a : ℕ) → In a l → p a ≡ true
+all_in p [] e a none = elim none [ ]
 all_in p (X ∷ l) e a here = (both_true (p X) (all p l) e).0
 all_in p (X ∷ l) e a (there m) = all_in p l (both_true (p X) (all p l) e).1 a m
 
@@ -39,6 +40,7 @@ in_all p [] h = refl
 in_all p (X ∷ l) h = simp (h X here, in_all p l (λ a m. h a (there m)))
 
 pub in_any : (p : ℕ → Bool) (l : List ℕ) (a : ℕ) → In a l → p a ≡ true → any p l ≡ true
+in_any p [] a none e = elim none [ ]
 in_any p (X ∷ l) a here e = simp e
 in_any p (X ∷ l) a (there m) e = go (p X) (in_any p l a m e)
   where

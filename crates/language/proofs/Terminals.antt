@@ -2,7 +2,7 @@
 use Prim.Native.Nat.{ℕ}
 use mathlib.Core.Path.{◌≡◌, sym, subst}
 use mathlib.Core.Logic.{◌⊎◌, inl, inr}
-use mathlib.Core.List.{List, [], ◌∷◌, ◌++◌}
+use mathlib.Core.List.{List, [], ◌∷◌}
 use Rattle.language.specs.Grammar.{Grammar, right, IsTerminal}
 use Rattle.language.specs.Derivation.{Tree, leaf, node, Forest, nil, cons, yield, yields, IsTree, IsForest}
 use Rattle.language.specs.Sentence.{In, Sentence}

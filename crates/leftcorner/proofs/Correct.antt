@@ -14,7 +14,8 @@ use Rattle.language.specs.Trace.{trace}
 use Rattle.language.specs.Sentence.{In, Sentence, BeginsSentence}
 use Rattle.language.specs.First.{next}
 use Rattle.leftcorner.specs.Machine.{pop, Automaton, Event, on, whole, to_come, taken, step, start, Ending, accepted, failed, Walk, ends_whole, ends_wrong, goes_on}
-use Rattle.leftcorner.specs.Claim.{◌↔◌, WrongAt, at_token, at_end, Within, begins, steps, Safe}
+use Rattle.std.specs.Prelude.{◌↔◌}
+use Rattle.leftcorner.specs.Claim.{WrongAt, at_token, at_end, Within, begins, steps, Safe}
 use Rattle.leftcorner.proofs.Adequate.{Source, Complete, Exact}
 use Rattle.leftcorner.proofs.Run.{Run, stop, more, run_unique}
 use Rattle.leftcorner.proofs.Whole.{sentence_walked, final-whole, one_derivation}
@@ -100,7 +101,7 @@ module _ {g : Grammar} {string : ℕ → List ℕ} {Kernel : ℕ → Source → 
   read_on {u = u} (tells i U st) v n f z = (u, st, f, z)
   read_on {u = u} (closes U st) v n f z = (u, st, f, z)
 
-  within_reads : {n k p : ℕ} {w S v l : List ℕ} → Within g m n k w S v p l → Reads w S v p
+  within_reads : {n k : ℕ} {w : List ℕ} {p : ℕ} {S v l : List ℕ} → Within g m n k w S v p l → Reads w S v p
   within_reads (begins le) = ([], base, refl, refl)
   within_reads (steps {S = S} {v = v} x h le le') =
       let y = within_reads x in read_on (done C E S y.0 y.1 (next v 0) h) v refl y.2 y.3
@@ -132,10 +133,10 @@ module _ {g : Grammar} {string : ℕ → List ℕ} {Kernel : ℕ → Source → 
         stack_need = x.0;
         listed = listed τ;
         ends = x.1;
-        whole_exactly = record { to = λ e. s; from = λ z. refl };
+        whole_exactly = (λ e. s, λ z. refl);
         one_derivation = one w;
         its_listing = lists w r h;
-        wrong_exactly = λ p. record { to = λ e. failed-accepted (sym e); from = λ z. absurd (not_sentence z s) };
+        wrong_exactly = λ p. (λ e. failed-accepted (sym e), λ z. absurd (not_sentence z s));
         safe = safe_within w;
         viable = viable_within w;
       }
@@ -148,10 +149,10 @@ module _ {g : Grammar} {string : ℕ → List ℕ} {Kernel : ℕ → Source → 
         stack_need = x.0;
         listed = listed τ;
         ends = x.1;
-        whole_exactly = record { to = λ e. failed-accepted e; from = λ s. absurd (not_sentence at_place s) };
+        whole_exactly = (λ e. failed-accepted e, λ s. absurd (not_sentence at_place s));
         one_derivation = one w;
         its_listing = λ T t e. absurd (not_sentence at_place (record { tree = T; derives = t; yields_it = e }));
-        wrong_exactly = λ p. record { to = λ e. subst (WrongAt g w) (same_place e) at_place; from = λ z. ap failed (one_place at_place z) };
+        wrong_exactly = λ p. (λ e. subst (WrongAt g w) (same_place e) at_place, λ z. ap failed (one_place at_place z));
         safe = safe_within w;
         viable = viable_within w;
       }

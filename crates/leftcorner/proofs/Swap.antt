@@ -6,11 +6,11 @@ use Rattle.language.specs.Sentence.{Declared}
 use Rattle.language.proofs.Strings.{AllDeclared, groups_declared, later_declared}
 use Rattle.leftcorner.specs.Table.{Action, Table}
 use Rattle.leftcorner.specs.Construction.{Carries, in_kernel, in_closure, Asked, to_move, to_announce, to_pop, EntriesMeet, LookaheadsMeet, CellsAgree, CellsMeet, MeetsWith}
-use Rattle.leftcorner.specs.Claim.{◌↔◌}
+use Rattle.std.specs.Prelude.{◌↔◌}
 use Rattle.leftcorner.proofs.ItemStrings.{rest_declared}
 
 pub flip : {A B : Type 0} → A ↔ B → B ↔ A
-flip h = record { to = h.from; from = h.to }
+flip h = (h.1, h.0)
 
 module _ (g : Grammar) (t : Table) (D : Declared g) (E : EntriesMeet g t) where
   -- one way
@@ -27,16 +27,16 @@ module _ (g : Grammar) (t : Table) (D : Declared g) (E : EntriesMeet g t) where
 
   module _ (F G : List ℕ → ℕ → ℕ → Type 0) (same : (β : List ℕ) → AllDeclared g β → (d c : ℕ) → F β d c ↔ G β d c) where
     carries : {q i k d : ℕ} → Carries g t G q i k d → Carries g t F q i k d
-    carries h = carries_over G F (λ β a d c. (same β a d c).from) h
+    carries h = carries_over G F (λ β a d c. (same β a d c).1) h
 
     asked : {q X : ℕ} {x : Action} → Asked g t G q X x → Asked g t F q X x
-    asked h = asked_over G F (λ β a d c. (same β a d c).from) h
+    asked h = asked_over G F (λ β a d c. (same β a d c).1) h
 
     pub lookaheads_over : (q : ℕ) → LookaheadsMeet g t F q → LookaheadsMeet g t G q
     lookaheads_over q M = record {
       of_move = λ p X i k d β σ x a n h. M.of_move p X i k d β σ x a n (carries h);
       of_group = λ k p i d c γ σ r δs εs e re ge h f. M.of_group k p i d c γ σ r δs εs e re ge (carries h)
-          ((same (concat εs) (later_declared g D i r δs γ εs re ge) d c).from f);
+          ((same (concat εs) (later_declared g D i r δs γ εs re ge) d c).1 f);
       of_goal = M.of_goal;
     }
 
@@ -46,7 +46,7 @@ module _ (g : Grammar) (t : Table) (D : Declared g) (E : EntriesMeet g t) where
     pub cells_over : (q : ℕ) → CellsMeet g t F q → CellsMeet g t G q
     cells_over q M = record {
       filled = λ X x a. M.filled X x (asked a);
-      asked = λ X y a. asked_over F G (λ β s d c. (same β s d c).to) (M.asked X y a);
+      asked = λ X y a. asked_over F G (λ β s d c. (same β s d c).0) (M.asked X y a);
     }
 
 module _ (g : Grammar) (t : Table) (D : Declared g) where
@@ -61,7 +61,4 @@ module _ (g : Grammar) (t : Table) (D : Declared g) where
   }
 
   pub swap : (F G : List ℕ → ℕ → ℕ → Type 0) → ((β : List ℕ) → AllDeclared g β → (d c : ℕ) → F β d c ↔ G β d c) → MeetsWith g t F ↔ MeetsWith g t G
-  swap F G same = record {
-    to = meets_over F G same;
-    from = meets_over G F (λ β a d c. flip (same β a d c));
-  }
+  swap F G same = (meets_over F G same, meets_over G F (λ β a d c. flip (same β a d c)))

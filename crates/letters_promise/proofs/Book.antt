@@ -16,7 +16,7 @@ use Rattle.text.specs.Digits.{lead, digits}
 use Rattle.table_lines.specs.Line.{line_at, all_at_most}
 use Rattle.table_lines.specs.Line as line
 use Rattle.table_lines.proofs.CapLaws.{at_most}
-use Rattle.build_book.specs.Text.{fields, line}
+use Rattle.build_book.specs.Text.{fields}
 use Rattle.build_read_back.proofs.Line.{rest_all, rest_none, rest_past, line_read, no_line}
 use Rattle.canonical.proofs.Line.{line_written}
 use Rattle.letters.specs.Shared.{Shared, lowest_shared, lowest_shared_lem}

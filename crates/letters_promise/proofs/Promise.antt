@@ -24,7 +24,6 @@ use Rattle.reply.specs.declared.Refusal.{Refusal}
 use Rattle.table_lines.proofs.CapLaws.{at_most}
 use Rattle.letters.specs.Shared.{Shared, some?, another?, shared?, lowest_shared, lowest_shared_lem}
 use Rattle.letters.specs.Letters.{Letters, codes, letters_of}
-use Rattle.letters.specs.Letters as letters
 use Rattle.letters.proofs.GoodLaws.{letters_good}
 use Rattle.scan_lines.specs.Tokens.{Scan, code_of, repeats}
 use Rattle.scans.specs.File.{Scanned, tokens, refused, refused_at, house, all_lines, scanned}
@@ -184,5 +183,5 @@ letters_promise = record {
   books = book.promise;
   too_long_lem = too_long_lem;
   books_refused = λ gs s book file n k why a b e. by_books gs s book file n k a b e;
-  accepted = λ gs s e. let h = (exactly gs s).to e in (h.0, h.1, h.2, sessions gs s h.0 h.1 h.2);
+  accepted = λ gs s e. let h = (exactly gs s).0 e in (h.0, h.1, h.2, sessions gs s h.0 h.1 h.2);
 }

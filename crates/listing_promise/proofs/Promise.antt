@@ -99,14 +99,14 @@ module _ (gs s : List ℕ) {g : Grammar} {t : Table} (A : Accepts gs s g t) (f :
             go (yes a) (no b) = absurd (short (inr (omega (arith, b))))
             go (yes a) (yes b) =
                 let x = E.enough n k a b in
-                let S = x.whole_exactly.to e in
+                let S = x.whole_exactly.0 e in
                 let is = x.its_derivation S.tree S.derives S.yields_it in
                 (some_scan gs s A f w S, omega (arith, ap (λ (y : Session). rule_count y.reply) is, at_most gs s A f w S S.tree S.derives S.yields_it))
 
 pub listing_promise : ListingPromise
 listing_promise = record {
   accepted_tables = λ gs s e.
-      let h = (exactly gs s).to e in
+      let h = (exactly gs s).0 e in
       (h.0, h.1, h.2, λ f. record { sessions = lists gs s h.2 f; sentences = listed gs s h.2 f; suffices = suffices gs s h.2 f });
   bounded = bounded;
   unbounded = λ gs g k e few i r at z. bound_book gs k few e ∙ of_empty g k (has_empty_lem g i r at z);

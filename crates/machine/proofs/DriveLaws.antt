@@ -26,7 +26,6 @@ use Rattle.walker.specs.Walked.{memory_walk}
 use Rattle.walker.proofs.AgreeLaws.{CodeOf, walk_agree, units_agree}
 use Rattle.walk_rules.specs.Linked.{Linked}
 use Rattle.machine.specs.declared.Machine.{Machine}
-use Rattle.machine.specs.declared.MachineReply.{MachineReply}
 use Rattle.machine.specs.declared.MachineReply.TheVariants.{Ready, Refused}
 use Rattle.machine.specs.Machine.{AllLow, Drives, MachineIs}
 use Rattle.machine.proofs.AgreeLaws.{step_same, step_low, enter_low}

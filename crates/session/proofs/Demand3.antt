@@ -7,7 +7,7 @@ use mathlib.Core.List.{List, ◌++◌}
 use lib.ListN.{length, replicate}
 use Rattle.language.specs.Grammar.{Grammar, IsTerminal}
 use Rattle.language.specs.Derivation.{Tree, yield, IsTree}
-use Rattle.language.specs.Listing.{listing, units}
+use Rattle.language.specs.Listing.{listing}
 use Rattle.language.specs.Sentence.{In}
 use Rattle.language.specs.WellFormed.{declared_of}
 use Rattle.leftcorner.specs.Machine.{Ending, accepted, failed, walk}
@@ -38,7 +38,7 @@ module _ (g : Grammar) (t : Table) (w : List ℕ) (C : Claim g (automaton g t) w
   unfolding padded
   derivation_is T d y =
       let l = C.its_listing T d y in
-      whole_is n k g (length w) C.listed x C.ending ended (C.whole_exactly.from (record { tree = T; derives = d; yields_it = y }))
+      whole_is n k g (length w) C.listed x C.ending ended (C.whole_exactly.1 (record { tree = T; derives = d; yields_it = y }))
       ∙ ap₂ (λ (m : List ℕ) (u : ℕ). record {
         reply = Accepted (record { tokens = length w; rules = length m; units = u });
         listing = m ++ replicate (k - length m) 0;
@@ -49,23 +49,22 @@ module _ (g : Grammar) (t : Table) (w : List ℕ) (C : Claim g (automaton g t) w
   answered = go C.ending refl
     where
       wrong_from : (p : ℕ) → WrongAt g w p → x ≡ refused_at n k SyntaxError p
-      wrong_from p h = refusal_is p ((C.wrong_exactly p).from h)
+      wrong_from p h = refusal_is p ((C.wrong_exactly p).1 h)
 
       go : (o : Ending) → C.ending ≡ o → Answered g w n k x
       go accepted e = record {
         whole_or_wrong = inl (number_is e);
-        whole_exactly = record { to = λ h. C.whole_exactly.to e; from = λ h. number_is e };
+        whole_exactly = (λ h. C.whole_exactly.0 e, λ h. number_is e);
         its_derivation = derivation_is;
-        wrong_exactly = λ p. record { to = λ h. absurd (omega (arith, number_is e, wrong_number n k p h)); from = wrong_from p };
+        wrong_exactly = λ p. (λ h. absurd (omega (arith, number_is e, wrong_number n k p h)), wrong_from p);
       }
       go (failed p) e =
           let f = refusal_is p e in
           record {
             whole_or_wrong = inr (p, f);
-            whole_exactly = record { to = λ h. absurd (omega (arith, h, wrong_number n k p f)); from = λ h. number_is (C.whole_exactly.from h) };
+            whole_exactly = (λ h. absurd (omega (arith, h, wrong_number n k p f)), λ h. number_is (C.whole_exactly.1 h));
             its_derivation = derivation_is;
-            wrong_exactly = λ q. record
-                { to = λ h. (C.wrong_exactly q).to (e ∙ ap failed (sym (wrong_place n k p f) ∙ wrong_place n k q h)); from = wrong_from q };
+            wrong_exactly = λ q. (λ h. (C.wrong_exactly q).0 (e ∙ ap failed (sym (wrong_place n k p f) ∙ wrong_place n k q h)), wrong_from q);
           }
 
 demanded : (gs s : List ℕ) (g : Grammar) (t : Table) (w : List ℕ) → Claim g (automaton g t) w
@@ -95,4 +94,4 @@ module _ (gs s : List ℕ) {g : Grammar} {t : Table} (A : Accepts gs s g t) wher
     need_listed T h y = ap length ((claimed w tokens).its_listing T h y).0
 
 pub demand3 : Demand3
-demand3 gs s e = let h = (exactly gs s).to e in (h.0, h.1, h.2, demands gs s h.2)
+demand3 gs s e = let h = (exactly gs s).0 e in (h.0, h.1, h.2, demands gs s h.2)

@@ -62,7 +62,7 @@ module _ {A : Type 0} where
       go k y (inl q) = subst P q.1 p
       go k y (inr q) = h.each k q
 
-  pub each_in : {P : A → Type 0} {l : List A} {x : A} → Each P l → In x l → P x
+  pub each_in : {P : A → Type 0} {x : A} {l : List A} → Each P l → In x l → P x
   each_in h here = h.each 0 refl
   each_in h (there m) = each_in (record { each = λ k e. h.each (suc k) e }) m
 

@@ -72,7 +72,7 @@ module _ {A : Type 0} (key : A → List ℕ) where
   RisingBy [] = Unit {0}
   RisingBy (x ∷ l) = Above (key x) l × RisingBy l
 
-  above_in : (k : List ℕ) {l : List A} {x : A} → Above k l → In x l → Below k (key x)
+  above_in : (k : List ℕ) {x : A} {l : List A} → Above k l → In x l → Below k (key x)
   above_in k h here = h.0
   above_in k h (there m) = above_in k h.1 m
 

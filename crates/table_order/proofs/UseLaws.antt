@@ -43,9 +43,9 @@ use_at k (ε ∷ before) δ behind f = go (same_string ε δ) refl (use_at (suc 
     go true e h = absurd (f (subst (λ (γ : List ℕ). In δ (γ ∷ before)) (sym (same_string_lem ε δ e)) here))
     go false e h = omega (arith, h)
 
-pub use_low : (k : ℕ) {γ : List ℕ} {before : List (List ℕ)} (behind : List (List ℕ)) → In γ before → use_from k (before ++ behind) γ < k + length before
-use_low k {γ} behind (here {l = before}) = rw (string_same γ) (omega arith)
-use_low k {γ} behind (there {y = ε} {l = before} m) = go (same_string ε γ) (use_low (suc k) behind m)
+pub use_low : {γ : List ℕ} (k : ℕ) {before : List (List ℕ)} (behind : List (List ℕ)) → In γ before → use_from k (before ++ behind) γ < k + length before
+use_low {γ} k behind (here {l = before}) = rw (string_same γ) (omega arith)
+use_low {γ} k behind (there {y = ε} {l = before} m) = go (same_string ε γ) (use_low (suc k) behind m)
   where
     go : (b : Bool) → use_from (suc k) (before ++ behind) γ < suc k + length before → cond b k (use_from (suc k) (before ++ behind) γ) < k + suc (length before)
     go true h = omega arith

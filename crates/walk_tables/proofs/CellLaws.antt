@@ -6,7 +6,6 @@ use native.Mathlib.Omega.{arith}
 use borrow.Author.Tests.{eq-eqb, ne_eqb}
 use lib.ListN.{length, get_or, take, drop}
 use lib.Seq.{get_or-take, get_or-drop}
-use Rattle.walk_tables.specs.declared.Cell.{Cell}
 use Rattle.walk_tables.specs.declared.Cell.TheVariants.{Shift, Announce, Pop, Empty}
 use Rattle.walk_tables.specs.Memory.{cell_of, cell_at}
 

@@ -17,6 +17,10 @@ use Rattle.worked_examples.proofs.Computing.{computes}
 use Rattle.worked_examples.proofs.Built.{by_computing}
 use Rattle.worked_examples.specs.Starred.{Told, told_g1, told_g1_cut, told_d, tokens_of, answer_of, Answered, Starred}
 
+-- a list that equals another does so after its first entry (by itself: `cc` in `answers` would compute sessions)
+rest_same : {A : Type 0} {x y : A} {l m : List A} → x ∷ l ≡ y ∷ m → l ≡ m
+rest_same e = cc
+
 answers : {b : Books} {g : Grammar} {n : ℕ} → Computes b g n → (l : List Told)
     → map (λ (x : Told). session_over g (computed g n) (tokens_of x) 20 20) l ≡ map answer_of l → Each (Answered b) l
 answers h [] e = tt
@@ -29,7 +33,7 @@ answers {g = g} {n = n} h (x ∷ l) e = (record { answer = session_is h (tokens_
     here = cc
 
     later : map over_table l ≡ map answer_of l
-    later = cc
+    later = rest_same e
 
 pub starred : Starred
 unfolding entry_strings add_rules add_groups add_string leave note note_if within stray_from table_session padded

@@ -1,0 +1,7 @@
+-- `buraigue_c::buraigue_run_session` meets its contract. Assumes nothing.
+use borrow.Author.Rules.{rules}
+use Rattle.buraigue_c.proofs.ToldLaws.{session_told}
+use Rattle.buraigue_c.proofs.buraigue_run_session.Goals as goal
+
+pub returns : goal.returns
+returns c = session_told (c.run_session-answer.ensures.replied, (c.run_session-answer.ensures.listed, c.run_session-answer.ensures.cleared)) (c.tell_session.ensures.reply_given, c.tell_session.ensures.rules_after)

@@ -1,0 +1,16 @@
+-- No group that was passed is the string.
+use Prim.Native.Nat.{◌+◌, ◌-◌, ◌≤◌}
+use Rattle.language.specs.Grammar.{Grammar, Rule}
+use Rattle.language.specs.WellFormed.{RuleFormed}
+use Rattle.items.specs.Layout.{RuleIn}
+use Rattle.item_groups.proofs.UseLaws.{Seeking}
+use Rattle.item_groups.proofs.seek_in_rule.Given as goal
+
+abbrev pub invariant-loop-from : goal.invariant-loop-from
+invariant-loop-from l =
+    (l.k ≤ l.first + l.from)
+    × (l.k ≤ l.first + 15)
+    × ((g : Grammar) (r : Rule) → RuleFormed g r → RuleIn l.items l.i r → Seeking r l.first l.string l.from l.k)
+
+abbrev pub decreases-loop-from : goal.decreases-loop-from
+decreases-loop-from l = l.length - l.from
