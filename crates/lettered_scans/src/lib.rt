@@ -1,5 +1,5 @@
 // Scan files read through a bank's own letters.
-// The door is `read_lettered`; `too_long_lem` and `terminals_of` are inner, for sessions.
+// The door is `read_lettered`; `too_long` and `terminals_of` are inner, for sessions.
 #![tactic(auto)]
 
 ghost use Rattle.std.specs.Prelude.{◌≡◌, length};

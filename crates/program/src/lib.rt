@@ -2,7 +2,8 @@
 // Inner: for the programs.
 #![tactic(auto)]
 
-ghost use Rattle.std.specs.Prelude.{◌≡◌, ◌≤◌, ◌<◌, IfOk, length};
+ghost use Rattle.std.specs.Counts.{IsPrefixLen};
+ghost use Rattle.std.specs.Prelude.{◌≡◌, ◌≤◌, ◌<◌, length};
 
 use std::env::{Env, FillError};
 use std::fs::File;
@@ -57,6 +58,13 @@ pub fn lend(byte: u8) -> [u8; LENT]
 // The least number of more than 32 bits, which stands for every greater one too.
 const BEYOND: u64 = 4294967296;
 
+// The digits that a word begins with: the number that they are, at most BEYOND, and how many there are.
+#[derive(Clone, Copy)]
+struct Digits {
+    value: u64,
+    count: usize,
+}
+
 // The number that a word is, at most BEYOND, and whether it is none.
 #[derive(Clone, Copy)]
 pub struct Word {
@@ -91,9 +99,9 @@ pub fn tell_missing(rt: HostRuntime, what: &[u8], usage: &[u8]) {
     tell(rt, what, b" is missing\n", usage);
 }
 
-// Reads a file until `buf` is full or the file ends.
-fn read_open(mut file: File, buf: &mut [u8]) -> io::Result<usize>
-    ensures { IfOk result (λ n. n ≤ length buf.new) }
+// Reads a file until `buf` is full or the file ends. Where that fails, a line on standard error names it and says why.
+fn read_open(rt: HostRuntime, mut file: File, path: &[u8], buf: &mut [u8]) -> Input
+    ensures { IsPrefixLen result.size buf.new }
 {
     let mut size = 0;
     for _ in 0..u64::MAX {
@@ -102,53 +110,77 @@ fn read_open(mut file: File, buf: &mut [u8]) -> io::Result<usize>
             Ok(n) => size += n,
             Err(e) => {
                 if e.kind() != io::ErrorKind::Interrupted {
-                    return Err(e);
+                    tell_error(rt, path, e);
+                    return Input { size, failed: true };
                 }
             }
         }
     }
-    Ok(size)
+    Input {
+        size,
+        failed: false,
+    }
 }
 
-// Reads the file at `path`.
-fn read_path(rt: HostRuntime, path: &[u8], buf: &mut [u8]) -> io::Result<usize>
-    ensures { IfOk result (λ n. n ≤ length buf.new) }
-{
+// Opens the file at `path`. The library opens those alone whose names are UTF-8.
+fn open(rt: HostRuntime, path: &[u8]) -> io::Result<File> {
     match std::str::from_utf8(path) {
-        Ok(path) => read_open(File::open(&rt, path)?, buf),
+        Ok(path) => File::open(&rt, path),
         Err(_) => Err(io::Error::new(io::ErrorKind::InvalidInput, "not UTF-8")),
+    }
+}
+
+// Reads the file at `path`. Where that fails, a line on standard error names it and says why.
+fn read_path(rt: HostRuntime, path: &[u8], buf: &mut [u8]) -> Input
+    ensures { IsPrefixLen result.size buf.new }
+{
+    match open(rt, path) {
+        Ok(file) => read_open(rt, file, path, buf),
+        Err(e) => {
+            tell_error(rt, path, e);
+            NOT_READ
+        }
+    }
+}
+
+// Argument i, a path, at the start of a buffer. Where it is missing or too long, standard error says so, and how the program is
+// used.
+fn read_name(rt: HostRuntime, i: usize, what: &[u8], usage: &[u8], name: &mut [u8]) -> Input
+    ensures { IsPrefixLen result.size name.new }
+{
+    match rt.arg(i, name) {
+        Ok(size) => Input {
+            size,
+            failed: false,
+        },
+        Err(FillError::NotPresent) => {
+            tell_missing(rt, what, usage);
+            NOT_READ
+        }
+        Err(FillError::TooLong) => {
+            tell_error(rt, what, io::Error::from_raw_os_error(TOO_LONG));
+            tell(rt, usage, b"", b"");
+            NOT_READ
+        }
     }
 }
 
 // Reads the file that argument i names. Where that fails, standard error names the file, or `what` where there is no such
 // argument, and says how the program is used.
 pub fn read_argument(rt: HostRuntime, i: usize, what: &[u8], usage: &[u8], buf: &mut [u8]) -> Input
-    ensures { result.size ≤ length buf.new }
+    ensures { IsPrefixLen result.size buf.new }
 {
-    let mut name = [0u8; NAME];
-    let n = match rt.arg(i, &mut name) {
-        Ok(n) => n,
-        Err(FillError::NotPresent) => {
-            tell_missing(rt, what, usage);
-            return NOT_READ;
-        }
-        Err(FillError::TooLong) => {
-            tell_error(rt, what, io::Error::from_raw_os_error(TOO_LONG));
-            tell(rt, usage, b"", b"");
-            return NOT_READ;
-        }
-    };
-    match read_path(rt, &name[..n], buf) {
-        Ok(size) => Input {
-            size,
-            failed: false,
-        },
-        Err(e) => {
-            tell_error(rt, &name[..n], e);
-            tell(rt, usage, b"", b"");
-            NOT_READ
-        }
+    let mut path = [0u8; NAME];
+    let name = read_name(rt, i, what, usage, &mut path);
+    if name.failed {
+        return NOT_READ;
     }
+    let n = name.size;
+    let input = read_path(rt, &path[..n], buf);
+    if input.failed {
+        tell(rt, usage, b"", b"");
+    }
+    input
 }
 
 // How many arguments there are, the program's name too.
@@ -168,7 +200,7 @@ pub fn has_argument(rt: HostRuntime, i: usize) -> bool {
 
 // The same for an argument that may be left out: there is nothing to read then.
 pub fn read_optional(rt: HostRuntime, i: usize, what: &[u8], usage: &[u8], buf: &mut [u8]) -> Input
-    ensures { result.size ≤ length buf.new }
+    ensures { IsPrefixLen result.size buf.new }
 {
     if has_argument(rt, i) {
         return read_argument(rt, i, what, usage, buf);
@@ -179,40 +211,66 @@ pub fn read_optional(rt: HostRuntime, i: usize, what: &[u8], usage: &[u8], buf: 
     }
 }
 
-// The number that the digits are which a word begins with, at most BEYOND.
-fn read_digits(word: &[u8]) -> u64
-    ensures { result ≤ 4294967296 }
+fn wide(b: u8) -> usize
+    ensures { result < 256 }
 {
-    let mut value = 0u64;
-    for b in word {
-        if !b.is_ascii_digit() {
-            break;
-        }
-        value = value
-            .saturating_mul(10)
-            .saturating_add(u64::from(b.wrapping_sub(b'0')));
-    }
-    value.min(BEYOND)
+    b as usize
 }
 
-// The number that argument i begins with, at most BEYOND; 0 where there is none.
+// A number of which v is read, with one digit more.
+fn add_digit(v: u64, digit: usize) -> u64
+    requires { (v ≤ 4294967296) × (digit < 256) }
+    ensures { result ≤ 4294967296 }
+{
+    let w = v * 10 + digit as u64;
+    if w < BEYOND {
+        return w;
+    }
+    BEYOND
+}
+
+// The digits that a word begins with.
+fn read_digits(word: &[u8]) -> Digits
+    ensures { result.value ≤ 4294967296 }
+{
+    let mut value = 0;
+    let mut i = 0;
+    while i < word.len() {
+        let b = wide(word[i]);
+        if b < 48 {
+            return Digits { value, count: i };
+        }
+        if 57 < b {
+            return Digits { value, count: i };
+        }
+        value = add_digit(value, b - 48);
+        i += 1;
+    }
+    Digits { value, count: i }
+}
+
+// The number that argument i begins with, as `Digits` has it; 0 where there is none.
 pub fn argument_number(rt: HostRuntime, i: usize) -> u64
     ensures { result ≤ 4294967296 }
 {
     let mut word = [0u8; NAME];
     match rt.arg(i, &mut word) {
-        Ok(n) => read_digits(&word[..n]),
+        Ok(n) => read_digits(&word[..n]).value,
         Err(_) => 0,
     }
 }
 
-// The number that a word is, unless it has other bytes than digits or none.
+// The number that a word is, as `Digits` has it, unless it has other bytes or none.
 fn number_of(word: &[u8]) -> Word {
-    if word.is_empty() || !word.iter().all(|b| b.is_ascii_digit()) {
+    let digits = read_digits(word);
+    if digits.count == 0 {
+        return NO_NUMBER;
+    }
+    if digits.count != word.len() {
         return NO_NUMBER;
     }
     Word {
-        value: read_digits(word),
+        value: digits.value,
         failed: false,
     }
 }
@@ -282,11 +340,13 @@ pub fn print_byte(out: &mut Printer, b: u8) {
 
 // Prints what stands before the first 0.
 pub fn print_text(out: &mut Printer, text: &[u8]) {
-    for b in text {
-        if *b == 0 {
+    let mut i = 0;
+    while i < text.len() {
+        if text[i] == 0 {
             return;
         }
-        print_byte(out, *b);
+        print_byte(out, text[i]);
+        i += 1;
     }
 }
 
@@ -324,15 +384,25 @@ pub fn print_pair(out: &mut Printer, a: u64, b: u64) {
 
 // Prints each byte that is not 0 as a number on a line: what stands in a slice before its zeros.
 pub fn print_bytes(out: &mut Printer, bytes: &[u8]) {
-    print_list(out, bytes, 0);
+    let mut i = 0;
+    while i < bytes.len() {
+        if bytes[i] != 0 {
+            print_number(out, wide(bytes[i]) as u64);
+        }
+        i += 1;
+    }
 }
 
 // Prints each of the first n bytes as a number on a line, zeros too, and each after them that is not 0.
 pub fn print_list(out: &mut Printer, bytes: &[u8], n: usize) {
-    for (i, b) in bytes.iter().enumerate() {
-        if i < n || *b != 0 {
-            print_number(out, u64::from(*b));
+    let mut i = 0;
+    while i < bytes.len() {
+        if i < n {
+            print_number(out, wide(bytes[i]) as u64);
+        } else if bytes[i] != 0 {
+            print_number(out, wide(bytes[i]) as u64);
         }
+        i += 1;
     }
 }
 

@@ -19,6 +19,7 @@
 // from both calls, 0 for another.
 #![tactic(auto)]
 
+ghost use Rattle.std.specs.Counts.{IsPrefixLen};
 ghost use Rattle.std.specs.Prelude.{◌≡◌, ◌+◌, ◌<◌, ◌≤◌, length};
 
 use expected_trials::ExpectedReply;
@@ -40,7 +41,7 @@ fn figure(rt: HostRuntime, i: usize) -> usize
 
 // The file that argument i names.
 fn read(rt: HostRuntime, i: usize, buf: &mut [u8]) -> Input
-    ensures { result.size ≤ length buf.new }
+    ensures { IsPrefixLen result.size buf.new }
 {
     program::read_argument(
         rt,
