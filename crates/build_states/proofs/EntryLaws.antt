@@ -157,7 +157,7 @@ module _ (g : Grammar) where
 
     pub entries_meet : EntriesMeet g t
     entries_meet = record {
-      goal_first_lem = (1, entry_at_lem 0 goal_at);
+      goal_first = (1, entry_at_lem 0 goal_at);
       only_wanted = λ k s γ e. (entry_line k e).3;
       all_wanted = λ γ w. let r = wanted_entry w in (r.0, r.0, r.1);
     }

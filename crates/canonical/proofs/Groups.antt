@@ -46,11 +46,11 @@ pub record GoalFirst (g : Grammar) (t : Table) : Type 0 where
 
 module _ (g : Grammar) (t : Table) (W : WellFormed g t) (M : EntriesMeet g t) where
   by_first : (l : List EntryLine) → t.entries ≡ l → GoalFirst g t
-  by_first [] e = let f : at [] 0 ≡ some _ = sym (ap (λ (l : List EntryLine). at l 0) e) ∙ M.goal_first_lem.1 in clash cc
+  by_first [] e = let f : at [] 0 ≡ some _ = sym (ap (λ (l : List EntryLine). at l 0) e) ∙ M.goal_first.1 in clash cc
   by_first (x ∷ l) e =
-      let first : x ≡ E M.goal_first_lem.0 (g.goal ∷ []) = is (sym (ap (λ (l : List EntryLine). at l 0) e) ∙ M.goal_first_lem.1) in
+      let first : x ≡ E M.goal_first.0 (g.goal ∷ []) = is (sym (ap (λ (l : List EntryLine). at l 0) e) ∙ M.goal_first.1) in
       record {
-        goal_state = M.goal_first_lem.0;
+        goal_state = M.goal_first.0;
         others = l;
         entries_are = e ∙ ap (λ (y : EntryLine). y ∷ l) first;
         goal_once = once;
@@ -65,7 +65,7 @@ module _ (g : Grammar) (t : Table) (W : WellFormed g t) (M : EntriesMeet g t) wh
       line_at s γ m = let r = in_at m in (r.0, ap (λ (l : List EntryLine). at l (suc r.0)) e ∙ r.1)
 
       once : (s : ℕ) → In (E s (g.goal ∷ [])) l → ⊥
-      once s m = let r = line_at s (g.goal ∷ []) m in omega (arith, W.one_entry 1 (suc (suc r.0)) M.goal_first_lem.0 s (g.goal ∷ []) M.goal_first_lem.1 r.1)
+      once s m = let r = line_at s (g.goal ∷ []) m in omega (arith, W.one_entry 1 (suc (suc r.0)) M.goal_first.0 s (g.goal ∷ []) M.goal_first.1 r.1)
 
       groups : (s : ℕ) (γ : List ℕ) → In (E s γ) l → is_group g.rules γ ≡ true
       groups s γ m = by (M.only_wanted (suc (suc (line_at s γ m).0)) s γ (line_at s γ m).1)

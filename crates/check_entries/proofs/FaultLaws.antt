@@ -37,7 +37,7 @@ module _ {g : Grammar} {t : Table} where
   still EntryFault.Nothing n f = absurd (n refl)
 
   pub refutes : {Fine : Type 0} (x : EntryFault) → (x ≡ EntryFault.Nothing → ⊥) → EntryFaultIs g t Fine x → EntriesMeet g t → ⊥
-  refutes EntryFault.NotGoal n f m = f.is m.goal_first_lem.0 m.goal_first_lem.1
+  refutes EntryFault.NotGoal n f m = f.is m.goal_first.0 m.goal_first.1
   refutes (EntryFault.Bare i from to) n f m =
       let b = f.is in
       let e = m.all_wanted b.group (of_group i b.is_rule (subst (In b.group) (sym b.split) (in_right b.earlier here))) in

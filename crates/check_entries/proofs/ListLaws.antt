@@ -119,7 +119,7 @@ module _ (g : Grammar) (t : Table) {items : List ℕ} {rules strings : ℕ} (S :
     pub entries_hold : 1 ≤ strings → GoalFirst → Filled g t (rules + 1) uses wanted₀ wanted
         → (high : ℕ) → strings < high → (r : Found) → Lowest (Off wanted) 2 high r → r ≡ Found.Nothing → EntriesMeet g t
     entries_hold some_entry h F high all r found is-r = record {
-      goal_first_lem = first;
+      goal_first = first;
       only_wanted = λ k s γ e. only_it k e (ℕ_discrete k 1);
       all_wanted = λ γ w. all_it w;
     }

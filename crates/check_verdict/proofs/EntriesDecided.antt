@@ -96,5 +96,5 @@ module _ (g : Grammar) (t : Table) where
       go (some (E s γ)) = map_dec (λ e. (s, ap (λ (δ : List ℕ). some (E s δ)) e)) (λ h. let e = h.1 in let z : γ ≡ g.goal ∷ [] = cc in z) (list? γ (g.goal ∷ []))
 
   pub entries? : Dec (EntriesMeet g t)
-  entries? = map_dec (λ h. record { goal_first_lem = h.0; only_wanted = h.1.0; all_wanted = h.1.1 }) (λ r. (r.goal_first_lem, (r.only_wanted, r.all_wanted)))
+  entries? = map_dec (λ h. record { goal_first = h.0; only_wanted = h.1.0; all_wanted = h.1.1 }) (λ r. (r.goal_first, (r.only_wanted, r.all_wanted)))
       (both? goal_first? (both? (entries_all? g t (λ j s γ. Wanted g γ) (λ j s γ. wanted? γ)) all_listed?))

@@ -15,7 +15,7 @@ use Rattle.reply.specs.declared.Kind.{Kind}
 use Rattle.reply.specs.declared.Kind.TheVariants.{ItemMismatch, MissingLookahead, Conflict, CellMismatch}
 use Rattle.reply.specs.declared.Reply.{Reply}
 use Rattle.reply.specs.declared.Reply.TheVariants.{Accepted}
-use Rattle.check_verdict.specs.Verdict.{if_fails, lowest, refused, first_of, or_else_lem, after_agree, after_lookaheads, after_items, after_entries, verdict}
+use Rattle.check_verdict.specs.Verdict.{if_fails, lowest, refused, first_of, or_else, after_agree, after_lookaheads, after_items, after_entries, verdict}
 
 -- the lowest number below n of which Φ fails
 module _ (Φ : ℕ → Type 0) (test : (q : ℕ) → Dec (Φ q)) where
@@ -55,7 +55,7 @@ first_zero : (n : Kind) (o : Option ℕ) (r : Reply) → first_of n o r ≡ Acce
 first_zero n (some q) r e = let z : ◌≡◌ {A = ℕ} 0 1 = cc in absurd (omega arith)
 first_zero n none r e = (refl, e)
 
-else_zero : {Φ : Type 0} (d : Dec Φ) (r : Reply) → or_else_lem d (refused ItemMismatch 0) r ≡ Accepted 0 → Φ × (r ≡ Accepted 0)
+else_zero : {Φ : Type 0} (d : Dec Φ) (r : Reply) → or_else d (refused ItemMismatch 0) r ≡ Accepted 0 → Φ × (r ≡ Accepted 0)
 else_zero (yes p) r e = (p, e)
 else_zero (no f) r e = let z : ◌≡◌ {A = ℕ} 0 1 = cc in absurd (omega arith)
 
@@ -63,7 +63,7 @@ first_accepted : (n : Kind) (o : Option ℕ) (r : Reply) {k : ℕ} → first_of 
 first_accepted n (some q) r e = let z : ◌≡◌ {A = ℕ} 0 1 = cc in absurd (omega arith)
 first_accepted n none r e = e
 
-else_accepted : {Φ : Type 0} (d : Dec Φ) (r : Reply) {k : ℕ} → or_else_lem d (refused ItemMismatch 0) r ≡ Accepted k → r ≡ Accepted k
+else_accepted : {Φ : Type 0} (d : Dec Φ) (r : Reply) {k : ℕ} → or_else d (refused ItemMismatch 0) r ≡ Accepted k → r ≡ Accepted k
 else_accepted (yes p) r e = e
 else_accepted (no f) r e = let z : ◌≡◌ {A = ℕ} 0 1 = cc in absurd (omega arith)
 
@@ -73,7 +73,7 @@ first_none n o r e = ap (λ (p : Option ℕ). first_of n p r) e
 first_some : (n : Kind) (q : ℕ) (o : Option ℕ) (r : Reply) → o ≡ some q → first_of n o r ≡ refused n q
 first_some n q o r e = ap (λ (p : Option ℕ). first_of n p r) e
 
-else_yes : {Φ : Type 0} (d : Dec Φ) (x r : Reply) → Φ → or_else_lem d x r ≡ r
+else_yes : {Φ : Type 0} (d : Dec Φ) (x r : Reply) → Φ → or_else d x r ≡ r
 else_yes (yes p) x r h = refl
 else_yes (no f) x r h = absurd (f h)
 
@@ -222,7 +222,7 @@ module _ (g : Grammar) (t : Table) (F : List ℕ → ℕ → ℕ → Type 0) (en
   unfolding verdict
   is_list f = go entries?
     where
-      go : (d : Dec (EntriesMeet g t)) → or_else_lem d (refused ItemMismatch 0) after_entries' ≡ refused ItemMismatch 0
+      go : (d : Dec (EntriesMeet g t)) → or_else d (refused ItemMismatch 0) after_entries' ≡ refused ItemMismatch 0
       go (yes e) = absurd (f e)
       go (no h) = refl
 

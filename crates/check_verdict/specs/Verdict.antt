@@ -28,9 +28,9 @@ abbrev pub first_of : Kind → Option ℕ → Reply → Reply
 first_of n (some q) r = refused n q
 first_of n none r = r
 
-abbrev pub or_else_lem : {Φ : Type 0} → Dec Φ → Reply → Reply → Reply
-or_else_lem (yes p) x r = r
-or_else_lem (no f) x r = x
+abbrev pub or_else : {Φ : Type 0} → Dec Φ → Reply → Reply → Reply
+or_else (yes p) x r = r
+or_else (no f) x r = x
 
 module _ (g : Grammar) (t : Table) (F : List ℕ → ℕ → ℕ → Type 0) (entries? : Dec (EntriesMeet g t)) (items? : (q : ℕ) → Dec (ItemsMeet g t q))
     (lookaheads? : (q : ℕ) → Dec (LookaheadsMeet g t F q)) (agree? : (q : ℕ) → Dec (CellsAgree g t F q)) (cells? : (q : ℕ) → Dec (CellsMeet g t F q)) where
@@ -47,4 +47,4 @@ module _ (g : Grammar) (t : Table) (F : List ℕ → ℕ → ℕ → Type 0) (en
   after_entries = first_of ItemMismatch (lowest (ItemsMeet g t) items? (suc t.states)) after_items
 
   unfoldable pub verdict : Reply
-  verdict = or_else_lem entries? (refused ItemMismatch 0) after_entries
+  verdict = or_else entries? (refused ItemMismatch 0) after_entries

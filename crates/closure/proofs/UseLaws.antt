@@ -54,13 +54,13 @@ module _ (m kernels lookaheads : List ℕ) (items rules lines codes q : ℕ) (sh
     has_in h = go (has_by g t h)
       where
         go : {i k : ℕ} → HasBy g t q i k → HasIn m kernels present rules lines q i k
-        go (of_kernel p) = let l = line_of g t H.holds_kernels H.line_count p in HasIn.by_line_lem l.0 l.1
+        go (of_kernel p) = let l = line_of g t H.holds_kernels H.line_count p in HasIn.by_line l.0 l.1
         go {i = i} (of_rule {r = r} e x) =
             let u = rule_in i e in
             HasIn.by_rule (r.left - 64) u.0 u.1 u.2 (C.present_every (r.left - 64) u.3 (subst (Expanded g t q) u.4 x))
 
     pub in_has : {i k : ℕ} → HasIn m kernels present rules lines q i k → Has g t q i k
-    in_has (HasIn.by_line_lem l d) = Has.in_kernel (line_at g t H.holds_kernels H.line_count d).1
+    in_has (HasIn.by_line l d) = Has.in_kernel (line_at g t H.holds_kernels H.line_count d).1
     in_has {i = i} (HasIn.by_rule b l u e on) =
         let r = in_rule i b l u e in
         by_has g t (of_rule r.1 (subst (Expanded g t q) r.2 (C.present_only b r.3 on)))
@@ -72,14 +72,14 @@ module _ (m kernels lookaheads : List ℕ) (items rules lines codes q : ℕ) (sh
           go : {i k d : ℕ} → CarriesBy g t F q i k d → d < codes → CarriesIn m kernels lookaheads follow rules lines codes q i k d
           go {i = i} {k = k} {d = d} (CarriesBy.of_kernel p n) ld =
               let l = line_of g t H.holds_kernels H.line_count p in
-              CarriesIn.by_line_lem l.0 l.1 ld (H.holds_kernels.code_on l.0 q i k d l.2 n)
+              CarriesIn.by_line l.0 l.1 ld (H.holds_kernels.code_on l.0 q i k d l.2 n)
           go {i = i} {d = d} (CarriesBy.of_rule {r = r} e x) ld =
               let u = rule_in i e in
               CarriesIn.by_rule (r.left - 64) u.0 u.1 u.2 ld
               (C.follow_every (r.left - 64) d u.3 (omega arith) (subst (λ (X : ℕ). Follows g t F q X d) u.4 x))
 
     pub in_carries : {i k d : ℕ} → CarriesIn m kernels lookaheads follow rules lines codes q i k d → Carries g t F q i k d
-    in_carries {i = i} {k = k} {d = d} (CarriesIn.by_line_lem l w ld on) =
+    in_carries {i = i} {k = k} {d = d} (CarriesIn.by_line l w ld on) =
         let p = line_at g t H.holds_kernels H.line_count w in
         Carries.in_kernel p.1 (H.holds_kernels.on_code l q i k d p.2 (omega arith) on)
     in_carries {i = i} {d = d} (CarriesIn.by_rule b l u e ld on) =

@@ -31,10 +31,10 @@ pub record LineIs (kernels : List ℕ) (lines q i k l : ℕ) : Type 0 where
 
 -- the items of a closure: those of q's kernel lines, and the rules of the nonterminals that are flagged
 pub data HasIn (m kernels present : List ℕ) (rules lines q i : ℕ) : ℕ → Type 0 where
-  by_line_lem : {k : ℕ} (l : ℕ) → LineIs kernels lines q i k l → HasIn m kernels present rules lines q i k
+  by_line : {k : ℕ} (l : ℕ) → LineIs kernels lines q i k l → HasIn m kernels present rules lines q i k
   by_rule : (b : ℕ) → 1 ≤ i → i ≤ rules → left_at m i ≡ 64 + b → On present b → HasIn m kernels present rules lines q i zero
 
 -- and their lookaheads: those of the line, and those that can follow the nonterminal
 pub data CarriesIn (m kernels lookaheads follow : List ℕ) (rules lines codes q i : ℕ) : ℕ → ℕ → Type 0 where
-  by_line_lem : {k d : ℕ} (l : ℕ) → LineIs kernels lines q i k l → d < codes → On lookaheads (l * 64 + d) → CarriesIn m kernels lookaheads follow rules lines codes q i k d
+  by_line : {k d : ℕ} (l : ℕ) → LineIs kernels lines q i k l → d < codes → On lookaheads (l * 64 + d) → CarriesIn m kernels lookaheads follow rules lines codes q i k d
   by_rule : {d : ℕ} (b : ℕ) → 1 ≤ i → i ≤ rules → left_at m i ≡ 64 + b → d < codes → On follow (b * 64 + d) → CarriesIn m kernels lookaheads follow rules lines codes q i zero d

@@ -20,7 +20,7 @@ use Rattle.generate_loads.proofs.GrownLaws.{Chosen, chosen_is, chosen_lower, gro
 use Rattle.generate_choices.specs.Choices.{HoldsChoices, height_at}
 use Rattle.generate_steps.specs.declared.Point.{Point}
 use Rattle.generate_steps.specs.declared.Step.{Step}
-use Rattle.generator.specs.Written.{Writes, fitting, too_long_lem}
+use Rattle.generator.specs.Written.{Writes, fitting, too_long}
 
 pub nonterminal : {g : Grammar} → WellFormed g → (x : ℕ) → 64 ≤ x → IsSymbol g x → IsNonterminal g x
 nonterminal w x h (inl a) = absurd (omega (arith, a.1, w.few_terminals))
@@ -87,7 +87,7 @@ module _ {items choices : List ℕ} {rules : ℕ} {g : Grammar} (H : Holds items
 pub from_here : {a b : List ℕ} {s : ℕ} {p : Point} (q : Point) {t₀ l₀ t l : List ℕ} {z : Step} → p.tokens ≡ q.tokens → p.rules ≡ q.rules
     → Writes a b s p t₀ l₀ t l z → Writes a b s q t₀ l₀ t l z
 from_here q e f (fitting {q = n} x y h) = fitting {q = n} (rw (← e) x) (rw (← f) y) h
-from_here q e f (too_long_lem h) = too_long_lem (rw (← e, ← f) h)
+from_here q e f (too_long h) = too_long (rw (← e, ← f) h)
 
 pub leaf_written : {g : Grammar} {choices : List ℕ} (d x : ℕ) {p : Point} {t₀ l₀ t l : List ℕ} {z : Step} → HoldsChoices g choices → IsTerminal g x
     → Writes (x ∷ []) [] p.state p t₀ l₀ t l z

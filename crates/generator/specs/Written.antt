@@ -13,7 +13,7 @@ use Rattle.generate_steps.specs.Put.{Put}
 -- tokens a and rules b stand behind those up to p, and the state is s; or they do not fit
 pub data Writes (a b : List ℕ) (s : ℕ) (p : Point) (t₀ l₀ t l : List ℕ) : Step → Type 0 where
   fitting : {q : Point} → Put t₀ p.tokens a t q.tokens → Put l₀ p.rules b l q.rules → q.state ≡ s → Writes a b s p t₀ l₀ t l (Step.Fits q)
-  too_long_lem : (length t₀ < p.tokens + length a) ⊎ (length l₀ < p.rules + length b) → Writes a b s p t₀ l₀ t l Step.Full
+  too_long : (length t₀ < p.tokens + length a) ⊎ (length l₀ < p.rules + length b) → Writes a b s p t₀ l₀ t l Step.Full
 
 -- what is in use lies in both slices
 abbrev pub Inside : Point → List ℕ → List ℕ → Type 0

@@ -164,7 +164,7 @@ module _ (g : Grammar) (t : Table) (D : Declared g) (M : Meets g t) where
 
   start : KernelCode g t (u.enter 1) (entry 1) zero zero
   start =
-      let e = M.entries.goal_first_lem in
+      let e = M.entries.goal_first in
       entry_code 1 e.0 0 (g.goal ∷ []) e.1 (λ σ l. (M.lookaheads e.0).of_goal (g.goal ∷ []) σ e.1 l)
 
   group : {q i d c : ℕ} {r : Rule} (b : ℕ) (es δs : List ℕ) (e : ℕ) (εs : List ℕ) → rule_at g i ≡ some r
@@ -180,7 +180,7 @@ module _ (g : Grammar) (t : Table) (D : Declared g) (M : Meets g t) where
 
   pub complete : Complete g (string_at t) (KernelCode g t) (automaton g t)
   complete = record {
-    goal_string = ap string_of M.entries.goal_first_lem.1;
+    goal_string = ap string_of M.entries.goal_first.1;
     start = start;
     moves = moves;
     shifts = shifts;
@@ -192,7 +192,7 @@ module _ (g : Grammar) (t : Table) (D : Declared g) (M : Meets g t) where
   -- ---- and nothing else
 
   used_entry : {e : ℕ} → Used g (string_at t) (KernelCode g t) u e → (s : ℕ) × (γ : List ℕ) × EntryAt g t e s γ
-  used_entry goal_entry = let e = M.entries.goal_first_lem in (e.0, g.goal ∷ [], e.1)
+  used_entry goal_entry = let e = M.entries.goal_first in (e.0, g.goal ∷ [], e.1)
   used_entry (group_entry {q = q} {b = b} {i = i} {es = es} δs e εs h p) = let x = announced_entry q b i es δs e εs h p in (x.0, string_at t e, x.1)
 
   entered : (e : ℕ) → Used g (string_at t) (KernelCode g t) u e → (ι : Source) (k d : ℕ) → KernelCode g t (u.enter e) ι k d → (ι ≡ entry e) × (k ≡ zero)

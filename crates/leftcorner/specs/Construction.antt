@@ -57,7 +57,7 @@ module _ (g : Grammar) (t : Table) where
 
   -- reply 7 at place 0. "Entries: the goal alone, then every other distinct group once. Entry line 1 is the goal."
   pub record EntriesMeet : Type 0 where
-    pub goal_first_lem : (s : ℕ) × EntryAt 1 s (g.goal ∷ [])
+    pub goal_first : (s : ℕ) × EntryAt 1 s (g.goal ∷ [])
     pub only_wanted : (k s : ℕ) (γ : List ℕ) → EntryAt k s γ → Wanted g γ
     pub all_wanted : (γ : List ℕ) → Wanted g γ → (k : ℕ) × (s : ℕ) × EntryAt k s γ
 

@@ -181,7 +181,7 @@ module _ (gs s : List ℕ) (g : Grammar) (t : Table) (A : Accepts gs s g t) wher
 pub letters_promise : LettersPromise
 letters_promise = record {
   books = book.promise;
-  too_long_lem = too_long_lem;
+  too_long = too_long_lem;
   books_refused = λ gs s book file n k why a b e. by_books gs s book file n k a b e;
   accepted = λ gs s e. let h = (exactly gs s).0 e in (h.0, h.1, h.2, sessions gs s h.0 h.1 h.2);
 }

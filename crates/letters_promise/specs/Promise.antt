@@ -76,7 +76,7 @@ pub record Sessions (gs s : List ℕ) (g : Grammar) (t : Table) : Type 0 where
 pub record LettersPromise : Type 0 where
   pub books : (t : ℕ) → 1 ≤ t → t ≤ 63 → Book t
   -- lengths come first, then the refusals of both books,
-  pub too_long_lem : (gs s book file : List ℕ) (n k : ℕ) → (65536 < length book) ⊎ (65536 < length file)
+  pub too_long : (gs s book file : List ℕ) (n k : ℕ) → (65536 < length book) ⊎ (65536 < length file)
       → lettered_session gs s book file n k ≡ refused_at n k kind.LimitExceeded 0
   pub books_refused : (gs s book file : List ℕ) (n k : ℕ) (why : Refusal) → length book ≤ 65536 → length file ≤ 65536
       → checked_of gs s ≡ rejected why → lettered_session gs s book file n k ≡ refused_by n k why

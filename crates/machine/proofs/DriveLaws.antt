@@ -51,7 +51,7 @@ module _ (g : Grammar) (t : Table) where
     -- where the rules are linked
     pub drives : {rows : List ℕ} (start : ℕ) → Linked rows start g t → start ≡ get_or entries 1 0 → Drives g t kinds values gotos rows (record { start = start; terminals = terminals })
     drives {rows} start L first =
-        let goal = I.meets.entries.goal_first_lem in
+        let goal = I.meets.entries.goal_first in
         let F = I.holds_strings.fits in
         record {
           terminals_is = sym I.terminals_is;

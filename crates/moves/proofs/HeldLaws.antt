@@ -19,7 +19,7 @@ use Rattle.memory.specs.Held.{HoldsTable}
 use Rattle.closure.specs.Expansion.{Expanded, HasBy, of_kernel, of_rule, has_by, by_has}
 use Rattle.kernel_lines.specs.Lines.{LineAt}
 use Rattle.kernel_lines.proofs.HeldLaws.{line_of, kernel_of}
-use Rattle.moves.specs.Moves.{symbol_after, Present, HasAt, by_line_lem, by_rule, MovedAt, moved, MovesOn, Flagged}
+use Rattle.moves.specs.Moves.{symbol_after, Present, HasAt, by_line, by_rule, MovedAt, moved, MovesOn, Flagged}
 use Rattle.moves.specs.Flags.{HoldsPresent, HoldsMoves}
 use Rattle.moves.proofs.MoveLaws.{flagged_join}
 use Rattle.moves.proofs.RowLaws.{DeclaredItem, row_of, symbol_of_goes, goes_of_symbol}
@@ -57,11 +57,11 @@ module _ (g : Grammar) (t : Table) {items entries kernels lookaheads kinds value
     has_at h = go (has_by g t h)
       where
         go : {i k : ℕ} → HasBy g t q i k → HasAt items kernels present rules lines q i k
-        go (of_kernel m) = by_line_lem (line_of g t H.holds_kernels H.line_count m)
+        go (of_kernel m) = by_line (line_of g t H.holds_kernels H.line_count m)
         go (of_rule e x) = let r = rule_range g _ e in by_rule r.0 (omega (arith, r.1, H.rule_count)) (present_at e x)
 
     pub has_of : {i k : ℕ} → HasAt items kernels present rules lines q i k → Has g t q i k
-    has_of (by_line_lem l) = in_kernel (kernel_of g t H.holds_kernels H.line_count l).1
+    has_of (by_line l) = in_kernel (kernel_of g t H.holds_kernels H.line_count l).1
     has_of {i} (by_rule a b p) = let r = range_rule g i a (omega (arith, H.rule_count)) in by_has g t (of_rule r.1 (expanded_at r.1 p))
 
     pub moved_at : {X i n : ℕ} → MovedBy g t q X i n → MovedAt items kernels present rules lines q X i n
@@ -91,5 +91,5 @@ module _ (g : Grammar) (t : Table) {items entries kernels lookaheads kinds value
             (lines_on l.line l.is_it.low l.is_it.state))
 
         every_it : {X i n : ℕ} → MovedAt items kernels present rules lines q X i n → On fs' X
-        every_it (moved e (by_line_lem l)) = from_line e l
+        every_it (moved e (by_line l)) = from_line e l
         every_it {i = i} (moved e (by_rule l h p)) = subst (On fs') e (rules-on i l (omega arith) p)

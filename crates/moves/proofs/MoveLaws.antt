@@ -11,7 +11,7 @@ use Rattle.fixpoint.specs.Flags.{On}
 use Rattle.fixpoint.proofs.CountLaws.{on_set, only_set, keep_set}
 use Rattle.memory.specs.Memory.{state_at, item_at, dot_at}
 use Rattle.kernel_lines.specs.Lines.{LineAt}
-use Rattle.moves.specs.Moves.{symbol_after, next_at, Present, HasAt, by_line_lem, by_rule, MovedAt, moved, MovesOn, Flagged}
+use Rattle.moves.specs.Moves.{symbol_after, next_at, Present, HasAt, by_line, by_rule, MovedAt, moved, MovesOn, Flagged}
 
 module _ (items : List ℕ) (i k : ℕ) where
   pub after_end : {n : ℕ} → n ≡ length_at items i → n ≤ k → 0 ≡ symbol_after items i k
@@ -42,7 +42,7 @@ module _ (kinds values gotos : List ℕ) (q X : ℕ) where
 module _ (items kernels present : List ℕ) (rules lines : ℕ) where
   pub not_has : {q i k : ℕ} → (LineAt kernels lines q i k → ⊥) → (k ≡ 0 → 1 ≤ i → i ≤ rules → Present items present i → ⊥)
       → HasAt items kernels present rules lines q i k → ⊥
-  not_has f h (by_line_lem l) = f l
+  not_has f h (by_line l) = f l
   not_has f h (by_rule a b p) = h refl a b p
 
   pub rule_has : {q i k : ℕ} → k ≡ 0 → 1 ≤ i → i ≤ rules → Present items present i → HasAt items kernels present rules lines q i k
@@ -104,7 +104,7 @@ module _ {items kernels present : List ℕ} {rules lines q : ℕ} where
   line_moves {l} {i} {k} {x} lo e ei ek ex = record {
     item = i;
     dot = suc k;
-    it_moves = moved (sym ex) (by_line_lem (record { line = l; is_it = record { low = lo; state = e; item = sym ei; dot = sym ek } }));
+    it_moves = moved (sym ex) (by_line (record { line = l; is_it = record { low = lo; state = e; item = sym ei; dot = sym ek } }));
   }
 
   pub rule_moves : {i x : ℕ} → 1 ≤ i → i ≤ rules → Present items present i → x ≡ symbol_after items i 0 → MovesOn items kernels present rules lines q x

@@ -22,7 +22,7 @@ pub record Present (items present : List ℕ) (i : ℕ) : Type 0 where
 module _ (items kernels present : List ℕ) (rules lines : ℕ) where
   -- q's closure has item i, dot k; `present` flags the nonterminals that it expands
   pub data HasAt (q i : ℕ) : ℕ → Type 0 where
-    by_line_lem : {k : ℕ} → LineAt kernels lines q i k → HasAt q i k
+    by_line : {k : ℕ} → LineAt kernels lines q i k → HasAt q i k
     by_rule : 1 ≤ i → i ≤ rules → Present items present i → HasAt q i zero
 
   pub data MovedAt (q X i : ℕ) : ℕ → Type 0 where

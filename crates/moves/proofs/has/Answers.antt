@@ -1,12 +1,12 @@
 -- A kernel line, or a rule that is added, with dot 0.
 use native.Mathlib.Omega.{arith}
 use Rattle.fixpoint.proofs.PassLaws.{is_yes, is_no}
-use Rattle.moves.specs.Moves.{by_line_lem}
+use Rattle.moves.specs.Moves.{by_line}
 use Rattle.moves.proofs.MoveLaws.{not_has, rule_has}
 use Rattle.moves.proofs.has.Goals as goal
 
 pub returns-then-has_line : goal.returns-then-has_line
-returns-then-has_line c = is_yes _ (by_line_lem (c.has_line.ensures.yes c.if-has_line.true))
+returns-then-has_line c = is_yes _ (by_line (c.has_line.ensures.yes c.if-has_line.true))
 
 pub returns-then-k-ne0 : goal.returns-then-k-ne0
 returns-then-k-ne0 c = is_no _ (not_has _ _ _ _ _ (c.has_line.ensures.no c.if-has_line.false) (λ e a b p. c.if-k-ne0.true e))
