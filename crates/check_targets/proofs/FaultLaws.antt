@@ -11,7 +11,7 @@ use Rattle.fixpoint.specs.declared.Found.{Found}
 use Rattle.fixpoint.proofs.PassLaws.{is_yes, is_no}
 use Rattle.memory.specs.Memory.{state_at, item_at, dot_at}
 use Rattle.memory.specs.Held.{HoldsTable}
-use Rattle.moves.specs.Moves.{next_at, Present, by_line_lem, by_rule, MovedAt}
+use Rattle.moves.specs.Moves.{next_at, Present, by_line, by_rule, MovedAt}
 use Rattle.moves.specs.Flags.{HoldsPresent, HoldsMoves}
 use Rattle.check_targets.specs.declared.ItemFault.{ItemFault}
 use Rattle.fixpoint.specs.Misses.{Misses}
@@ -40,7 +40,7 @@ module _ {items kernels present kinds values gotos : List ℕ} {count rules line
   lost_line {i} {k} {l} a b ei ek low e f = record {
     item_low = a;
     dot_low = b;
-    has = by_line_lem (record { line = l; is_it = record { low = low; state = e; item = sym ei; dot = sym ek } });
+    has = by_line (record { line = l; is_it = record { low = low; state = e; item = sym ei; dot = sym ek } });
     lost = λ h. f (arrives_to ei ek h);
   }
 

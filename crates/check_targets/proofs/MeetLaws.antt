@@ -10,7 +10,7 @@ use Rattle.memory.specs.Memory.{item_at, dot_at}
 use Rattle.memory.specs.Held.{HoldsTable}
 use Rattle.kernel_lines.specs.Lines.{LineAt}
 use Rattle.kernel_lines.proofs.HeldLaws.{line_of, kernel_of}
-use Rattle.moves.specs.Moves.{symbol_after, next_at, HasAt, by_line_lem, by_rule, MovedAt, moved}
+use Rattle.moves.specs.Moves.{symbol_after, next_at, HasAt, by_line, by_rule, MovedAt, moved}
 use Rattle.moves.specs.Flags.{HoldsPresent, HoldsMoves}
 use Rattle.moves.proofs.MoveLaws.{moved_to}
 use Rattle.moves.proofs.HeldLaws.{moved_at, moved_of, moved_low}
@@ -26,7 +26,7 @@ module _ (g : Grammar) (t : Table) {items entries kernels lookaheads kinds value
     {q : ℕ} {present symbols : List ℕ} (P : HoldsPresent g t q present) (M : HoldsMoves g t q symbols) (low : q < 256) where
   all_arrive : LinesArrive items kernels kinds values gotos lines q → RulesArrive items kernels present kinds values gotos rules lines q
       → {i k : ℕ} → HasAt items kernels present rules lines q i k → Arrives items kernels kinds values gotos lines q i k
-  all_arrive a b (by_line_lem l) = arrives_to l.is_it.item l.is_it.dot (a l.line l.is_it.low l.is_it.state)
+  all_arrive a b (by_line l) = arrives_to l.is_it.item l.is_it.dot (a l.line l.is_it.low l.is_it.state)
   all_arrive a b {i = i} (by_rule lo hi p) = b i lo (omega arith) p
 
   pub meets : LinesArrive items kernels kinds values gotos lines q → RulesArrive items kernels present kinds values gotos rules lines q
