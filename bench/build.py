@@ -36,7 +36,7 @@ def main():
         book, y = f'examples/{name}.grammar', f'{OUT}/{name}.y'
         with open(book, 'rb') as i, open(y, 'wb') as o:
             subprocess.run(['python3', 'tools/bison_grammar.py', name], check=True, stdin=i, stdout=o)
-        built = best(200, 'target/bin/build_tables', book)
+        built = best(200, 'crates/build_tables/out/build_tables', book)
         bison = best(20, 'bison', '-o', f'{OUT}/{name}.c', y)
         tables = alone(20, 'bison', '--trace=time', '-o', f'{OUT}/{name}.c', y)
         print(f'{name}: processes: build_tables {built:.2f} ms, bison {bison:.1f} ms, one that does nothing {nothing:.2f} ms; '

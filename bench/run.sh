@@ -1,7 +1,8 @@
 #!/bin/sh
 # Builds and runs what the arguments name of read, check, session, expected, load, build, lend and stack; all of them where nothing is named. From
 # the repository's root, after
-#     rt staticlib buraigue_c && rt check build_tables
+#     (cd crates/buraigue_c && rt lib)
+#     (cd crates/build_tables && rt run -- ../../examples/d.grammar > /dev/null)
 # A number is the KiB of machine stack that `stack`, where it is named after it, gives each call; else it gives 320.
 set -e
 out=target/bench
@@ -13,7 +14,7 @@ kib=320
 make() {
     name=$1
     shift
-    gcc -O2 -Wall -Wextra -pthread -Ibench bench/$name.c "$@" target/staticlib/libburaigue_c.a -o $out/$name
+    gcc -O2 -Wall -Wextra -pthread -Ibench bench/$name.c "$@" crates/buraigue_c/out/libburaigue_c.a -o $out/$name
 }
 
 # the grammar book and the table book of each name

@@ -1,5 +1,5 @@
 /* The calls of Buraigue for C: scan grammars, left-corner tables and sessions of scans. README.md has the formats and the limits.
-   `rt staticlib buraigue_c` writes target/staticlib/libburaigue_c.a, for x86-64 Linux.
+   `rt lib`, in crates/buraigue_c, writes out/libburaigue_c.a there, for x86-64 Linux.
 
    A slice is a pointer and a length: `book, book_length` lends the book_length bytes from book on. No pointer is NULL, not even
    with length 0, and what is lent for writing (no const) overlaps nothing else that is lent. Tokens, states and rules are a byte each.
