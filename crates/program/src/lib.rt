@@ -99,22 +99,33 @@ pub fn tell_missing(rt: HostRuntime, what: &[u8], usage: &[u8]) {
     tell(rt, what, b" is missing\n", usage);
 }
 
+// Whether reading failed: where it did, the next read fails too.
+fn fails(file: &mut File) -> io::Result<()> {
+    file.read(&mut [0u8; 1])?;
+    Ok(())
+}
+
 // Reads a file until `buf` is full or the file ends. Where that fails, a line on standard error names it and says why.
 fn read_open(rt: HostRuntime, mut file: File, path: &[u8], buf: &mut [u8]) -> Input
     ensures { IsPrefixLen result.size buf.new }
 {
     let mut size = 0;
-    for _ in 0..u64::MAX {
+    while size < buf.len() {
         match file.read(&mut buf[size..]) {
             Ok(0) => break,
             Ok(n) => size += n,
-            Err(e) => {
-                if e.kind() != io::ErrorKind::Interrupted {
-                    tell_error(rt, path, e);
-                    return Input { size, failed: true };
-                }
-            }
+            Err(_) => break,
         }
+    }
+    if size == buf.len() {
+        return Input {
+            size,
+            failed: false,
+        };
+    }
+    if let Err(e) = fails(&mut file) {
+        tell_error(rt, path, e);
+        return Input { size, failed: true };
     }
     Input {
         size,
