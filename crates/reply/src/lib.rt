@@ -6,7 +6,7 @@ ghost use Rattle.std.specs.Prelude.{◌≡◌, length, replicate};
 ghost use Rattle.reply.specs.Reply.{kind_number, number_of, place_of};
 
 // Why something is refused. Each variant's comment has the word that the documents use for it.
-#[derive(Clone, Copy)]
+#[derive(Clone, Copy, Debug, PartialEq, Eq)]
 pub enum Kind {
     // torn
     Malformed,
@@ -39,7 +39,7 @@ pub enum Kind {
 }
 
 // A refusal: its kind, and the place that the documents fix for it.
-#[derive(Clone, Copy)]
+#[derive(Clone, Copy, Debug, PartialEq, Eq)]
 pub struct Refusal {
     pub kind: Kind,
     pub place: usize,
@@ -80,10 +80,7 @@ pub fn number(reply: Reply) -> u64
 {
     match reply {
         Reply::Accepted(_) => 0,
-        Reply::Refused(why) => {
-            let kind = why.kind;
-            kind_number(kind)
-        }
+        Reply::Refused(why) => kind_number(why.kind),
     }
 }
 
@@ -108,9 +105,5 @@ pub fn refuse(kind: Kind, place: usize) -> Reply
 pub fn clear(s: &mut [u8])
     ensures { s.new ≡ replicate (length s.old) 0 }
 {
-    let mut i = 0;
-    while i < s.len() {
-        s[i] = 0;
-        i += 1;
-    }
+    s.fill(0);
 }
