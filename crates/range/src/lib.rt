@@ -6,11 +6,9 @@ ghost use Rattle.std.specs.Prelude.{◌≡◌};
 ghost use Rattle.range.specs.Range.{within};
 
 // Whether x is at least `least` and at most `most`.
+#[tactic(auto, unfolding(crate::specs::Range::within))]
 pub fn in_range(least: usize, x: usize, most: usize) -> bool
     ensures { result ≡ within least x most }
 {
-    if x < least {
-        return false;
-    }
-    x <= most
+    least <= x && x <= most
 }
