@@ -39,35 +39,26 @@ impl Symbol {
     }
 
     // The end or one of the terminals 1 to t.
+    #[tactic(auto, unfolding(range::specs::Range::within))]
     pub fn is_lookahead(self, t: usize) -> bool
         ensures { result ≡ is_lookahead t self.code }
     {
-        if self.is_end() {
-            return true;
-        }
-        self.is_terminal(t)
+        self.is_end() || self.is_terminal(t)
     }
 
     // One of the n nonterminals from 64 on.
+    #[tactic(auto, unfolding(range::specs::Range::within))]
     pub fn is_nonterminal(self, n: usize) -> bool
         ensures { result ≡ is_nonterminal n self.code }
     {
-        if self.code < Symbol::FIRST_NONTERMINAL {
-            return false;
-        }
-        if n <= self.code - Symbol::FIRST_NONTERMINAL {
-            return false;
-        }
-        true
+        Symbol::FIRST_NONTERMINAL <= self.code && self.code - Symbol::FIRST_NONTERMINAL < n
     }
 
     // A terminal or a nonterminal.
+    #[tactic(auto, unfolding(crate::specs::Symbol::is_declared))]
     pub fn is_declared(self, t: usize, n: usize) -> bool
         ensures { result ≡ is_declared t n self.code }
     {
-        if self.is_terminal(t) {
-            return true;
-        }
-        self.is_nonterminal(n)
+        self.is_terminal(t) || self.is_nonterminal(n)
     }
 }
