@@ -18,12 +18,10 @@ pub fn lowest_unset(flags: &[u8], low: usize, high: usize) -> Found
     requires { high ≤ length flags.now }
     ensures { Lowest (Off flags.now) low high result }
 {
-    let mut x = low;
-    while x < high {
+    for x in low..high {
         if flags[x] == 0 {
             return Found::At(x);
         }
-        x += 1;
     }
     Found::Nothing
 }
