@@ -2,12 +2,8 @@
 use Prim.Native.Nat.{ℕ, ◌≤◌}
 use mathlib.Core.Path.{◌≡◌, refl, sym, subst, ◌∙◌}
 use mathlib.Core.Bool.{Bool, true, false, cond, ◌||◌}
-use mathlib.Core.List.{[], ◌∷◌}
-use mathlib.Core.Logic.{inl, inr, ⊎_elim}
 use native.Mathlib.Omega.{arith}
-use borrow.Author.Tests.{eq-eqb, ne_eqb}
 use lib.Dec.{eqb}
-use types.Run.{OneOf}
 use Rattle.range.specs.Range.{within}
 use Rattle.range.proofs.RangeLaws.{within-true, true-within, false-within}
 use Rattle.text.specs.declared.Class.{Class}
@@ -22,20 +18,6 @@ module _ (b : ℕ) where
   pub class_letter : 65 ≤ b → b ≤ 90 → class_of b ≡ class.Letter
   unfolding class_of
   class_letter l h = simp (false-within 48 b 57 (λ x y. omega arith), true-within 65 b 90 l h)
-
-  pub class_mark : OneOf (47 ∷ 94 ∷ []) b → class_of b ≡ class.Mark
-  unfolding class_of
-  class_mark o = rw (false-within 48 b 57 not_digit, false-within 65 b 90 not_letter) (⊎_elim (λ e. simp (eq-eqb b 47 e)) (λ e. simp (ne_eqb b 47 (λ q. omega arith), eq-eqb b 94 e)) o)
-    where
-      not_digit : 48 ≤ b → b ≤ 57 → ⊥
-      not_digit l h = ⊎_elim (λ e. omega arith) (λ e. omega arith) o
-
-      not_letter : 65 ≤ b → b ≤ 90 → ⊥
-      not_letter l h = ⊎_elim (λ e. omega arith) (λ e. omega arith) o
-
-  pub class_other : (48 ≤ b → b ≤ 57 → ⊥) → (65 ≤ b → b ≤ 90 → ⊥) → (OneOf (47 ∷ 94 ∷ []) b → ⊥) → class_of b ≡ class.Other
-  unfolding class_of
-  class_other f g m = simp (false-within 48 b 57 f, false-within 65 b 90 g, ne_eqb b 47 (λ e. m (inl e)), ne_eqb b 94 (λ e. m (inr e)))
 
   pub no_digit : (48 ≤ b → b ≤ 57 → ⊥) → {A : Type 0} (x y : A) → on_digit (class_of b) x y ≡ y
   unfolding class_of

@@ -3,11 +3,8 @@
 #![tactic(auto)]
 
 ghost use Rattle.std.specs.Prelude.{◌≡◌, ◌≤◌, ◌+◌, ◌*◌, drop, leb};
-ghost use Rattle.range.specs.Range.{within};
 ghost use Rattle.text.specs.Field.{class_of, end_of, add_digit, closed, digits_from, field_at};
 ghost use Rattle.text.specs.Inner.{summed, Saturated, single_of};
-
-use range::in_range;
 
 // A place in a line: the next byte, and whether the line's LF has been passed.
 #[derive(Clone, Copy)]
@@ -48,49 +45,34 @@ struct Sum {
     above: bool,
 }
 
-// Whether b is at least `least` and at most `most`.
-fn is_within(least: usize, b: u8, most: usize) -> bool
-    ensures { result ≡ within least b most }
-{
-    in_range(least, b as usize, most)
-}
-
+#[tactic(auto, unfolding(crate::specs::Field::class_of, range::specs::Range::within))]
 fn classify(b: u8) -> Class
     ensures { result ≡ class_of b }
 {
-    if is_within(48, b, 57) {
-        return Class::Digit;
-    }
-    if is_within(65, b, 90) {
-        return Class::Letter;
-    }
     match b {
+        b'0'..=b'9' => Class::Digit,
+        b'A'..=b'Z' => Class::Letter,
         b'^' | b'/' => Class::Mark,
         _ => Class::Other,
     }
 }
 
 // What ends a field at `at`.
+#[tactic(auto, unfolding(crate::specs::Field::end_of), using(crate::proofs::Bytes::here, crate::proofs::Bytes::past))]
 pub fn end_at(s: &[u8], at: usize) -> End
     ensures { result ≡ end_of (drop at s.now) at }
 {
-    if s.len() <= at {
-        return End::Missing;
-    }
-    let b = s[at];
-    if b == b',' {
-        return End::Past(Cursor {
+    match s.get(at) {
+        Some(b',') => End::Past(Cursor {
             at: at + 1,
             ended: false,
-        });
-    }
-    if b == b'\n' {
-        return End::Past(Cursor {
+        }),
+        Some(b'\n') => End::Past(Cursor {
             at: at + 1,
             ended: true,
-        });
+        }),
+        _ => End::Missing,
     }
-    End::Missing
 }
 
 // Whether v with the digit d behind it is at most 65,535, which is 6,553 with a 5 behind it.
@@ -98,32 +80,28 @@ fn fits(v: u16, d: u16) -> bool
     requires { d ≤ 9 }
     ensures { result ≡ leb (v * 10 + d) 65535 }
 {
-    if v < 6553 {
-        return true;
-    }
-    if 6553 < v {
-        return false;
-    }
-    d <= 5
+    v < 6553 || v == 6553 && d <= 5
 }
 
 // A number with one digit more. Above 65,535 no digit fits, so it stays above.
+#[tactic(auto, unfolding(crate::specs::Field::add_digit))]
 fn add_digit(n: Sum, b: u8) -> Sum
     requires saturated { Saturated n }
     requires le_b { (48 ≤ b) × (b ≤ 57) }
     ensures { Saturated result × (summed result ≡ add_digit (summed n) b) }
 {
     let v = n.value;
-    let d = (b - 48) as u16;
+    let d = (b - b'0') as u16;
     if fits(v, d) {
-        return Sum {
+        Sum {
             value: v * 10 + d,
             above: false,
-        };
-    }
-    Sum {
-        value: 65535,
-        above: true,
+        }
+    } else {
+        Sum {
+            value: 65535,
+            above: true,
+        }
     }
 }
 
@@ -134,25 +112,24 @@ fn number(n: Sum, e: End) -> Field
         return Field::Broken;
     };
     if n.above {
-        return Field::Number(65536, c);
+        Field::Number(65536, c)
+    } else {
+        Field::Number(n.value as usize, c)
     }
-    Field::Number(n.value as usize, c)
 }
 
 // A number of which `first` is read, from `at` on.
+#[tactic(auto, using(crate::proofs::NumberLaws::one_more, crate::proofs::NumberLaws::no_more, crate::proofs::NumberLaws::none_left))]
 fn digits(s: &[u8], at: usize, first: Sum) -> Field
     requires { Saturated first }
     ensures { result ≡ digits_from (drop at s.now) at (summed first) }
 {
     let mut n = first;
-    let mut i = at;
-    while i < s.len() {
-        let b = s[i];
-        if !is_within(48, b, 57) {
-            return number(n, end_at(s, i));
+    for i in at..s.len() {
+        match s[i] {
+            b @ b'0'..=b'9' => n = add_digit(n, b),
+            _ => return number(n, end_at(s, i)),
         }
-        n = add_digit(n, b);
-        i += 1;
     }
     Field::Broken
 }
@@ -174,24 +151,21 @@ fn single(b: u8, e: End) -> Field
 
 // The field at a cursor. Past the line's LF there is none. Small enough to be compiled into the loops over fields: with a few
 // instructions more it is called there, and reading takes half as long again (docs/BENCHMARKS.md).
+#[tactic(auto, using(crate::proofs::FieldLaws::line_over, crate::proofs::FieldLaws::book_over, crate::proofs::FieldLaws::by_digits, crate::proofs::FieldLaws::by_single))]
 pub fn read_field(s: &[u8], c: Cursor) -> Field
     ensures { result ≡ field_at s.now c }
 {
-    let at = c.at;
-    let ended = c.ended;
-    if ended {
+    if c.ended || s.len() <= c.at {
         return Field::Broken;
     }
-    if s.len() <= at {
-        return Field::Broken;
+    match s[c.at] {
+        b @ b'1'..=b'9' => {
+            let first = Sum {
+                value: (b - b'0') as u16,
+                above: false,
+            };
+            digits(s, c.at + 1, first)
+        }
+        b => single(b, end_at(s, c.at + 1)),
     }
-    let b = s[at];
-    if is_within(49, b, 57) {
-        let first = Sum {
-            value: (b - 48) as u16,
-            above: false,
-        };
-        return digits(s, at + 1, first);
-    }
-    single(b, end_at(s, at + 1))
 }
