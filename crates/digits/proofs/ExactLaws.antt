@@ -9,7 +9,7 @@ use Rattle.text.specs.declared.Class.{Class}
 use Rattle.text.specs.declared.Class.TheVariants as class
 use Rattle.text.specs.Field.{class_of, on_digit}
 use Rattle.text.proofs.Bytes.{here, past}
-use Rattle.text.proofs.ClassLaws.{class_digit, digit_range, no_digit}
+use Rattle.text.proofs.ClassLaws.{digit_range}
 use Rattle.digits.specs.Exact.{exact_from}
 use Rattle.digits.specs.Compare.{digit_of, digit_at}
 
@@ -29,15 +29,6 @@ module _ (s : List ℕ) (i : ℕ) where
   pub digit_past : length s ≤ i → digit_at s i ≡ 10
   unfolding digit_at
   digit_past h = simp (past s i h)
-
-  module _ (h : i < length s) where
-    pub digit_none : (48 ≤ get_or s i 0 → get_or s i 0 ≤ 57 → ⊥) → digit_at s i ≡ 10
-    unfolding digit_at
-    digit_none f = rw (here s i h) (no_digit (get_or s i 0) f (get_or s i 0 - 48) 10)
-
-    pub digit_here : 48 ≤ get_or s i 0 → get_or s i 0 ≤ 57 → digit_at s i ≡ get_or s i 0 - 48
-    unfolding digit_at
-    digit_here a b = simp (here s i h, class_digit (get_or s i 0) a b)
 
   -- a digit stands in the book
   digit_inside : digit_at s i < 10 → i < length s

@@ -1,32 +1,17 @@
 -- Two numbers compared as far as they are read.
 use Prim.Native.Nat.{ℕ, ◌+◌, ◌*◌, ◌≤◌, ◌<◌}
 use mathlib.Core.Path.{◌≡◌, refl, sym, ap, subst, ◌∙◌}
-use mathlib.Core.List.{List, [], ◌∷◌}
-use mathlib.Core.Logic.{⊎_elim}
+use mathlib.Core.List.{List}
 use mathlib.Core.Bool.{Bool, true, false, cond, ◌||◌}
 use native.Mathlib.Omega.{arith}
 use borrow.Author.Tests.{le-ltb, lt-ltb, ltb-true, ltb-false}
-use types.Run.{OneOf}
-use denote.Enum.Declared.{tag_of}
 use lib.Dec.{ltb}
 use lib.ListN.{drop}
 use Rattle.digits.specs.declared.Order.{Order}
 use Rattle.digits.specs.declared.Order.TheVariants as order
 use Rattle.digits.specs.Exact.{exact_from, exact_at}
 use Rattle.digits.specs.Compare.{digit_at, order_with, is_less, ends_below}
-use Rattle.digits.specs.contracts.Order.{the_type}
 use Rattle.digits.proofs.ExactLaws.{exact_grows, exact_more, exact_ended}
-
--- ---- the arms of `let .. else` on an order
-pub not_equal : (o : Order) (x y : ℕ) → OneOf (0 ∷ 2 ∷ []) (tag_of the_type o) → o ≡ order_with o x y
-not_equal order.Less x y h = refl
-not_equal order.Equal x y h = absurd (⊎_elim (λ e. omega arith) (λ e. omega arith) h)
-not_equal order.Greater x y h = refl
-
-pub not_less : (o : Order) → OneOf (1 ∷ 2 ∷ []) (tag_of the_type o) → false ≡ is_less o
-not_less order.Less h = absurd (⊎_elim (λ e. omega arith) (λ e. omega arith) h)
-not_less order.Equal h = refl
-not_less order.Greater h = refl
 
 -- ---- u stands to w as o says
 abbrev pub Compares : Order → ℕ → ℕ → Type 0
