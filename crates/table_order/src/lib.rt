@@ -11,15 +11,10 @@ fn is_below(last: &[usize], numbers: &[usize]) -> bool
     requires { length last.now ≤ length numbers.now }
     ensures { result ≡ below last.now numbers.now }
 {
-    let mut k = 0;
-    while k < last.len() {
-        if last[k] < numbers[k] {
-            return true;
+    for (x, y) in last.iter().zip(numbers) {
+        if x != y {
+            return x < y;
         }
-        if last[k] != numbers[k] {
-            return false;
-        }
-        k += 1;
     }
     false
 }
@@ -29,8 +24,5 @@ pub fn is_after(lines: usize, last: &[usize], numbers: &[usize]) -> bool
     requires { length last.now ≤ length numbers.now }
     ensures { result ≡ is_after lines last.now numbers.now }
 {
-    if lines == 0 {
-        return true;
-    }
-    is_below(last, numbers)
+    lines == 0 || is_below(last, numbers)
 }
