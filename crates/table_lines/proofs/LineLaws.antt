@@ -8,7 +8,7 @@ use lib.ListN.{length, set, drop}
 use lib.Seq.{sets}
 use Rattle.text.specs.declared.Cursor.{Cursor}
 use Rattle.text.specs.declared.Field.TheVariants as field
-use Rattle.text.specs.Field.{field_at, on_number, on_letter}
+use Rattle.text.specs.Field.{field_at, on_number}
 use Rattle.digits.specs.Exact.{exact_at}
 use Rattle.digits.specs.Compare.{Leads}
 use Rattle.digits.proofs.CapLaws.{field_exact, field_leads}
@@ -16,7 +16,7 @@ use Rattle.items.proofs.StoreLaws.{sets_snoc}
 use Rattle.table_lines.specs.declared.Tally.{Tally}
 use Rattle.table_lines.specs.declared.Line.{Line}
 use Rattle.table_lines.specs.declared.Line.TheVariants as line
-use Rattle.table_lines.specs.Line.{TextLine, whole, broken, numbers_from, line_at, rising, cap, caps, Stores}
+use Rattle.table_lines.specs.Line.{TextLine, whole, broken, numbers_from, rising, cap, caps, Stores}
 use Rattle.table_lines.specs.Tally.{last_from, keeps_rising, add_number, tally, line_of}
 use Rattle.table_lines.proofs.CapLaws.{caps-length, caps_snoc}
 use Rattle.table_lines.proofs.TallyLaws.{tally_snoc, count_is, keeps_is, last_snoc, caps_last}
@@ -111,14 +111,3 @@ module _ {all : TextLine} {s : List ℕ} {letter : ℕ} {m₀ : List ℕ} {k : �
         go : (j : ℕ) → all ≡ numbers_from j s letter c g.numbers → 0 < j → all ≡ numbers_from (j - 1) s letter d (g.numbers ++ exact_at s c.at ∷ [])
         go zero e h = absurd (omega arith)
         go (suc j) e h = e ∙ simp (q, f, one_less j)
-
--- ---- a whole line
-module _ (s : List ℕ) (at : ℕ) (m₀ m : List ℕ) where
-  pub line_none : ((x : ℕ → Cursor → TextLine) (y : TextLine) → on_letter (field_at s (record { at = at; ended = false })) x y ≡ y) → Answers (line_at s at) line.Broken m₀ m
-  unfolding line_at
-  line_none o = answers {all = line_at s at} broken line.Broken m₀ m (simp o) (refl, tt)
-
-  pub line_letter : {letter : ℕ} {c : Cursor} {r : Line} → field_at s (record { at = at; ended = false }) ≡ field.Letter letter c
-      → Answers (numbers_from (length s) s letter c []) r m₀ m → Answers (line_at s at) r m₀ m
-  unfolding line_at
-  line_letter {letter} {c} {r} e a = answers {all = line_at s at} (numbers_from (length s) s letter c []) r m₀ m (simp e) a

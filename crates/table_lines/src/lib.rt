@@ -2,7 +2,7 @@
 // Inner: for the readers of blocks and of letters books.
 #![tactic(auto)]
 
-ghost use Rattle.std.specs.Prelude.{◌≡◌, ◌≤◌, ◌<◌, max, length, set};
+ghost use Rattle.std.specs.Prelude.{◌≡◌, ◌≤◌, ◌<◌, length, set};
 ghost use Rattle.digits.specs.Exact.{exact_at};
 ghost use Rattle.digits.specs.Compare.{Leads};
 ghost use Rattle.table_lines.specs.Line.{line_at, numbers_from, cap, Stores};
@@ -51,44 +51,25 @@ pub enum Block {
     Refused(Refusal),
 }
 
-fn larger(a: usize, b: usize) -> usize
-    ensures { result ≡ max a b }
-{
-    if a < b {
-        return b;
-    }
-    a
-}
-
 // Whether the numbers from the fourth on still rise with the number at `at`, kept as v, where the last stands at
 // `prior`. Digits are compared only where both are above 65,535.
+#[tactic(auto, unfolding(crate::specs::Tally::keeps_rising))]
 fn keeps_rising(s: &[u8], p: Tally, prior: usize, at: usize, v: usize) -> bool
     requires last_value { (4 ≤ p.count → p.last ≡ cap (exact_at s.now prior)) × (v ≡ cap (exact_at s.now at)) }
     requires leads { (4 ≤ p.count → Leads s.now prior) × Leads s.now at }
     ensures { result ≡ keeps_rising s.now p prior at }
 {
-    if p.count < 4 {
-        return p.rising;
-    }
-    if p.last < v {
-        return p.rising;
-    }
-    if v < 65536 {
-        return false;
-    }
-    if !digits::is_below(s, prior, at) {
-        return false;
-    }
-    p.rising
+    p.rising && (p.count < 4 || p.last < v || 65536 <= v && digits::is_below(s, prior, at))
 }
 
+#[tactic(auto, unfolding(crate::specs::Tally::add_number))]
 fn add_number(p: Tally, v: usize, rising: bool) -> Tally
     requires { p.count < 65536 }
     ensures { result ≡ add_number p v rising }
 {
     Tally {
         count: p.count + 1,
-        largest: larger(p.largest, v),
+        largest: p.largest.max(v),
         last: v,
         rising,
     }
@@ -127,17 +108,14 @@ fn read_numbers(s: &[u8], letter: u8, first: Cursor, numbers: &mut [usize]) -> L
         last: 0,
         rising: true,
     };
-    let mut left = s.len();
-    while 0 < left {
-        let ended = c.ended;
-        if ended {
+    for k in 0..s.len() {
+        if c.ended {
             return Line::Whole(letter, p, c.at);
         }
-        left -= 1;
         let Field::Number(v, d) = text::read_field(s, c) else {
             return Line::Broken;
         };
-        store_number(numbers, p.count, v);
+        store_number(numbers, k, v);
         let rising = keeps_rising(s, p, prior, c.at, v);
         p = add_number(p, v, rising);
         prior = c.at;
@@ -148,6 +126,7 @@ fn read_numbers(s: &[u8], letter: u8, first: Cursor, numbers: &mut [usize]) -> L
 
 // The line at `at`. Its numbers are stored in `numbers`, as many as there is room for. A broken line leaves `numbers` free: a local
 // of the readers, not read then.
+#[tactic(auto, unfolding(crate::specs::Line::line_at))]
 pub fn read_line(s: &[u8], at: usize, numbers: &mut [usize]) -> Line
     requires { length s.now < 65537 }
     ensures value { result ≡ line_of (line_at s.now at) }
