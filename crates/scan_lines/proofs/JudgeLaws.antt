@@ -1,11 +1,11 @@
 -- What a line gives, by the tests that it meets; and what a token tells of its line.
-use Prim.Native.Nat.{ℕ, ◌<◌, ◌≤◌}
+use Prim.Native.Nat.{ℕ, ◌≤◌}
 use mathlib.Core.Path.{◌≡◌, refl, sym, ap}
 use mathlib.Core.List.{List}
 use mathlib.Core.Option.{Option}
 use mathlib.Core.Bool.{Bool, true, false, cond, ◌&&◌}
 use native.Mathlib.Omega.{arith}
-use borrow.Author.Tests.{lt-ltb, le-ltb, ltb-false, ne_eqb, eqb-false}
+use borrow.Author.Tests.{le-ltb, ltb-false, ne_eqb, eqb-false}
 use lib.Dec.{ltb, eqb}
 use Rattle.reply.specs.declared.Kind.TheVariants as kind
 use Rattle.scan_lines.specs.declared.Judged.TheVariants as judged
@@ -13,10 +13,6 @@ use Rattle.scan_lines.specs.Tokens.{Scan, code_of, repeats, differs, judge}
 
 -- ---- by the tests
 module _ (letters : List ℕ) (before : Option Scan) (x : Scan) where
-  pub too_high : 65535 < x.sequence → judge letters before x ≡ judged.Refused kind.LimitExceeded
-  unfolding judge
-  too_high h = simp (lt-ltb _ _ h)
-
   module _ (low : x.sequence ≤ 65535) where
     pub conflicting : repeats before x && differs before x ≡ true → judge letters before x ≡ judged.Refused kind.ConflictingRepeat
     unfolding judge

@@ -2,7 +2,7 @@
 // Inner: for `scans`.
 #![tactic(auto)]
 
-ghost use Rattle.std.specs.Prelude.{◌≡◌, true, List, ℕ, ◌<◌, drop};
+ghost use Rattle.std.specs.Prelude.{◌≡◌, true, List, ℕ, drop};
 ghost use Rattle.scan_lines.specs.Line.{text_byte, text_end, text_from, line_at, scan_of};
 ghost use Rattle.scan_lines.specs.Tokens.{code_of, repeats, differs, judge};
 ghost use Rattle.scan_lines.specs.Within.{before_of, text_of, Within, WithinFile};
@@ -53,55 +53,43 @@ const REPEAT: u8 = 4;
 // The highest sequence number.
 const LAST: usize = 65535;
 
+#[tactic(auto, unfolding(crate::specs::Line::text_byte))]
 fn text_byte(b: u8) -> bool
     ensures { result ≡ text_byte b }
 {
-    if b < 33 {
-        return false;
-    }
-    if 126 < b {
-        return false;
-    }
-    if b == b',' {
-        return false;
-    }
-    true
+    matches!(b, b'!'..=b'~') && b != b','
 }
 
 // A text of n bytes, whose LF is at `at`.
+#[tactic(auto, unfolding(crate::specs::Line::text_end))]
 fn end_text(at: usize, n: usize) -> Text
     ensures { result ≡ text_end at n }
 {
-    if n < 1 {
-        return Text::Broken;
+    match n {
+        1..=30 => Text::Until(at),
+        _ => Text::Broken,
     }
-    if 30 < n {
-        return Text::Broken;
-    }
-    Text::Until(at)
 }
 
 // The text that begins at `at`.
+#[tactic(auto, using(crate::proofs::TextLaws::text_over, crate::proofs::TextLaws::text_end_lem, crate::proofs::TextLaws::text_more, crate::proofs::TextLaws::text_broken))]
 fn read_text(file: &[u8], at: usize) -> Text
     ensures { result ≡ text_from (drop at file.now) at 0 }
 {
-    let mut i = at;
-    let mut n = 0;
-    while i < file.len() {
+    for i in at..file.len() {
         let b = file[i];
         if b == b'\n' {
-            return end_text(i, n);
+            return end_text(i, i - at);
         }
         if !text_byte(b) {
             return Text::Broken;
         }
-        i += 1;
-        n += 1;
     }
     Text::Broken
 }
 
 // The line that begins at `at`.
+#[tactic(auto, unfolding(crate::specs::Line::line_at, crate::specs::Line::line_after))]
 pub fn read_line(file: &[u8], at: usize) -> Parsed
     ensures { result ≡ line_at file.now at }
 {
@@ -125,23 +113,15 @@ pub fn read_line(file: &[u8], at: usize) -> Parsed
     })
 }
 
-fn wide(b: u8) -> usize
-    ensures { (result ≡ b) × (result < 256) }
-{
-    b as usize
-}
-
 // The code of a letter, 0 where it has none.
+#[tactic(auto, unfolding(crate::specs::Tokens::code_of))]
 fn code_of(letters: &[u8; 26], letter: u8) -> u8
     ensures { result ≡ code_of letters.now letter }
 {
-    if letter < b'A' {
-        return 0;
+    match letter {
+        b'A'..=b'Z' => letters[(letter - b'A') as usize],
+        _ => 0,
     }
-    if b'Z' < letter {
-        return 0;
-    }
-    letters[wide(letter) - 65]
 }
 
 // Whether two lines have the same text.
@@ -151,11 +131,7 @@ fn same_text(file: &[u8], a: Line, b: Line) -> bool
     ensures same { result ≡ true → text_of file.now a ≡ text_of file.now b }
     ensures told { text_of file.now a ≡ text_of file.now b → result ≡ true }
 {
-    let from = a.text;
-    let to = a.end;
-    let text = b.text;
-    let end = b.end;
-    check::same(&file[from..to], &file[text..end])
+    &file[a.text..a.end] == &file[b.text..b.end]
 }
 
 // Whether a line has another letter or text than the line before it.
@@ -164,26 +140,24 @@ fn differs_from(file: &[u8], previous: Previous, line: Line) -> bool
     requires within { Within file.now line }
     ensures { result ≡ differs (before_of file.now previous) (scan_of file.now line) }
 {
-    let Previous::Line(before) = previous else {
-        return false;
-    };
-    if before.letter != line.letter {
-        return true;
+    match previous {
+        Previous::Nothing => false,
+        Previous::Line(before) => before.letter != line.letter || !same_text(file, before, line),
     }
-    !same_text(file, before, line)
 }
 
 // Whether a line has the sequence of the line before it; in whatever file they stand.
 fn repeats_line(previous: Previous, line: Line) -> bool
     ensures { (s : List ℕ) → result ≡ repeats (before_of s previous) (scan_of s line) }
 {
-    let Previous::Line(before) = previous else {
-        return false;
-    };
-    before.sequence == line.sequence
+    match previous {
+        Previous::Nothing => false,
+        Previous::Line(before) => before.sequence == line.sequence,
+    }
 }
 
 // The token of a line, or why it is refused.
+#[tactic(auto, unfolding(crate::specs::Tokens::judge))]
 pub fn judge_line(letters: &[u8; 26], file: &[u8], previous: Previous, line: Line) -> Judged
     requires within_file { WithinFile file.now previous }
     requires within { Within file.now line }
@@ -193,17 +167,12 @@ pub fn judge_line(letters: &[u8; 26], file: &[u8], previous: Previous, line: Lin
         return Judged::Refused(Kind::LimitExceeded);
     }
     let repeats = repeats_line(previous, line);
-    if repeats {
-        if differs_from(file, previous, line) {
-            return Judged::Refused(Kind::ConflictingRepeat);
-        }
+    if repeats && differs_from(file, previous, line) {
+        return Judged::Refused(Kind::ConflictingRepeat);
     }
-    let code = code_of(letters, line.letter);
-    if code == 0 {
-        return Judged::Refused(Kind::Undeclared);
+    match code_of(letters, line.letter) {
+        0 => Judged::Refused(Kind::Undeclared),
+        _ if repeats => Judged::Token(REPEAT),
+        code => Judged::Token(code),
     }
-    if repeats {
-        return Judged::Token(REPEAT);
-    }
-    Judged::Token(code)
 }
