@@ -33,19 +33,11 @@ fn refuse(kind: Kind) -> HeaderLine
 }
 
 // The figures of a line that has its form.
+#[tactic(auto, unfolding(crate::specs::Header::figures_of))]
 fn check_figures(t: usize, n: usize, rules: usize, goal: usize, next: usize) -> HeaderLine
     ensures { result ≡ figures_of t n rules goal next }
 {
-    if !in_range(1, t, 63) {
-        return refuse(Kind::LimitExceeded);
-    }
-    if !in_range(1, n, 64) {
-        return refuse(Kind::LimitExceeded);
-    }
-    if !in_range(1, rules, 127) {
-        return refuse(Kind::LimitExceeded);
-    }
-    if 65535 < goal {
+    if !in_range(1, t, 63) || !in_range(1, n, 64) || !in_range(1, rules, 127) || 65535 < goal {
         return refuse(Kind::LimitExceeded);
     }
     let start = Symbol { code: goal };
@@ -62,21 +54,17 @@ fn check_figures(t: usize, n: usize, rules: usize, goal: usize, next: usize) -> 
 }
 
 // The header line, which a book begins with.
+#[tactic(auto, unfolding(crate::specs::Header::header_of))]
 pub fn read_header(s: &[u8]) -> HeaderLine
     ensures { result ≡ header_of s.now }
 {
-    let Field::Letter(letter, c0) = read_field(
-        s,
-        Cursor {
-            at: 0,
-            ended: false,
-        },
-    ) else {
+    let begin = Cursor {
+        at: 0,
+        ended: false,
+    };
+    let Field::Letter(b'G', c0) = read_field(s, begin) else {
         return refuse(Kind::Malformed);
     };
-    if letter != b'G' {
-        return refuse(Kind::Malformed);
-    }
     let Field::Number(t, c1) = read_field(s, c0) else {
         return refuse(Kind::Malformed);
     };
@@ -89,8 +77,7 @@ pub fn read_header(s: &[u8]) -> HeaderLine
     let Field::Number(goal, c4) = read_field(s, c3) else {
         return refuse(Kind::Malformed);
     };
-    let ended = c4.ended;
-    if !ended {
+    if !c4.ended {
         return refuse(Kind::Malformed);
     }
     check_figures(t, n, rules, goal, c4.at)
