@@ -1,6 +1,5 @@
 pub mod SeenLaws
 pub mod TrackLaws
-pub mod JudgeLaws
 pub mod KeepLaws
 pub mod ReadLaws
 pub mod LineLaws

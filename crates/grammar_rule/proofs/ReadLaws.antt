@@ -1,19 +1,15 @@
 -- How the reading of a right side goes on, field by field.
 use Prim.Native.Nat.{ℕ, zero, suc, ◌+◌, ◌≤◌, ◌<◌}
 use mathlib.Core.Path.{◌≡◌, refl, sym, ap, subst, ◌∙◌}
-use mathlib.Core.Logic.{⊎_elim}
 use mathlib.Core.List.{List, [], ◌∷◌, ◌++◌, append-nil}
 use mathlib.Core.Bool.{true, false}
 use native.Mathlib.Omega.{arith}
-use types.Run.{OneOf}
-use denote.Enum.Declared.{tag_of}
 use lib.ListN.{length, length-append}
 use lib.Seq.{append_snoc}
 use Rattle.text.specs.declared.Cursor.{Cursor}
 use Rattle.text.specs.declared.Field.{Field}
 use Rattle.text.specs.declared.Field.TheVariants as field
 use Rattle.text.specs.Field.{field_at}
-use Rattle.text.specs.contracts.Field.{the_type}
 use Rattle.text.proofs.OnwardLaws.{Between, onward}
 use Rattle.grammar_rule.specs.declared.Progress.{Progress}
 use Rattle.grammar_rule.specs.declared.Parts.TheVariants as out
@@ -49,15 +45,15 @@ module _ (k : ℕ) (s : List ℕ) (c : Cursor) where
     parts_mark b d f = simp (e, f)
 
     -- neither mark nor number
-    parts_broken : {f : Field} → f ≡ field_at s c → OneOf (0 ∷ 2 ∷ 3 ∷ []) (tag_of the_type f) → OneOf (1 ∷ 2 ∷ 3 ∷ []) (tag_of the_type f)
+    parts_broken : {f : Field} → f ≡ field_at s c → ((b : ℕ) (d : Cursor) → f ≡ field.Mark b d → ⊥) → ((v : ℕ) (d : Cursor) → f ≡ field.Number v d → ⊥)
         → parts_from (suc k) s c ≡ broken
     unfolding parts_from
     parts_broken {f} q m o = go f q m o
       where
-        go : (f : Field) → f ≡ field_at s c → OneOf (0 ∷ 2 ∷ 3 ∷ []) (tag_of the_type f) → OneOf (1 ∷ 2 ∷ 3 ∷ []) (tag_of the_type f)
+        go : (f : Field) → f ≡ field_at s c → ((b : ℕ) (d : Cursor) → f ≡ field.Mark b d → ⊥) → ((v : ℕ) (d : Cursor) → f ≡ field.Number v d → ⊥)
             → parts_from (suc k) s c ≡ broken
-        go (field.Number v d) q m o = absurd (⊎_elim (λ e. omega arith) (λ p. ⊎_elim (λ e. omega arith) (λ e. omega arith) p) o)
-        go (field.Mark b d) q m o = absurd (⊎_elim (λ e. omega arith) (λ p. ⊎_elim (λ e. omega arith) (λ e. omega arith) p) m)
+        go (field.Number v d) q m o = absurd (o v d refl)
+        go (field.Mark b d) q m o = absurd (m b d refl)
         go (field.Letter b d) q m o = simp (e, sym q)
         go field.Broken q m o = simp (e, sym q)
 
@@ -149,8 +145,8 @@ module _ (s : List ℕ) (t n : ℕ) (first : Cursor) (m₀ : List ℕ) (base : �
           subst (λ (x : Rest). Filled t n x m₀ base m) (sym q) (record { filled = r.kept }),
         )
 
-    pub reading_broken : c.ended ≡ false → {f : Field} → f ≡ field_at s c → OneOf (0 ∷ 2 ∷ 3 ∷ []) (tag_of the_type f)
-        → OneOf (1 ∷ 2 ∷ 3 ∷ []) (tag_of the_type f) → Answers t n (parts_at s first) out.Broken × Filled t n (parts_at s first) m₀ base m
+    pub reading_broken : c.ended ≡ false → {f : Field} → f ≡ field_at s c → ((b : ℕ) (d : Cursor) → f ≡ field.Mark b d → ⊥)
+        → ((v : ℕ) (d : Cursor) → f ≡ field.Number v d → ⊥) → Answers t n (parts_at s first) out.Broken × Filled t n (parts_at s first) m₀ base m
     reading_broken e f x y =
         let q : parts_at s first ≡ broken = r.same ∙ ap (after r.passed) (parts_broken r.fuel s c e f x y) in
         (subst (λ (x : Rest). Answers t n x out.Broken) (sym q) tt, subst (λ (x : Rest). Filled t n x m₀ base m) (sym q) (record { filled = tt }))

@@ -53,9 +53,7 @@ fn after_symbol(stage: Stage) -> Stage
 {
     match stage {
         Stage::Before => Stage::Before,
-        Stage::AtCaret => Stage::InGroup,
-        Stage::InGroup => Stage::InGroup,
-        Stage::AtCut => Stage::InGroup,
+        Stage::AtCaret | Stage::InGroup | Stage::AtCut => Stage::InGroup,
         Stage::Misplaced => Stage::Misplaced,
     }
 }
@@ -66,10 +64,7 @@ fn after_caret(stage: Stage) -> Stage
 {
     match stage {
         Stage::Before => Stage::AtCaret,
-        Stage::AtCaret => Stage::Misplaced,
-        Stage::InGroup => Stage::Misplaced,
-        Stage::AtCut => Stage::Misplaced,
-        Stage::Misplaced => Stage::Misplaced,
+        _ => Stage::Misplaced,
     }
 }
 
@@ -78,11 +73,8 @@ fn after_cut(stage: Stage) -> Stage
     ensures { result ≡ after_cut stage }
 {
     match stage {
-        Stage::Before => Stage::Misplaced,
-        Stage::AtCaret => Stage::Misplaced,
         Stage::InGroup => Stage::AtCut,
-        Stage::AtCut => Stage::Misplaced,
-        Stage::Misplaced => Stage::Misplaced,
+        _ => Stage::Misplaced,
     }
 }
 
@@ -90,54 +82,43 @@ fn after_mark(stage: Stage, b: u8) -> Stage
     ensures { result ≡ after_mark stage b }
 {
     if b == b'^' {
-        return after_caret(stage);
+        after_caret(stage)
+    } else {
+        after_cut(stage)
     }
-    after_cut(stage)
 }
 
 // `^` has come, and the last part is no cut.
 fn is_placed(stage: Stage) -> bool
     ensures { result ≡ placed stage }
 {
-    match stage {
-        Stage::Before => false,
-        Stage::AtCaret => true,
-        Stage::InGroup => true,
-        Stage::AtCut => false,
-        Stage::Misplaced => false,
-    }
+    matches!(stage, Stage::AtCaret | Stage::InGroup)
 }
 
 fn over_with(over: bool, v: usize) -> bool
     ensures { result ≡ over_with over v }
 {
-    if over {
-        return true;
-    }
-    65535 < v
+    over || 65535 < v
 }
 
 fn undeclared_with(seen: bool, t: usize, n: usize, v: usize) -> bool
     ensures { result ≡ undeclared_with seen t n v }
 {
-    if seen {
-        return true;
-    }
     let x = Symbol { code: v };
-    !x.is_declared(t, n)
+    seen || !x.is_declared(t, n)
 }
 
+#[tactic(auto, unfolding(crate::specs::Progress::add_symbol))]
 fn add_symbol(t: usize, n: usize, p: Progress, v: usize) -> Progress
     requires { p.count < 65536 }
     ensures { result ≡ add_symbol t n p v }
 {
-    let stage = p.stage;
     Progress {
         count: p.count + 1,
-        point: p.point,
-        stage: after_symbol(stage),
+        stage: after_symbol(p.stage),
         over: over_with(p.over, v),
         undeclared: undeclared_with(p.undeclared, t, n, v),
+        ..p
     }
 }
 
@@ -145,22 +126,17 @@ fn add_symbol(t: usize, n: usize, p: Progress, v: usize) -> Progress
 fn point_at(b: u8, count: usize, point: usize) -> usize
     ensures { result ≡ point_at b count point }
 {
-    if b == b'^' {
-        return count;
-    }
-    point
+    if b == b'^' { count } else { point }
 }
 
+#[tactic(auto, unfolding(crate::specs::Progress::add_mark))]
 fn add_mark(p: Progress, b: u8) -> Progress
     ensures { result ≡ add_mark p b }
 {
-    let stage = p.stage;
     Progress {
-        count: p.count,
         point: point_at(b, p.count, p.point),
-        stage: after_mark(stage, b),
-        over: p.over,
-        undeclared: p.undeclared,
+        stage: after_mark(p.stage, b),
+        ..p
     }
 }
 
@@ -173,26 +149,20 @@ fn low_byte(x: usize) -> u8
 fn begins_group(stage: Stage) -> bool
     ensures { result ≡ begins stage }
 {
-    match stage {
-        Stage::Before => false,
-        Stage::AtCaret => true,
-        Stage::InGroup => false,
-        Stage::AtCut => true,
-        Stage::Misplaced => false,
-    }
+    matches!(stage, Stage::AtCaret | Stage::AtCut)
 }
 
 // Stores the symbol after `count` others, and that it begins a group where it does.
+#[tactic(auto, unfolding(crate::specs::Memory::with_symbol))]
 fn store_symbol(m: &mut [u8], base: usize, count: usize, stage: Stage, v: usize)
     requires { base + 64 ≤ length m.old }
     ensures { m.new ≡ with_symbol m.old base count stage v }
 {
-    if 15 <= count {
-        return;
-    }
-    m[base + 16 + count] = low_byte(v);
-    if begins_group(stage) {
-        m[base + 32 + count] = 1;
+    if count < 15 {
+        m[base + 16 + count] = low_byte(v);
+        if begins_group(stage) {
+            m[base + 32 + count] = 1;
+        }
     }
 }
 
@@ -212,25 +182,21 @@ fn read_parts(s: &[u8], first: Cursor, t: usize, n: usize, m: &mut [u8], base: u
         over: false,
         undeclared: false,
     };
-    loop {
-        let ended = c.ended;
-        if ended {
-            return Parts::Complete(p, c.at);
+    while !c.ended {
+        match read_field(s, c) {
+            Field::Mark(b, d) => {
+                p = add_mark(p, b);
+                c = d;
+            }
+            Field::Number(v, d) => {
+                store_symbol(m, base, p.count, p.stage, v);
+                p = add_symbol(t, n, p, v);
+                c = d;
+            }
+            _ => return Parts::Broken,
         }
-        let field = read_field(s, c);
-        if let Field::Mark(b, d) = field {
-            p = add_mark(p, b);
-            c = d;
-            continue;
-        }
-        let Field::Number(v, d) = field else {
-            return Parts::Broken;
-        };
-        let stage = p.stage;
-        store_symbol(m, base, p.count, stage, v);
-        p = add_symbol(t, n, p, v);
-        c = d;
     }
+    Parts::Complete(p, c.at)
 }
 
 fn refuse(kind: Kind, place: usize) -> RuleLine
@@ -240,30 +206,18 @@ fn refuse(kind: Kind, place: usize) -> RuleLine
 }
 
 // The line at `at` that ends before `next`, by its left side and its right side's progress.
+#[tactic(auto, unfolding(crate::specs::Progress::judged))]
 fn judge(at: usize, n: usize, left: usize, p: Progress, next: usize) -> RuleLine
     ensures { result ≡ judged at n left p next }
 {
-    if 65535 < left {
-        return refuse(Kind::LimitExceeded, at);
-    }
-    let over = p.over;
-    if over {
-        return refuse(Kind::LimitExceeded, at);
-    }
-    let count = p.count;
-    if 15 < count {
+    if 65535 < left || p.over || 15 < p.count {
         return refuse(Kind::LimitExceeded, at);
     }
     let x = Symbol { code: left };
-    if !x.is_nonterminal(n) {
+    if !x.is_nonterminal(n) || p.undeclared {
         return refuse(Kind::Undeclared, at);
     }
-    let undeclared = p.undeclared;
-    if undeclared {
-        return refuse(Kind::Undeclared, at);
-    }
-    let stage = p.stage;
-    if !is_placed(stage) {
+    if !is_placed(p.stage) {
         return refuse(Kind::MisplacedMark, at);
     }
     RuleLine::Read(next)
@@ -283,19 +237,13 @@ fn store_figures(m: &mut [u8], base: usize, left: usize, p: Progress, unit: u8)
 fn is_rule(letter: u8) -> bool
     ensures { result ≡ is_rule letter }
 {
-    if letter == b'R' {
-        return true;
-    }
-    letter == b'U'
+    matches!(letter, b'R' | b'U')
 }
 
 fn unit_flag(letter: u8) -> u8
     ensures { result ≡ unit_of (eqb letter 85) }
 {
-    if letter == b'U' {
-        return 1;
-    }
-    0
+    if letter == b'U' { 1 } else { 0 }
 }
 
 // The rule line at `at` of a grammar of t terminals and n nonterminals, read into the empty row at `base`. A refusal leaves the
@@ -316,8 +264,7 @@ pub fn read_rule(s: &[u8], at: usize, t: usize, n: usize, m: &mut [u8], base: us
     let Field::Number(left, d) = read_field(s, c) else {
         return refuse(Kind::Malformed, at);
     };
-    let right = read_parts(s, d, t, n, m, base);
-    let Parts::Complete(p, end) = right else {
+    let Parts::Complete(p, end) = read_parts(s, d, t, n, m, base) else {
         return refuse(Kind::Malformed, at);
     };
     match judge(at, n, left, p, end) {

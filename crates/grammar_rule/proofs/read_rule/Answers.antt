@@ -28,13 +28,13 @@ returns-in_default-read_field c =
     (opened c.in_default-read_field.in_default-read_field-own.keys2))
     c.refuse-in_default-read_field.ensures)
 
-pub returns-in_default-right : goal.returns-in_default-right
-returns-in_default-right c =
+pub returns-in_default-read_parts : goal.returns-in_default-read_parts
+returns-in_default-read_parts c =
     by-clause (told _ _ (with_left _ _ _ _ _ _ (sym c.read_field.ensures ∙ c.in-Letter.is)
     (holds c.is_rule.ensures (ap not c.if-not-is_rule.false)) _ _
     (sym c.read_field-2.ensures ∙ c.in-Number.is)
-    ∙ line_broken _ _ _ _ _ _ c.read_parts-right.ensures.answered c.in_default-right.is)
-    c.refuse-in_default-right.ensures)
+    ∙ line_broken _ _ _ _ _ _ c.read_parts.ensures.answered c.in_default-read_parts.is)
+    c.refuse-in_default-read_parts.ensures)
 
 pub store_figures-requires : goal.store_figures-requires
 store_figures-requires c =
@@ -46,8 +46,8 @@ returns-in-Read c =
     (sym c.read_field.ensures ∙ c.in-Letter.is)
     (holds c.is_rule.ensures (ap not c.if-not-is_rule.false)) _ _
     (sym c.read_field-2.ensures ∙ c.in-Number.is))
-    c.read_parts-right.ensures.answered c.in-Complete.is c.judge.ensures
-    c.requires.t_bound.1 c.read_parts-right.ensures.filled
+    c.read_parts.ensures.answered c.in-Complete.is c.judge.ensures
+    c.requires.t_bound.1 c.read_parts.ensures.filled
     c.unit_flag.ensures c.store_figures.ensures c.in-Read.is)
 
 pub returns-in-Refused : goal.returns-in-Refused
@@ -56,5 +56,5 @@ returns-in-Refused c =
     (sym c.read_field.ensures ∙ c.in-Letter.is)
     (holds c.is_rule.ensures (ap not c.if-not-is_rule.false)) _ _
     (sym c.read_field-2.ensures ∙ c.in-Number.is))
-    c.read_parts-right.ensures.answered c.in-Complete.is c.judge.ensures
+    c.read_parts.ensures.answered c.in-Complete.is c.judge.ensures
     c.in-Refused.is)
