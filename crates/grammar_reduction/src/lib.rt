@@ -20,14 +20,10 @@ fn all_flagged(m: &[u8], items: usize, i: usize, flags: &[u8]) -> bool
     requires flags_len { length flags.now ≡ 128 }
     ensures { Decides (AllOn m.now i flags.now) result }
 {
-    let n = items::length_of(m, items, i);
-    let mut k = 0;
-    while k < n {
-        let x = items::symbol_of(m, items, i, k);
-        if flags[x] == 0 {
+    for k in 0..items::length_of(m, items, i) {
+        if flags[items::symbol_of(m, items, i, k)] == 0 {
             return false;
         }
-        k += 1;
     }
     true
 }
@@ -40,19 +36,15 @@ pub fn close_productions(m: &[u8], rules: usize, flags: &mut [u8])
 {
     'passes: loop {
         let mut added: usize = 0;
-        let mut i = 1;
-        'rules: while i <= rules {
+        'rules: for i in 1..rules + 1 {
             let left = items::left_of(m, rules, i);
-            if flags[left] == 0 {
-                if all_flagged(m, rules, i, flags) {
-                    flags[left] = 1;
-                    added += 1;
-                }
+            if flags[left] == 0 && all_flagged(m, rules, i, flags) {
+                flags[left] = 1;
+                added += 1;
             }
-            i += 1;
         }
         if added == 0 {
-            break 'passes;
+            return;
         }
     }
 }
@@ -63,10 +55,8 @@ pub fn flag_terminals(t: usize, flags: &mut [u8])
     requires flags_value { flags.old ≡ replicate 128 0 }
     ensures { Marks (Upto t) flags.new }
 {
-    let mut x = 1;
-    while x <= t {
+    for x in 1..t + 1 {
         flags[x] = 1;
-        x += 1;
     }
 }
 
@@ -94,27 +84,20 @@ fn close_reaching(m: &[u8], rules: usize, flags: &mut [u8])
 {
     'passes: loop {
         let mut reached: usize = 0;
-        let mut i = 1;
-        'rules: while i <= rules {
-            let left = items::left_of(m, rules, i);
-            if flags[left] == 0 {
-                i += 1;
-                continue 'rules;
+        'rules: for i in 1..rules + 1 {
+            if flags[items::left_of(m, rules, i)] == 0 {
+                continue;
             }
-            let n = items::length_of(m, rules, i);
-            let mut k = 0;
-            'symbols: while k < n {
+            'symbols: for k in 0..items::length_of(m, rules, i) {
                 let x = items::symbol_of(m, rules, i, k);
                 if flags[x] == 0 {
                     flags[x] = 1;
                     reached += 1;
                 }
-                k += 1;
             }
-            i += 1;
         }
         if reached == 0 {
-            break 'passes;
+            return;
         }
     }
 }

@@ -1,5 +1,5 @@
 -- Each pass keeps that what is flagged is in the least set; a pass that adds nothing has met every rule.
-use Prim.Native.Nat.{ℕ, ◌+◌, ◌≤◌, ◌<◌, ◌-◌}
+use Prim.Native.Nat.{ℕ, ◌≤◌, ◌<◌}
 use mathlib.Core.Path.{◌≡◌}
 use lib.ListN.{length}
 use Rattle.items.specs.Layout.{left_at}
@@ -11,11 +11,8 @@ use Rattle.grammar_reduction.proofs.close_productions.Given as goal
 
 abbrev pub invariant-rules : goal.invariant-rules
 invariant-rules l =
-    (1 ≤ l.i) × (l.i ≤ l.rules + 1) × Pass 128 (Least (productions_in l.m l.rules) (On l.initial.flags)) l.initial.flags l.flags l.initial.added l.added
+    Pass 128 (Least (productions_in l.m l.rules) (On l.initial.flags)) l.initial.flags l.flags l.initial.added l.added
     (λ fs. (j : ℕ) → 1 ≤ j → j < l.i → AllOn l.m j fs → On fs (left_at l.m j))
-
-abbrev pub decreases-rules : goal.decreases-rules
-decreases-rules l = l.rules + 1 - l.i
 
 abbrev pub invariant-passes : goal.invariant-passes
 invariant-passes l =

@@ -8,7 +8,7 @@ use Rattle.items.specs.Layout.{left_at, length_at, symbol_at}
 use Rattle.fixpoint.specs.Flags.{On}
 use Rattle.fixpoint.specs.Least.{Least, seed, by, Met, least_join, least_marks}
 use Rattle.fixpoint.proofs.CountLaws.{zeros_le}
-use Rattle.fixpoint.proofs.PassLaws.{pass_start, pass_more, pass_add, pass_join, set_on, on_at, not_off, no_gap, from_more}
+use Rattle.fixpoint.proofs.PassLaws.{pass_start, pass_more, pass_add, pass_join, set_on, on_at, no_gap, from_more}
 use Rattle.grammar_reduction.specs.Reaches.{Occurrence, occurs}
 use Rattle.grammar_reduction.specs.InMemory.{reaching_in}
 use Rattle.grammar_reduction.proofs.close_reaching.Invariants.{Through}
@@ -28,80 +28,49 @@ pub passes-init : goal.passes-init
 passes-init c = (c.requires.flags_len, λ y on. seed on, λ y on. on)
 
 pub rules-init : goal.rules-init
-rules-init c = (omega arith, omega arith, pass_start _ c.passes.invariant.0 (λ y on. seed on) (λ _ j l m. absurd (no_gap l m)))
-
-pub bounds-flags-left : goal.bounds-flags-left
-bounds-flags-left c = omega (arith, c.rules.invariant.2.long, c.left_of-left.ensures.1)
-
-pub rules-preserved-then-flags-left-eq0 : goal.rules-preserved-then-flags-left-eq0
-rules-preserved-then-flags-left-eq0 c = (
-  omega arith,
-  omega arith,
-  pass_more _ _ refl refl c.rules.invariant.2
-      (λ d. from_more _ 1 c.rules.i d (λ on. not_off on c.left_of-left.ensures.0 c.if-flags-left-eq0.true)),
-)
+rules-init c = pass_start _ c.passes.invariant.0 (λ y on. seed on) (λ _ j l m. absurd (no_gap l m))
 
 pub symbols-init : goal.symbols-init
-symbols-init c = let p = c.rules.invariant.2 in
-    (omega arith, c.length_of-n.ensures.0, pass_start _ p.long (λ y on. seed on) (λ e. (p.closed e, below_none _)))
-
-pub bounds-flags-x : goal.bounds-flags-x
-bounds-flags-x c = omega (arith, c.symbols.invariant.2.long, c.symbol_of-x.ensures.1)
-
-pub bounds-flags-x-then-flags-x-eq0 : goal.bounds-flags-x-then-flags-x-eq0
-bounds-flags-x-then-flags-x-eq0 c = omega (arith, c.symbols.invariant.2.long, c.symbol_of-x.ensures.1)
+symbols-init c = let p = c.rules.invariant in
+    pass_start _ p.long (λ y on. seed on) (λ e. (p.closed e, below_none _))
 
 pub overflow_add-reached : goal.overflow_add-reached
 overflow_add-reached c =
     omega (
       arith,
-      c.symbols.invariant.2.count,
-      c.rules.invariant.2.count,
+      c.symbols.invariant.count,
+      c.rules.invariant.count,
       zeros_le c.passes.flags,
       c.passes.invariant.0,
     )
 
 pub symbols-preserved : goal.symbols-preserved
 symbols-preserved c =
-    let p = c.symbols.invariant.2 in
+    let p = c.symbols.invariant in
     let k = c.symbols.k in
-    let se = c.symbol_of-x.ensures in (
-      omega arith,
-      c.symbols.invariant.1,
-      elim c.if-flags-x-eq0.branch [
-        | then-flags-x-eq0 w ↦
-            pass_add _ _ c.symbol_of-x.result w.flags-is w.reached-is p se.1 w.if-flags-x-eq0.true
-            (fired c.args.m.now c.args.rules c.rules.i k c.rules.invariant.0
-            (omega arith) (omega arith) c.left_of-left.ensures.0 (set_on c.if-flags-left-eq0.false)
-            se.0)
-        | else-flags-x-eq0 w ↦
-            pass_more _ _ w.flags-is w.reached-is p (λ d. (d.0, below_more _ k d.1 (on_at se.0 (set_on w.if-flags-x-eq0.false))))
-      ],
-    )
+    let at = c.symbol_of-x.ensures in
+    elim c.if-flags-x-eq0.branch [
+      | then-flags-x-eq0 w ↦
+          pass_add _ _ c.symbol_of-x.result w.flags-is w.reached-is p at.1 w.if-flags-x-eq0.true
+          (fired c.args.m.now c.args.rules c.rules.i k c.rules.auto.i (omega arith) (omega (arith, c.length_of-k-end.ensures.0)) c.left_of.ensures.0 (set_on c.if-flags-left_of-eq0.false) at.0)
+      | else-flags-x-eq0 w ↦
+          pass_more _ _ w.flags-is w.reached-is p (λ d. (d.0, below_more _ k d.1 (on_at at.0 (set_on w.if-flags-x-eq0.false))))
+    ]
 
 pub rules-preserved : goal.rules-preserved
 rules-preserved c =
-    let p = c.rules.invariant.2 in (
-      omega arith,
-      omega arith,
-      pass_join _ _ _ refl refl p c.symbols.invariant.2 (λ y q. least_join _ p.only q)
-          (λ d. from_more _ 1 c.rules.i d.0 (λ _ k l. d.1 k (omega arith))),
-    )
-
-pub passes-smaller : goal.passes-smaller
-passes-smaller c = omega (arith, c.rules.invariant.2.count, c.if-reached-eq0.false)
+    let p = c.rules.invariant in
+    pass_join _ _ _ refl refl p c.symbols.invariant (λ y q. least_join _ p.only q)
+    (λ d. from_more _ 1 c.rules.i d.0 (λ _ k l. d.1 k (omega (arith, c.length_of-k-end.ensures.0))))
 
 pub passes-preserved : goal.passes-preserved
-passes-preserved c = let p = c.rules.invariant.2 in
+passes-preserved c = let p = c.rules.invariant in
     let o = c.passes.invariant in
     (p.long, λ y on. least_join _ o.1 (p.only y on), λ y on. p.kept y (o.2 y on))
 
-pub shape_of-flags : goal.shape_of-flags
-shape_of-flags c = omega (arith, c.rules.invariant.2.long, c.requires.flags_len)
-
-pub returns : goal.returns
-returns c =
-    let p = c.rules.invariant.2 in
+pub returns-then-reached-eq0 : goal.returns-then-reached-eq0
+returns-then-reached-eq0 c =
+    let p = c.rules.invariant in
     let o = c.passes.invariant in
     least_marks _ (λ y on. least_join _ o.1 (p.only y on)) (λ y on. p.kept y (o.2 y on))
     (met c.args.m.now c.args.rules c.rules.flags (λ j l h. p.closed c.if-reached-eq0.true j l (omega arith)))

@@ -1,5 +1,5 @@
 -- Each pass keeps that what is flagged is in the least set; a pass that adds nothing has met every occurrence.
-use Prim.Native.Nat.{ℕ, ◌+◌, ◌≤◌, ◌<◌, ◌-◌}
+use Prim.Native.Nat.{ℕ, ◌≤◌, ◌<◌}
 use mathlib.Core.Path.{◌≡◌}
 use mathlib.Core.List.{List}
 use lib.ListN.{length}
@@ -16,19 +16,13 @@ Through m j fs = On fs (left_at m j) → (k : ℕ) → k < length_at m j → On 
 
 abbrev pub invariant-symbols : goal.invariant-symbols
 invariant-symbols l =
-    (l.k ≤ l.n) × (l.n ≡ length_at l.m l.i) × Pass 128 (Least (reaching_in l.m l.rules) (On l.initial.flags)) l.initial.flags l.flags l.initial.reached l.reached
+    Pass 128 (Least (reaching_in l.m l.rules) (On l.initial.flags)) l.initial.flags l.flags l.initial.reached l.reached
     (λ fs. ((j : ℕ) → 1 ≤ j → j < l.i → Through l.m j fs) × ((j : ℕ) → j < l.k → On fs (symbol_at l.m l.i j)))
-
-abbrev pub decreases-symbols : goal.decreases-symbols
-decreases-symbols l = l.n - l.k
 
 abbrev pub invariant-rules : goal.invariant-rules
 invariant-rules l =
-    (1 ≤ l.i) × (l.i ≤ l.rules + 1) × Pass 128 (Least (reaching_in l.m l.rules) (On l.initial.flags)) l.initial.flags l.flags l.initial.reached l.reached
+    Pass 128 (Least (reaching_in l.m l.rules) (On l.initial.flags)) l.initial.flags l.flags l.initial.reached l.reached
     (λ fs. (j : ℕ) → 1 ≤ j → j < l.i → Through l.m j fs)
-
-abbrev pub decreases-rules : goal.decreases-rules
-decreases-rules l = l.rules + 1 - l.i
 
 abbrev pub invariant-passes : goal.invariant-passes
 invariant-passes l =
