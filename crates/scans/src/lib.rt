@@ -36,12 +36,12 @@ fn read_lines(letters: &[u8; 26], file: &[u8], tokens: &mut [u8]) -> Reply
     let mut previous = Previous::Nothing;
     let mut at = 0;
     let mut count = 0;
+    // Stays a `while`: `at` moves by a line's bytes, and `count` by one.
     while at < file.len() {
         let Parsed::Line(line) = scan_lines::read_line(file, at) else {
             return reply::refuse(Kind::Malformed, at);
         };
-        let judged = scan_lines::judge_line(letters, file, previous, line);
-        match judged {
+        match scan_lines::judge_line(letters, file, previous, line) {
             Judged::Token(token) => store(tokens, count, token),
             Judged::Refused(kind) => return reply::refuse(kind, at),
         }
@@ -70,12 +70,9 @@ pub fn read_by(letters: &[u8; 26], file: &[u8], tokens: &mut [u8]) -> Reply
     if LONGEST < file.len() {
         return reply::refuse(Kind::LimitExceeded, 0);
     }
-    let read = read_lines(letters, file, tokens);
-    match read {
-        Reply::Accepted(count) => {
-            if count <= tokens.len() {
-                return Reply::Accepted(count);
-            }
+    match read_lines(letters, file, tokens) {
+        Reply::Accepted(count) if count <= tokens.len() => Reply::Accepted(count),
+        Reply::Accepted(_) => {
             let why = Refusal {
                 kind: Kind::BufferTooSmall,
                 place: 0,

@@ -13,15 +13,15 @@ returns-in_default c =
     line_broken c.loop-at.invariant c.loop-at-test.true
     (sym c.read_line.ensures ∙ c.in_default.is) c.refuse.ensures
 
-pub judge_line-judged-requires : goal.judge_line-judged-requires
-judge_line-judged-requires c =
+pub judge_line-requires : goal.judge_line-requires
+judge_line-requires c =
     record { within_file = c.loop-at.invariant.within; within = (line_in _ _ (sym c.read_line.ensures ∙ c.in-Line.is)).1 }
 
 pub returns-in-Refused : goal.returns-in-Refused
 returns-in-Refused c =
     line_refused c.loop-at.invariant c.loop-at-test.true
     (sym c.read_line.ensures ∙ c.in-Line.is)
-    (sym c.judge_line-judged.ensures ∙ c.in-Refused.is) c.refuse-in-Refused.ensures
+    (sym c.judge_line.ensures ∙ c.in-Refused.is) c.refuse-in-Refused.ensures
 
 pub overflow_add-at : goal.overflow_add-at
 overflow_add-at c =
@@ -37,7 +37,7 @@ pub loop-at-preserved : goal.loop-at-preserved
 loop-at-preserved c =
     line_read c.loop-at.invariant c.loop-at-test.true
     (sym c.read_line.ensures ∙ c.in-Line.is)
-    (sym c.judge_line-judged.ensures ∙ c.in-Token.is) c.store.ensures
+    (sym c.judge_line.ensures ∙ c.in-Token.is) c.store.ensures
 
 pub returns : goal.returns
 returns c = all_read c.loop-at.invariant c.loop-at-test.false
