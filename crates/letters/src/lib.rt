@@ -33,16 +33,10 @@ fn is_shared(codes: &[usize], i: usize) -> bool
     if code == REPEAT {
         return true;
     }
-    let mut j = 0;
-    while j < LETTERS {
-        if j == i {
-            j += 1;
-            continue;
-        }
-        if codes[j] == code {
+    for (j, other) in codes.iter().enumerate() {
+        if j != i && *other == code {
             return true;
         }
-        j += 1;
     }
     false
 }
@@ -52,12 +46,10 @@ fn find_shared(codes: &[usize]) -> Found
     requires { length codes.now ≡ 26 }
     ensures { Lowest (Shared codes.now) 0 26 result }
 {
-    let mut i = 0;
-    while i < LETTERS {
+    for i in 0..LETTERS {
         if is_shared(codes, i) {
             return Found::At(i);
         }
-        i += 1;
     }
     Found::Nothing
 }
@@ -85,8 +77,7 @@ fn read_codes(book: &[u8], terminals: usize, codes: &mut [usize]) -> Reply
     if next < book.len() {
         return refuse(Kind::Malformed, next);
     }
-    let shared = find_shared(codes);
-    match shared {
+    match find_shared(codes) {
         Found::At(i) => refuse(Kind::AmbiguousLetter, i),
         Found::Nothing => Reply::Accepted(0),
     }
@@ -97,10 +88,8 @@ fn copy_codes(codes: &[usize], out: &mut [u8])
     requires { (length codes.now ≡ 26) × (26 ≤ length out.old) × ((i : ℕ) → get_or codes.now i 0 ≤ 63) }
     ensures { out.new ≡ sets out.old 0 codes.now }
 {
-    let mut i = 0;
-    while i < LETTERS {
-        out[i] = codes[i] as u8;
-        i += 1;
+    for (i, code) in codes.iter().enumerate() {
+        out[i] = *code as u8;
     }
 }
 
@@ -118,8 +107,7 @@ pub fn read_letters(book: &[u8], terminals: usize, codes: &mut [u8]) -> Reply
         return refuse(Kind::LimitExceeded, 0);
     }
     let mut numbers = [0usize; LETTERS];
-    let read = read_codes(book, terminals, &mut numbers);
-    match read {
+    match read_codes(book, terminals, &mut numbers) {
         Reply::Refused(why) => Reply::Refused(why),
         Reply::Accepted(_) => {
             if codes.len() < LETTERS {

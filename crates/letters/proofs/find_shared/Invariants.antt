@@ -1,10 +1,7 @@
 -- No letter that was passed shares its code.
-use Prim.Native.Nat.{ℕ, ◌-◌, ◌≤◌, ◌<◌}
+use Prim.Native.Nat.{ℕ, ◌<◌}
 use Rattle.letters.specs.Shared.{Shared}
 use Rattle.letters.proofs.find_shared.Given as goal
 
 abbrev pub invariant-loop-i : goal.invariant-loop-i
-invariant-loop-i l = (l.i ≤ 26) × ((k : ℕ) → k < l.i → Shared l.codes k → ⊥)
-
-abbrev pub decreases-loop-i : goal.decreases-loop-i
-decreases-loop-i l = 26 - l.i
+invariant-loop-i l = (k : ℕ) → k < l.i → Shared l.codes k → ⊥

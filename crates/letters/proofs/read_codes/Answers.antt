@@ -66,10 +66,10 @@ returns-then-next-book c = told (second_line _ _ (line_read (goal.at.returns-the
 
 pub returns-in-At : goal.returns-in-At
 returns-in-At c =
-    let f = c.find_shared-shared.ensures in
-    told (found-told (goal.at.returns-in-At c).Else-next-book c.find_shared-shared.result f ∙ ap (λ (y : Found). unless_shared y c.read_line.new.numbers) c.in-At.is) c.refuse-in-At.ensures
+    let f = c.find_shared.ensures in
+    told (found-told (goal.at.returns-in-At c).Else-next-book c.find_shared.result f ∙ ap (λ (y : Found). unless_shared y c.read_line.new.numbers) c.in-At.is) c.refuse-in-At.ensures
 
 pub returns-in-Nothing : goal.returns-in-Nothing
 returns-in-Nothing c =
-    let f = c.find_shared-shared.ensures in
-    told_codes (found-told (goal.at.returns-in-Nothing c).Else-next-book c.find_shared-shared.result f ∙ ap (λ (y : Found). unless_shared y c.read_line.new.numbers) c.in-Nothing.is) (refl) (all_fit (goal.at.returns-in-Nothing c).Else-next-book)
+    let f = c.find_shared.ensures in
+    told_codes (found-told (goal.at.returns-in-Nothing c).Else-next-book c.find_shared.result f ∙ ap (λ (y : Found). unless_shared y c.read_line.new.numbers) c.in-Nothing.is) (refl) (all_fit (goal.at.returns-in-Nothing c).Else-next-book)
