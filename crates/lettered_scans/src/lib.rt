@@ -14,23 +14,22 @@ use reply::{Kind, Refusal, Reply};
 const LONGEST: usize = 65536;
 
 // Whether a letters book or a scan file has more bytes than it may.
+#[tactic(auto, unfolding(crate::specs::Lettered::too_long))]
 pub fn too_long(letters: &[u8], file: &[u8]) -> bool
     ensures { result ≡ too_long letters.now file.now }
 {
-    if LONGEST < letters.len() {
-        return true;
-    }
-    LONGEST < file.len()
+    LONGEST < letters.len() || LONGEST < file.len()
 }
 
 // The number of terminals in the first line of a grammar book, 0 where that is refused.
+#[tactic(auto, unfolding(crate::specs::Lettered::terminals_in))]
 pub fn terminals_of(grammar: &[u8]) -> usize
     ensures { result ≡ terminals_in grammar.now }
 {
-    let HeaderLine::Read(heading, _) = grammar_header::read_header(grammar) else {
-        return 0;
-    };
-    heading.terminals
+    match grammar_header::read_header(grammar) {
+        HeaderLine::Read(heading, _) => heading.terminals,
+        HeaderLine::Refused(_) => 0,
+    }
 }
 
 // Reads a scan file through a letters book for so many terminals: the reply, and in `tokens` the token list and then zeros. A refusal
@@ -47,8 +46,7 @@ pub fn read_lettered(letters: &[u8], terminals: usize, file: &[u8], tokens: &mut
         return scans::refuse_file(tokens, why);
     }
     let mut codes = [0u8; LETTERS];
-    let read = letters::read_letters(letters, terminals, &mut codes);
-    match read {
+    match letters::read_letters(letters, terminals, &mut codes) {
         Reply::Refused(why) => scans::refuse_file(tokens, why),
         Reply::Accepted(_) => scans::read_by(&codes, file, tokens),
     }

@@ -10,10 +10,10 @@ returns-then-file-gt-LONGEST c = by-clause (too_long_lem _ _ _ _ c.if-file-gt-LO
 
 pub returns-in-Refused : goal.returns-in-Refused
 returns-in-Refused c =
-    by-clause (letters_refused _ _ _ _ c.if-file-gt-LONGEST.false c.read_letters-read.ensures.replied c.in-Refused.is
+    by-clause (letters_refused _ _ _ _ c.if-file-gt-LONGEST.false c.read_letters.ensures.replied c.in-Refused.is
     c.refuse_file-in-Refused.ensures.refused c.refuse_file-in-Refused.ensures.zeroed)
 
 pub returns-in-Accepted : goal.returns-in-Accepted
 returns-in-Accepted c =
-    by-clause (letters_read _ _ _ _ c.if-file-gt-LONGEST.false c.read_letters-read.ensures.replied c.in-Accepted.is c.read_letters-read.ensures.stored
+    by-clause (letters_read _ _ _ _ c.if-file-gt-LONGEST.false c.read_letters.ensures.replied c.in-Accepted.is c.read_letters.ensures.stored
     c.read_by.ensures.replied c.read_by.ensures.stored)
