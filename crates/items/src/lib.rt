@@ -8,19 +8,13 @@ ghost use Rattle.items.specs.Layout.{Shaped, left_at, length_at, mark_at, unit_a
 // The bytes of a row.
 pub const ROW: usize = 64;
 
-fn wide(x: u8) -> usize
-    ensures { (result ≡ x) × (result < 256) }
-{
-    x as usize
-}
-
 // The left side of rule i; 0 for an entry item.
 pub fn left_of(m: &[u8], items: usize, i: usize) -> usize
     requires shaped { Shaped m.now items }
     requires i_le { i ≤ items }
     ensures { (result ≡ left_at m.now i) × (result < 128) }
 {
-    wide(m[i * ROW])
+    m[i * ROW] as usize
 }
 
 // The number of symbols of item i.
@@ -29,7 +23,7 @@ pub fn length_of(m: &[u8], items: usize, i: usize) -> usize
     requires i_le { i ≤ items }
     ensures { (result ≡ length_at m.now i) × (result ≤ 15) }
 {
-    wide(m[i * ROW + 1])
+    m[i * ROW + 1] as usize
 }
 
 // The dot at which item i is recognized; 255 for an entry item, which has no such point.
@@ -38,7 +32,7 @@ pub fn mark_of(m: &[u8], items: usize, i: usize) -> usize
     requires i_le { i ≤ items }
     ensures { (result ≡ mark_at m.now i) × (result < 256) }
 {
-    wide(m[i * ROW + 2])
+    m[i * ROW + 2] as usize
 }
 
 // 1 for a unit rule, else 0.
@@ -47,7 +41,7 @@ pub fn unit_of(m: &[u8], items: usize, i: usize) -> usize
     requires i_le { i ≤ items }
     ensures { (result ≡ unit_at m.now i) × (result < 256) }
 {
-    wide(m[i * ROW + 3])
+    m[i * ROW + 3] as usize
 }
 
 // Symbol k of item i.
@@ -57,7 +51,7 @@ pub fn symbol_of(m: &[u8], items: usize, i: usize, k: usize) -> usize
     requires k_bound { k < 15 }
     ensures { (result ≡ symbol_at m.now i k) × (result < 128) }
 {
-    wide(m[i * ROW + 16 + k])
+    m[i * ROW + 16 + k] as usize
 }
 
 // 1 where symbol k of item i is the first of a group, else 0.
@@ -67,5 +61,5 @@ pub fn start_of(m: &[u8], items: usize, i: usize, k: usize) -> usize
     requires k_bound { k < 15 }
     ensures { (result ≡ start_at m.now i k) × (result < 256) }
 {
-    wide(m[i * ROW + 32 + k])
+    m[i * ROW + 32 + k] as usize
 }
