@@ -68,26 +68,30 @@ drop_at [] k e = not_there e
 drop_at (y ∷ l) zero {x} e = let q : y ≡ x = cc in ap (λ (z : _). z ∷ l) q
 drop_at (y ∷ l) (suc k) e = drop_at l k e
 
-module _ {g : Grammar} (formed : WellFormed g) {items : List ℕ} {rules : ℕ} (holds : Holds items rules g) (γ : List ℕ) (done next : ℕ)
-    (e : first_use g.rules γ ≡ use_from next (groups_in (drop done g.rules)) γ) where
-  module _ (low : done < rules) {x : Search} (sought : (h : Grammar) (r : Rule) → RuleFormed h r → RuleIn items (done + 1) r → Seeks next r.groups γ x) where
-    here : (r : Rule) × (rule_at g (suc done) ≡ some r)
-    here = at_below g.rules done (omega (arith, low, holds.count))
+-- the rules before rule i were looked at in vain; the next group has number `next`
+abbrev pub Passed : Grammar → List ℕ → ℕ → ℕ → Type 0
+Passed g γ i next = (done : ℕ) → i ≡ suc done → first_use g.rules γ ≡ use_from next (groups_in (drop done g.rules)) γ
 
-    at_here : rule_at g (done + 1) ≡ some here.0
-    at_here = ap (rule_at g) (add-one done) ∙ here.1
+module _ {g : Grammar} (formed : WellFormed g) {items : List ℕ} {rules : ℕ} (holds : Holds items rules g) (γ : List ℕ) where
+  module _ {x : Search} (next : ℕ) where
+    use_here : (i : ℕ) → 1 ≤ i → i ≤ rules → Passed g γ i next → ((h : Grammar) (r : Rule) → RuleFormed h r → RuleIn items i r → Seeks next r.groups γ x)
+        → first_use g.rules γ ≡ use_after x (groups_in (drop i g.rules)) γ
+    use_here zero a b e sought = absurd (omega (arith, a))
+    use_here (suc done) a b e sought =
+        e done refl
+        ∙ (ap (λ (l : List Rule). use_from next (groups_in l) γ) (drop_at g.rules done here.1)
+        ∙ (sought g here.0 (formed.formed (suc done) here.1) (holds.rule_in (suc done) here.1)).use_is (groups_in (drop (suc done) g.rules)))
+      where
+        here : (r : Rule) × (rule_at g (suc done) ≡ some r)
+        here = at_below g.rules done (omega (arith, b, holds.count))
 
-    use_here : first_use g.rules γ ≡ use_after x (groups_in (drop (done + 1) g.rules)) γ
-    use_here =
-        e ∙ (ap (λ (l : List Rule). use_from next (groups_in l) γ) (drop_at g.rules done here.1)
-        ∙ ((sought g here.0 (formed.formed (done + 1) at_here) (holds.rule_in (done + 1) at_here)).use_is (groups_in (drop (suc done) g.rules))
-        ∙ ap (λ (n : ℕ). use_after x (groups_in (drop n g.rules)) γ) (sym (add-one done))))
+    module _ (i : ℕ) (a : 1 ≤ i) (b : i ≤ rules) (e : Passed g γ i next) (sought : (h : Grammar) (r : Rule) → RuleFormed h r → RuleIn items i r → Seeks next r.groups γ x) where
+      pub rules_found : {k : ℕ} → x ≡ Search.Found k → k ≡ first_use g.rules γ
+      rules_found q = sym (use_here i a b e sought ∙ simp q)
 
-    pub rules_found : {k : ℕ} → x ≡ Search.Found k → k ≡ first_use g.rules γ
-    rules_found q = sym (use_here ∙ simp q)
+      pub rules_more : {k : ℕ} → x ≡ Search.Passed k → Passed g γ (i + 1) k
+      rules_more {k} q done s = use_here i a b e sought ∙ (ap (λ (y : Search). use_after y (groups_in (drop i g.rules)) γ) q ∙ ap (λ (n : ℕ). use_from k (groups_in (drop n g.rules)) γ) (let z : i ≡ done = omega (arith, s) in z))
 
-    pub rules_more : {k : ℕ} → x ≡ Search.Passed k → first_use g.rules γ ≡ use_from k (groups_in (drop (done + 1) g.rules)) γ
-    rules_more q = use_here ∙ simp q
-
-  pub rules_end : rules ≤ done → 0 ≡ first_use g.rules γ
-  rules_end l = sym (e ∙ ap (λ (rs : List Rule). use_from next (groups_in rs) γ) (drop_of_length-le g.rules {i = done} (omega (arith, l, holds.count))))
+  pub rules_end : {i next : ℕ} → 1 ≤ i → rules < i → Passed g γ i next → 0 ≡ first_use g.rules γ
+  rules_end {i = zero} a l e = absurd (omega (arith, a))
+  rules_end {i = suc done} {next} a l e = sym (e done refl ∙ ap (λ (rs : List Rule). use_from next (groups_in rs) γ) (drop_of_length-le g.rules {i = done} (omega (arith, l, holds.count))))

@@ -26,12 +26,10 @@ pub fn group_end(items: &[u8], count: usize, i: usize, from: usize, length: usiz
     requires i_le_count { (i ≤ count) × (from < length) × (length ≡ length_at items.now i) × (length ≤ 15) }
     ensures { GroupEnd items.now i from result }
 {
-    let mut k = from + 1;
-    while k < length {
+    for k in from + 1..length {
         if items::start_of(items, count, i, k) != 0 {
             return k;
         }
-        k += 1;
     }
     length
 }
@@ -52,12 +50,10 @@ pub fn is_part(
     if n != string.len() {
         return false;
     }
-    let mut k = 0;
-    while k < n {
-        if items::symbol_of(items, count, i, from + k) != string[k] {
+    for (k, symbol) in string.iter().enumerate() {
+        if items::symbol_of(items, count, i, from + k) != *symbol {
             return false;
         }
-        k += 1;
     }
     true
 }
@@ -72,6 +68,7 @@ fn seek_in_rule(items: &[u8], count: usize, i: usize, first: usize, string: &[us
     let length = items::length_of(items, count, i);
     let mut from = items::mark_of(items, count, i);
     let mut k = first;
+    // Stays a counted loop: `from` moves by a group's length, and `k` by one.
     while from < length {
         let to = group_end(items, count, i, from, length);
         if is_part(items, count, i, from, to - from, string) {
@@ -89,17 +86,11 @@ pub fn first_use(items: &[u8], count: usize, rules: usize, string: &[usize]) -> 
     requires rules_le_count { (rules ≤ count) × (rules ≤ 127) }
     ensures { (g : Grammar) → WellFormed g → Holds items.now rules g → result ≡ first_use g.rules string.now }
 {
-    let mut done = 0;
     let mut next = 1;
-    while done < rules {
-        match seek_in_rule(items, count, done + 1, next, string) {
-            Search::Found(k) => {
-                return k;
-            }
-            Search::Passed(k) => {
-                done += 1;
-                next = k;
-            }
+    for i in 1..=rules {
+        match seek_in_rule(items, count, i, next, string) {
+            Search::Found(k) => return k,
+            Search::Passed(k) => next = k,
         }
     }
     0

@@ -7,10 +7,11 @@ use Rattle.item_groups.proofs.UseLaws.{Seeking}
 use Rattle.item_groups.proofs.seek_in_rule.Given as goal
 
 abbrev pub invariant-loop-from : goal.invariant-loop-from
-invariant-loop-from l =
-    (l.k ≤ l.first + l.from)
-    × (l.k ≤ l.first + 15)
-    × ((g : Grammar) (r : Rule) → RuleFormed g r → RuleIn l.items l.i r → Seeking r l.first l.string l.from l.k)
+invariant-loop-from l = record {
+  few : l.k ≤ l.first + l.from;
+  fits : l.k ≤ l.first + 15;
+  seeking : (g : Grammar) (r : Rule) → RuleFormed g r → RuleIn l.items l.i r → Seeking r l.first l.string l.from l.k;
+}
 
 abbrev pub decreases-loop-from : goal.decreases-loop-from
 decreases-loop-from l = l.length - l.from
