@@ -20,8 +20,8 @@ use Rattle.grammar.specs.Memory.{reply_of, lines_reply, ListedBy, Listed, Laid}
 use Rattle.grammar.proofs.FormLaws.{rules_count}
 
 -- the answer that a refusal gives, and memory that is to be cleared
-pub rejected_told : {b : Book} {x : Refusal} → b ≡ rejected x → {y : GrammarReply} → y ≡ reply.Refused x → (size : ℕ) (m : List ℕ) → (y ≡ reply_of b) × Laid b size m
-rejected_told {b} {x} e q size m = (q ∙ sym (ap reply_of e), subst (λ (c : Book). Laid c size m) (sym e) (record { table = tt }))
+pub rejected_told : {b : Book} {x : Refusal} → b ≡ rejected x → {y : GrammarReply} → y ≡ reply.Refused x → (size : ℕ) (m : List ℕ) → record { answered : y ≡ reply_of b; stored : Laid b size m }
+rejected_told {b} {x} e q size m = record { answered = q ∙ sym (ap reply_of e); stored = subst (λ (c : Book). Laid c size m) (sym e) (record { table = tt }) }
 
 is_listed : (r : Rules) {end : ℕ} → lines_reply r ≡ lines.Read end → (rs : List Rule) × (r ≡ listed rs end)
 is_listed (listed rs e) {end} q = (rs, ap (listed rs) (let p : e ≡ end = cc in p))
@@ -59,12 +59,12 @@ module _ (s : List ℕ) where
         unfolding end_of
         line_extra f = book_is ∙ ap (end_of (length s) h) (is_listed rules (sym a ∙ q)).1 ∙ simp (ne_eqb _ _ f)
 
-        pub all_lines : end ≡ length s → {size : ℕ} {m : List ℕ} → Listed rules size m → (reply.Read h ≡ reply_of (book_of s)) × Laid (book_of s) size m
+        pub all_lines : end ≡ length s → {size : ℕ} {m : List ℕ} → Listed rules size m → record { answered : reply.Read h ≡ reply_of (book_of s); stored : Laid (book_of s) size m }
         unfolding end_of
         all_lines f {size} {m} w =
             let i = is_listed rules (sym a ∙ q) in
             let b : book_of s ≡ accepted (grammar_with h i.0) = book_is ∙ ap (end_of (length s) h) i.1 ∙ simp (eq-eqb _ _ f) in
-            let c : length i.0 ≡ h.rules = rules_count s h h.rules next i.0 end i.1 in (
-              ap (λ (k : ℕ). reply.Read (record { terminals = h.terminals; nonterminals = h.nonterminals; rules = k; goal = h.goal })) (sym c) ∙ sym (ap reply_of b),
-              subst (λ (c : Book). Laid c size m) (sym b) (record { table = subst (λ (r : Rules). ListedBy r size m) i.1 w.table }),
-            )
+            let c : length i.0 ≡ h.rules = rules_count s h h.rules next i.0 end i.1 in record {
+              answered = ap (λ (k : ℕ). reply.Read (record { terminals = h.terminals; nonterminals = h.nonterminals; rules = k; goal = h.goal })) (sym c) ∙ sym (ap reply_of b);
+              stored = subst (λ (c : Book). Laid c size m) (sym b) (record { table = subst (λ (r : Rules). ListedBy r size m) i.1 w.table });
+            }

@@ -52,8 +52,8 @@ pub laid_again : {b : Book} {m : List ℕ} {j k : ℕ} → j ≡ k → Laid b j 
 laid_again {b} {m} e w = subst (λ (n : ℕ). Laid b n m) e w
 
 -- a refusal, and a slice that was cleared
-pub rejected_cleared : {b : Book} {x : Refusal} → b ≡ rejected x → (size : ℕ) {m : List ℕ} → m ≡ replicate size 0 → (reply.Refused x ≡ reply_of b) × (m ≡ memory_of b size)
-rejected_cleared {b} {x} e size w = (sym (ap reply_of e), w ∙ sym (ap (λ (c : Book). memory_of c size) e))
+pub rejected_cleared : {b : Book} {x : Refusal} → b ≡ rejected x → (size : ℕ) {m : List ℕ} → m ≡ replicate size 0 → record { answered : reply.Refused x ≡ reply_of b; stored : m ≡ memory_of b size }
+rejected_cleared {b} {x} e size w = record { answered = sym (ap reply_of e); stored = w ∙ sym (ap (λ (c : Book). memory_of c size) e) }
 
 module _ (s : List ℕ) {y : GrammarReply} (a : y ≡ reply_of (book_of s)) where
   pub lines_rejected : {x : Refusal} → y ≡ reply.Refused x → grammar_of s ≡ rejected x
@@ -91,12 +91,12 @@ module _ (s : List ℕ) {y : GrammarReply} (a : y ≡ reply_of (book_of s)) wher
       pub grammar_rejected : {x : Refusal} → z ≡ reply.Refused x → grammar_of s ≡ rejected x
       grammar_rejected r = grammar_is ∙ is_rejected (reduced_of grammar) (sym c ∙ r)
 
-      pub grammar_accepted : {k : Heading} → z ≡ reply.Read k → (reply.Read k ≡ reply_of (grammar_of s)) × (m ≡ memory_of (grammar_of s) size)
+      pub grammar_accepted : {k : Heading} → z ≡ reply.Read k → record { answered : reply.Read k ≡ reply_of (grammar_of s); stored : m ≡ memory_of (grammar_of s) size }
       grammar_accepted {k} r =
           let i = is_accepted (reduced_of grammar) (sym c ∙ r) in
           let e : reduced_of grammar ≡ accepted grammar = i.1 ∙ ap accepted (reduced_same grammar i.0 i.1) in
           let f : grammar_of s ≡ accepted grammar = grammar_is ∙ e in
-          (sym r ∙ c ∙ ap reply_of (sym grammar_is), laid ∙ sym (ap (λ (b : Book). memory_of b size) f))
+          record { answered = sym r ∙ c ∙ ap reply_of (sym grammar_is); stored = laid ∙ sym (ap (λ (b : Book). memory_of b size) f) }
 
 -- ---- the lent slice
 module _ (s : List ℕ) (size : ℕ) {y : GrammarReply} (a : y ≡ reply_of (grammar_of s)) where

@@ -45,29 +45,29 @@ module _ (k : ℕ) (s : List ℕ) (t n at : ℕ) where
   unfolding rules_from
   rules_refused e = simp e
 
--- ---- the loop: i rules are listed, and the lines are they and those from `at` on
+-- ---- the loop: the rules before rule i are listed, and the lines are they and those from `at` on
 module _ (s : List ℕ) (t n count first : ℕ) (size : ℕ) where
   pub record Listing (i at : ℕ) (m : List ℕ) : Type 0 where
     pub fuel : ℕ
-    pub fuel_is : i + fuel ≡ count
+    pub fuel_is : i + fuel ≡ count + 1
     pub passed : List Rule
-    pub passed_is : length passed ≡ i
+    pub passed_is : length passed + 1 ≡ i
     pub same : rules_from count s t n first ≡ after passed (rules_from fuel s t n at)
     pub table : m ≡ item_table passed [] size
 
-  pub listing_start : {m : List ℕ} → m ≡ replicate size 0 → Listing 0 first m
+  pub listing_start : {m : List ℕ} → m ≡ replicate size 0 → Listing 1 first m
   listing_start e =
       record {
         fuel = count;
         fuel_is = omega arith;
         passed = [];
-        passed_is = refl;
+        passed_is = omega arith;
         same = sym (after_none (rules_from count s t n first));
         table = e ∙ sym (table_none size);
       }
 
   module _ {i at : ℕ} {m : List ℕ} (k : Listing i at m) where
-    pub row_empty : i < count → count * 64 + 64 ≤ size → EmptyRow m (i * 64 + 64)
+    pub row_empty : i ≤ count → count * 64 + 64 ≤ size → EmptyRow m (i * 64)
     row_empty h room =
         record {
           room = rw k.table (omega (arith, table_length k.passed [] size));
@@ -75,50 +75,50 @@ module _ (s : List ℕ) (t n count first : ℕ) (size : ℕ) where
         }
 
     -- one more rule
-    more : (r : Rule) (next : ℕ) → rule_at s t n at ≡ read r next → i < count → {m' : List ℕ} → m' ≡ sets m (i * 64 + 64) (row_of r) → Listing (i + 1) next m'
+    more : (r : Rule) (next : ℕ) → rule_at s t n at ≡ read r next → i ≤ count → {m' : List ℕ} → m' ≡ sets m (i * 64) (row_of r) → Listing (i + 1) next m'
     more r next e h {m'} w = go k.fuel k.fuel_is k.same
       where
-        go : (f : ℕ) → i + f ≡ count → rules_from count s t n first ≡ after k.passed (rules_from f s t n at) → Listing (i + 1) next m'
+        go : (f : ℕ) → i + f ≡ count + 1 → rules_from count s t n first ≡ after k.passed (rules_from f s t n at) → Listing (i + 1) next m'
         go zero a b = absurd (omega arith)
         go (suc f) a b =
             record {
               fuel = f;
               fuel_is = omega arith;
               passed = k.passed ++ r ∷ [];
-              passed_is = length-append k.passed (r ∷ []) ∙ omega (arith, k.passed_is);
+              passed_is = omega (arith, length-append k.passed (r ∷ []), k.passed_is);
               same = b ∙ ap (after k.passed) (rules_read f s t n at e) ∙ after_more k.passed r (rules_from f s t n next);
-              table = w ∙ ap (λ (l : List ℕ). sets l (i * 64 + 64) (row_of r)) k.table ∙ table_rule k.passed r size (i * 64 + 64) (omega (arith, k.passed_is));
+              table = w ∙ ap (λ (l : List ℕ). sets l (i * 64) (row_of r)) k.table ∙ table_rule k.passed r size (i * 64) (omega (arith, k.passed_is));
             }
 
-    broken : (x : Refusal) → rule_at s t n at ≡ refused x → i < count → rules_from count s t n first ≡ broken_off x
+    broken : (x : Refusal) → rule_at s t n at ≡ refused x → i ≤ count → rules_from count s t n first ≡ broken_off x
     broken x e h = go k.fuel k.fuel_is k.same
       where
-        go : (f : ℕ) → i + f ≡ count → rules_from count s t n first ≡ after k.passed (rules_from f s t n at) → rules_from count s t n first ≡ broken_off x
+        go : (f : ℕ) → i + f ≡ count + 1 → rules_from count s t n first ≡ after k.passed (rules_from f s t n at) → rules_from count s t n first ≡ broken_off x
         go zero a b = absurd (omega arith)
         go (suc f) a b = b ∙ ap (after k.passed) (rules_refused f s t n at e)
 
-    all : count ≤ i → rules_from count s t n first ≡ listed k.passed at
+    all : count < i → rules_from count s t n first ≡ listed k.passed at
     unfolding rules_from
     all h = go k.fuel k.fuel_is k.same
       where
-        go : (f : ℕ) → i + f ≡ count → rules_from count s t n first ≡ after k.passed (rules_from f s t n at) → rules_from count s t n first ≡ listed k.passed at
+        go : (f : ℕ) → i + f ≡ count + 1 → rules_from count s t n first ≡ after k.passed (rules_from f s t n at) → rules_from count s t n first ≡ listed k.passed at
         go zero a b = b ∙ ap (λ (l : List Rule). listed l at) (append-nil k.passed)
         go (suc f) a b = absurd (omega arith)
 
     -- ---- as the code has it: y is the answer of a line, and m' what the line leaves
-    module _ (h : i < count) {y : RuleLine} (a : y ≡ line_of (rule_at s t n at)) {m' : List ℕ} (w : Stored (rule_at s t n at) m (i * 64 + 64) m') where
+    module _ (h : i ≤ count) {y : RuleLine} (a : y ≡ line_of (rule_at s t n at)) {m' : List ℕ} (w : Stored (rule_at s t n at) m (i * 64) m') where
       pub listing_read : {next : ℕ} → y ≡ line.Read next → Listing (i + 1) next m'
       listing_read {next} e =
           let r = is_read (rule_at s t n at) (sym a ∙ e) in
-          more r.0 next r.1 h (subst (λ (l : Line). StoredBy l m (i * 64 + 64) m') r.1 w.stored)
+          more r.0 next r.1 h (subst (λ (l : Line). StoredBy l m (i * 64) m') r.1 w.stored)
 
       pub listing_refused : {x : Refusal} → y ≡ line.Refused x
-          → (lines.Refused x ≡ lines_reply (rules_from count s t n first)) × Listed (rules_from count s t n first) size m'
+          → record { answered : lines.Refused x ≡ lines_reply (rules_from count s t n first); stored : Listed (rules_from count s t n first) size m' }
       listing_refused {x} e =
           let b = broken x (is_refused (rule_at s t n at) (sym a ∙ e)) h in
-          (sym (ap lines_reply b), subst (λ (r : Rules). Listed r size m') (sym b) (record { table = tt }))
+          record { answered = sym (ap lines_reply b); stored = subst (λ (r : Rules). Listed r size m') (sym b) (record { table = tt }) }
 
-    pub listing_done : count ≤ i → (lines.Read at ≡ lines_reply (rules_from count s t n first)) × Listed (rules_from count s t n first) size m
+    pub listing_done : count < i → record { answered : lines.Read at ≡ lines_reply (rules_from count s t n first); stored : Listed (rules_from count s t n first) size m }
     listing_done h =
         let b = all h in
-        (sym (ap lines_reply b), subst (λ (r : Rules). Listed r size m) (sym b) (record { table = k.table }))
+        record { answered = sym (ap lines_reply b); stored = subst (λ (r : Rules). Listed r size m) (sym b) (record { table = k.table }) }

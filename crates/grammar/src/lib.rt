@@ -39,17 +39,11 @@ fn read_rules(s: &[u8], first: usize, t: usize, n: usize, count: usize, m: &mut 
     ensures stored { Listed (rules_from count s.now t n first) (length m.old) m.new }
 {
     let mut at = first;
-    let mut i = 0;
-    while i < count {
-        let line = read_rule(s, at, t, n, m, i * items::ROW + items::ROW);
-        let next = match line {
-            RuleLine::Read(next) => next,
-            RuleLine::Refused(why) => {
-                return RuleLines::Refused(why);
-            }
-        };
-        at = next;
-        i += 1;
+    for i in 1..=count {
+        match read_rule(s, at, t, n, m, i * items::ROW) {
+            RuleLine::Read(next) => at = next,
+            RuleLine::Refused(why) => return RuleLines::Refused(why),
+        }
     }
     RuleLines::Read(at)
 }

@@ -1,26 +1,16 @@
--- `grammar::read_into` meets its contract. Assumes nothing.
 use Prim.Native.Nat.{ℕ}
 use mathlib.Core.Path.{◌≡◌, ap, ◌∙◌}
-use native.Mathlib.Omega.{arith}
 use lib.ListN.{length, replicate}
-use Rattle.grammar.proofs.IntoLaws.{cleared_length, zeros_again, laid_again, rejected_cleared, lines_rejected, grammar, ready, grammar_rejected, grammar_accepted}
+use Rattle.grammar.proofs.IntoLaws.{cleared_length, laid_again, rejected_cleared, lines_rejected, grammar, ready, grammar_rejected, grammar_accepted}
 use borrow.Author.Rules.{rules}
 use Rattle.grammar.proofs.read_into.Goals as goal
-
-by-clause : {A B : Type 0} → A × B → record { answered : A; stored : B }
-by-clause h = record { answered = h.0; stored = h.1 }
-
-pub read_lines-lines-requires : goal.read_lines-lines-requires
-read_lines-lines-requires c =
-    let k = length c.args.m.now in
-    (zeros_again k c.clear.ensures, omega (arith, cleared_length k c.clear.ensures, c.requires))
 
 pub returns-in-Refused : goal.returns-in-Refused
 returns-in-Refused c =
     let k = length c.args.m.now in
     let e : length c.read_lines-lines.new.m ≡ k = search rules in
-    by-clause (rejected_cleared (lines_rejected _ c.read_lines-lines.ensures.answered c.in-Refused.is) k
-    (c.clear-in-Refused.ensures ∙ ap (λ (j : ℕ). replicate {A = ℕ} j 0) e))
+    rejected_cleared (lines_rejected _ c.read_lines-lines.ensures.answered c.in-Refused.is) k
+    (c.clear-in-Refused.ensures ∙ ap (λ (j : ℕ). replicate {A = ℕ} j 0) e)
 
 pub check_reduced-reduced-requires : goal.check_reduced-reduced-requires
 check_reduced-reduced-requires c =
@@ -36,8 +26,8 @@ returns-in-Read-reduced c =
     let k = length c.args.m.now in
     let w = laid_again (cleared_length k c.clear.ensures) c.read_lines-lines.ensures.stored in
     let r = ready _ c.read_lines-lines.ensures.answered c.in-Read.is w c.requires in
-    by-clause (grammar_accepted _ c.read_lines-lines.ensures.answered c.in-Read.is w
-    (c.check_reduced-reduced.ensures _ r) c.in-Read-reduced.is)
+    grammar_accepted _ c.read_lines-lines.ensures.answered c.in-Read.is w
+    (c.check_reduced-reduced.ensures _ r) c.in-Read-reduced.is
 
 pub returns-in-Refused-reduced : goal.returns-in-Refused-reduced
 returns-in-Refused-reduced c =
@@ -45,6 +35,6 @@ returns-in-Refused-reduced c =
     let w = laid_again (cleared_length k c.clear.ensures) c.read_lines-lines.ensures.stored in
     let r = ready _ c.read_lines-lines.ensures.answered c.in-Read.is w c.requires in
     let e : length c.read_lines-lines.new.m ≡ k = search rules in
-    by-clause (rejected_cleared (grammar_rejected _ c.read_lines-lines.ensures.answered c.in-Read.is w
+    rejected_cleared (grammar_rejected _ c.read_lines-lines.ensures.answered c.in-Read.is w
     (c.check_reduced-reduced.ensures _ r) c.in-Refused-reduced.is)
-    k (c.clear-in-Refused-reduced.ensures ∙ ap (λ (j : ℕ). replicate {A = ℕ} j 0) e))
+    k (c.clear-in-Refused-reduced.ensures ∙ ap (λ (j : ℕ). replicate {A = ℕ} j 0) e)

@@ -1,15 +1,11 @@
--- `grammar::read_lines` meets its contract. Assumes nothing.
 use mathlib.Core.Path.{refl, sym, ◌∙◌}
 use native.Mathlib.Omega.{arith}
 use Rattle.grammar_header.proofs.HeaderLaws.{header_ranged}
 use Rattle.grammar.proofs.BookLaws.{rejected_told, too_long_lem, no_header, no_rules, line_extra, all_lines}
 use Rattle.grammar.proofs.read_lines.Goals as goal
 
-by-clause : {A B : Type 0} → A × B → record { answered : A; stored : B }
-by-clause h = record { answered = h.0; stored = h.1 }
-
 pub returns-then-s-gt65536 : goal.returns-then-s-gt65536
-returns-then-s-gt65536 c = by-clause (rejected_told (too_long_lem _ c.if-s-gt65536.true) c.refuse.ensures _ _)
+returns-then-s-gt65536 c = rejected_told (too_long_lem _ c.if-s-gt65536.true) c.refuse.ensures _ _
 
 pub read_rules-lines-requires : goal.read_rules-lines-requires
 read_rules-lines-requires c =
@@ -17,27 +13,27 @@ read_rules-lines-requires c =
 
 pub returns-then-end-s : goal.returns-then-end-s
 returns-then-end-s c =
-    by-clause (rejected_told (line_extra _ c.if-s-gt65536.false
+    rejected_told (line_extra _ c.if-s-gt65536.false
     (sym c.read_header-first.ensures ∙ c.in-Read.is)
     c.read_rules-lines.ensures.answered c.in-Read-lines.is c.if-end-s.true)
-    c.refuse-then-end-s.ensures _ _)
+    c.refuse-then-end-s.ensures _ _
 
 pub returns-in-Refused : goal.returns-in-Refused
 returns-in-Refused c =
-    by-clause (rejected_told
+    rejected_told
     (no_header _ c.if-s-gt65536.false (sym c.read_header-first.ensures ∙ c.in-Refused.is))
-    refl _ _)
+    refl _ _
 
 pub returns-in-Refused-lines : goal.returns-in-Refused-lines
 returns-in-Refused-lines c =
-    by-clause (rejected_told (no_rules _ c.if-s-gt65536.false
+    rejected_told (no_rules _ c.if-s-gt65536.false
     (sym c.read_header-first.ensures ∙ c.in-Read.is)
     c.read_rules-lines.ensures.answered c.in-Refused-lines.is)
-    refl _ _)
+    refl _ _
 
 pub returns-else-end-s : goal.returns-else-end-s
 returns-else-end-s c =
-    by-clause (all_lines _ c.if-s-gt65536.false
+    all_lines _ c.if-s-gt65536.false
     (sym c.read_header-first.ensures ∙ c.in-Read.is)
     c.read_rules-lines.ensures.answered c.in-Read-lines.is c.if-end-s.false
-    c.read_rules-lines.ensures.stored)
+    c.read_rules-lines.ensures.stored
