@@ -8,10 +8,8 @@ use native.Mathlib.Decide.{ℕ_discrete}
 use native.Mathlib.Omega.{arith}
 use borrow.Author.Tests.{eq-eqb, ne_eqb}
 use lib.Dec.{eqb}
-use lib.ListN.{length, get_or, take, drop, set, length-take, drop_of_length-le}
-use lib.Seq.{get_or-take}
+use lib.ListN.{length, get_or, drop, set, drop_of_length-le}
 use Rattle.language.specs.Grammar.{at}
-use Rattle.text.proofs.Bytes.{here}
 use Rattle.leftcorner.specs.Table.{KernelLine, K}
 use Rattle.table_lines.specs.Image.{image, flag}
 use Rattle.table_lines.proofs.ImageLaws.{image-set, image_same}
@@ -172,16 +170,9 @@ kernel_more {a} {b} {l} h q i k σ small low ks ls e = record {
   last_is = last_more l (K q i k σ) e small;
 }
 
--- ---- the codes stored one after the other
-module _ (m : List ℕ) (base : ℕ) (numbers : List ℕ) (count : ℕ) (room : count ≤ length numbers) (k : ℕ) where
-  long : length (take count numbers) ≡ count
-  long = length-take count numbers ∙ omega arith
-
-  pub flags_more : k < count → flagged m base (drop k (take count numbers)) ≡ flagged (set m (base + get_or numbers k 0) 1) base (drop (k + 1) (take count numbers))
-  flags_more l = rw (here (take count numbers) k (omega (arith, long))) (simp (get_or-take count numbers k 0 l))
-
-  pub flags_end : count ≤ k → flagged m base (drop k (take count numbers)) ≡ m
-  flags_end l = simp (drop_of_length-le (take count numbers) {i = k} (omega (arith, long)))
+-- past the last code nothing is stored
+pub flags_end : (m : List ℕ) (base : ℕ) (σ : List ℕ) (k : ℕ) → length σ ≤ k → flagged m base (drop k σ) ≡ m
+flags_end m base σ k l = simp (drop_of_length-le σ {i = k} l)
 
 -- the same stores, told by other expressions
 pub figures_by : (m : List ℕ) {n o q r i j k c : ℕ} → n ≡ o → q ≡ r → i ≡ j → k ≡ c
@@ -193,11 +184,3 @@ triple_by a b c = cc
 
 pub flags_by : (m : List ℕ) {n o : ℕ} {σ τ : List ℕ} → n ≡ o → σ ≡ τ → flagged m (n * 64) σ ≡ flagged m (o * 64) τ
 flags_by m a b = cc
-
--- three figures stored
-pub triple_stored : (m : List ℕ) (q i k : ℕ) → length m ≡ 3 → set (set (set m 0 q) 1 i) 2 k ≡ q ∷ i ∷ k ∷ []
-triple_stored [] q i k e = absurd (omega (arith, e))
-triple_stored (x ∷ []) q i k e = absurd (omega (arith, e))
-triple_stored (x ∷ y ∷ []) q i k e = absurd (omega (arith, e))
-triple_stored (x ∷ y ∷ z ∷ []) q i k e = refl
-triple_stored (x ∷ y ∷ z ∷ w ∷ m) q i k e = absurd (omega (arith, e))

@@ -33,8 +33,7 @@ fn judge_kernel(
     if p.count < 4 {
         return Judgement::Faulty(Kind::Malformed);
     }
-    let rising = p.rising;
-    if !rising {
+    if !p.rising {
         return Judgement::Faulty(Kind::Malformed);
     }
     if !table_order::is_after(lines, last, numbers) {
@@ -70,10 +69,8 @@ fn store_codes(lookaheads: &mut [u8], base: usize, numbers: &[usize], count: usi
     requires by_index { (k : ℕ) → 3 ≤ k → k < count → get_or numbers.now k 0 < 64 }
     ensures { lookaheads.new ≡ flagged lookaheads.old base (drop 3 (take count numbers.now)) }
 {
-    let mut k = 3;
-    while k < count {
-        table_lines::put(lookaheads, base + numbers[k], 1);
-        k += 1;
+    for code in &numbers[3..count] {
+        table_lines::put(lookaheads, base + *code, 1);
     }
 }
 
@@ -92,9 +89,7 @@ fn keep_triple(last: &mut [usize], state: usize, item: usize, dot: usize)
     requires { length last.old ≡ 3 }
     ensures { last.new ≡ state ∷ item ∷ dot ∷ [] }
 {
-    last[0] = state;
-    last[1] = item;
-    last[2] = dot;
+    last.copy_from_slice(&[state, item, dot]);
 }
 
 // What comes of a place without kernel line, after so many lines.
@@ -167,22 +162,14 @@ fn read_rising(
     ensures { Reads (λ l. KernelMemory (length kernels.old) (length lookaheads.old) l kernels.new lookaheads.new last.new) (kernels_from s.now t states items (length_at m.now) first) result }
 {
     let mut at = first;
-    let mut k = 0;
-    while k < 1024 {
+    for k in 0..1024 {
         match read_kernel(s, at, t, states, items, k, m, kernels, lookaheads, last) {
-            Step::Taken(next) => {
-                at = next;
-                k += 1;
-            }
-            Step::Stopped => {
-                return Block::Read(k, at);
-            }
-            Step::Refused(why) => {
-                return Block::Refused(why);
-            }
+            Step::Taken(next) => at = next,
+            Step::Stopped => return Block::Read(k, at),
+            Step::Refused(why) => return Block::Refused(why),
         }
     }
-    Block::Read(k, at)
+    Block::Read(1024, at)
 }
 
 // The kernel lines from `first` on. A line is compared with the one before it, whose triple is kept apart, since what is lent may be

@@ -20,14 +20,14 @@ use native.Mathlib.Omega.{arith}
 use lib.ListN.{length, get_or, drop}
 use borrow.Author.Rules.{rules}
 use Rattle.table_kernels.proofs.judge_kernel.Goals as goal
-use Rattle.table_kernels.proofs.judge_kernel.Goals.{After-is_after, Else-lines-ge1023, Else-not-is_after, Else-not-rising, Then-not-rising}
+use Rattle.table_kernels.proofs.judge_kernel.Goals.{After-is_after, Else-lines-ge1023, Else-not-is_after, Else-not-p, Then-not-p}
 
 -- the codes rise, or not
-rises : (c : Else-not-rising) → c.args.p.rising ≡ true
-rises c = c.if-not-rising.false
+rises : (c : Else-not-p) → c.args.p.rising ≡ true
+rises c = search rules
 
-falls : (c : Then-not-rising) → c.args.p.rising ≡ false
-falls c = c.if-not-rising.true
+falls : (c : Then-not-p) → c.args.p.rising ≡ false
+falls c = search rules
 
 -- its first numbers are its key
 key-at : (v : List ℕ) (j : ℕ) → j < 3 → get_or (get_or v 0 0 ∷ get_or v 1 0 ∷ get_or v 2 0 ∷ []) j 0 ≡ get_or v j 0
@@ -58,7 +58,7 @@ tested-at c = λ l q m.
 
 -- `rises` at a later place
 rises-at : (c : Else-not-is_after) → c.args.p.rising ≡ true
-rises-at c = c.if-not-rising.false
+rises-at c = search rules
 
 -- the line's form is right: what is left to judge
 formed : (c : Else-not-is_after) → let a = c.args in
@@ -91,7 +91,7 @@ tested-at-2 c = λ l q m.
 
 -- `rises` at a later place
 rises-at-2 : (c : Else-lines-ge1023) → c.args.p.rising ≡ true
-rises-at-2 c = c.if-not-rising.false
+rises-at-2 c = search rules
 
 -- `formed` at a later place
 formed-at : (c : Else-lines-ge1023) → let a = c.args in
@@ -127,8 +127,8 @@ limited c = λ l ns q m h.
 pub returns-then-p-lt4 : goal.returns-then-p-lt4
 returns-then-p-lt4 c = λ l ns q m h. simp (lt-leb 4 (length ns) (omega (arith, held_count h, c.if-p-lt4.true)))
 
-pub returns-then-not-rising : goal.returns-then-not-rising
-returns-then-not-rising c = λ l ns q m h. simp (le-leb 4 (length ns) (omega (arith, held_count h, c.if-p-lt4.false)), falls c)
+pub returns-then-not-p : goal.returns-then-not-p
+returns-then-not-p c = λ l ns q m h. simp (le-leb 4 (length ns) (omega (arith, held_count h, c.if-p-lt4.false)), falls c)
 
 pub returns-then-not-is_after : goal.returns-then-not-is_after
 returns-then-not-is_after c = λ l ns q m h.
@@ -139,7 +139,7 @@ returns-then-not-is_after c = λ l ns q m h.
       held_at h 1 (omega (arith, long)) (search rules),
       held_at h 2 (omega (arith, long)) (search rules),
       le-leb 4 (length ns) long,
-      rises (goal.at.returns-then-not-is_after c).Else-not-rising,
+      rises (goal.at.returns-then-not-is_after c).Else-not-p,
     )
 
 pub returns-then-p-gt65535 : goal.returns-then-p-gt65535
