@@ -10,10 +10,10 @@ use borrow.Author.Tests.{eq-eqb, eqb-true}
 use lib.Dec.{eqb}
 use Rattle.language.specs.Sentence.{In, here, there}
 use Rattle.language.proofs.TestLaws.{both_true}
-use Rattle.leftcorner.specs.Table.{Action, S, N, A, P, ActionLine, L, action_for, goto_state}
+use Rattle.leftcorner.specs.Table.{Action, ActionLine, L, action_for, goto_state}
 use Rattle.table_order.specs.Order.{action_key}
 use Rattle.table_order.proofs.OrderLaws.{Below}
-use Rattle.table_actions.specs.Memory.{cell_at, goto_at, Formed}
+use Rattle.table_actions.specs.Memory.{cell_at, goto_at}
 
 abbrev same : ℕ → ℕ → ℕ → ℕ → Bool
 same p Y q X = eqb p q && eqb Y X
@@ -51,18 +51,6 @@ action_none (L p Y y ∷ l) q X f = simp (same_no p Y q X (λ e. apart (f (L p Y
     apart (inl a) e = omega (arith, a, e.0)
     apart (inr (z, inl a)) e = omega (arith, a, e.1)
     apart (inr (z, inr w)) e = w.1
-
-pub low_state : (q X : ℕ) (x : Action) → Formed (L q X x) → q ≤ 255
-low_state q X (S s) f = f.1
-low_state q X (N s) f = f.1
-low_state q X (A i) f = f.1
-low_state q X (P n) f = f.1
-
-pub low_symbol : (q X : ℕ) (x : Action) → Formed (L q X x) → X < 128
-low_symbol q X (S s) f = omega (arith, f.2)
-low_symbol q X (N s) f = f.2.1
-low_symbol q X (A i) f = omega (arith, f.2)
-low_symbol q X (P n) f = omega (arith, f.2)
 
 -- ---- where they stand
 module _ (q X : ℕ) (few : q ≤ 255) where

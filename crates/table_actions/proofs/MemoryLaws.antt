@@ -6,7 +6,7 @@ use mathlib.Core.Bool.{Bool, true, false, ◌||◌}
 use mathlib.Core.Option.{Option, some, none}
 use native.Mathlib.Omega.{arith}
 use borrow.Author.Tests.{eq-eqb, ne_eqb}
-use lib.ListN.{length, get_or, set}
+use lib.ListN.{get_or, set}
 use Rattle.leftcorner.specs.Table.{Action, S, N, A, P, ActionLine, L, action_for, goto_state}
 use Rattle.memory.specs.Memory.{kind_of, value_of}
 use Rattle.table_order.specs.Order.{follows, action_key}
@@ -142,13 +142,6 @@ action_more {l = l} h q X kinds' values' gotos' named' x after f w z small = rec
   last_is = last_more l (L q X x) z small;
   rises = rising_more action_key l (L q X x) h.rises after;
 }
-
--- two figures stored
-pub pair_stored : (m : List ℕ) (q X : ℕ) → length m ≡ 2 → set (set m 0 q) 1 X ≡ q ∷ X ∷ []
-pair_stored [] q X e = absurd (omega (arith, e))
-pair_stored (x ∷ []) q X e = absurd (omega (arith, e))
-pair_stored (x ∷ y ∷ []) q X e = refl
-pair_stored (x ∷ y ∷ z ∷ m) q X e = absurd (omega (arith, e))
 
 pub pair_by : {q r X Y : ℕ} → q ≡ r → X ≡ Y → q ∷ X ∷ [] ≡ r ∷ Y ∷ []
 pair_by a b = cc

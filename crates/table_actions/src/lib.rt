@@ -17,25 +17,15 @@ use reply::{Kind, Refusal};
 use symbol::{CODES, Symbol};
 use table_lines::{Block, Judgement, Line, Step, Tally};
 
+#[tactic(auto, unfolding(crate::specs::Actions::is_action))]
 fn is_action(letter: u8) -> bool
     ensures { result ≡ is_action letter }
 {
-    if letter == b'S' {
-        return true;
-    }
-    if letter == b'N' {
-        return true;
-    }
-    if letter == b'A' {
-        return true;
-    }
-    if letter == b'P' {
-        return true;
-    }
-    false
+    matches!(letter, b'S' | b'N' | b'A' | b'P')
 }
 
 // Whether the symbol is of the kind that the letter asks for, and the next state or the rule is declared.
+#[tactic(auto, unfolding(crate::specs::Actions::action_declared))]
 fn action_declared(
     t: usize,
     n: usize,
@@ -48,25 +38,12 @@ fn action_declared(
     ensures { result ≡ action_declared t n rules states letter symbol v }
 {
     let x = Symbol { code: symbol };
-    if letter == b'S' {
-        if !x.is_terminal(t) {
-            return false;
-        }
-        return in_range(1, v, states);
+    match letter {
+        b'S' => x.is_terminal(t) && in_range(1, v, states),
+        b'N' => x.is_nonterminal(n) && in_range(1, v, states),
+        b'A' => x.is_lookahead(t) && in_range(1, v, rules),
+        _ => x.is_lookahead(t),
     }
-    if letter == b'N' {
-        if !x.is_nonterminal(n) {
-            return false;
-        }
-        return in_range(1, v, states);
-    }
-    if !x.is_lookahead(t) {
-        return false;
-    }
-    if letter == b'A' {
-        return in_range(1, v, rules);
-    }
-    true
 }
 
 fn judge_action(
@@ -108,16 +85,14 @@ fn judge_action(
 fn pop_value(count: usize) -> usize
     ensures { (result ≡ pop_value count) × (result < 256) }
 {
-    if count == 0 {
-        return 255;
+    match count {
+        1..=255 => count - 1,
+        _ => 255,
     }
-    if 255 < count {
-        return 255;
-    }
-    count - 1
 }
 
 // Stores the cell or the goto of a line, and marks its next state as named.
+#[tactic(auto, unfolding(crate::specs::Actions::action_of))]
 fn store_action(
     letter: u8,
     state: usize,
@@ -132,24 +107,25 @@ fn store_action(
     ensures { Stored (L state symbol (action_of letter v)) kinds.old values.old gotos.old named.old kinds.new values.new gotos.new named.new }
 {
     let cell = state * CODES + symbol;
-    if letter == b'S' {
-        table_lines::put(kinds, cell, 1);
-        table_lines::put(values, cell, v);
-        table_lines::put(named, v, 1);
-        return;
+    match letter {
+        b'S' => {
+            table_lines::put(kinds, cell, 1);
+            table_lines::put(values, cell, v);
+            table_lines::put(named, v, 1);
+        }
+        b'N' => {
+            table_lines::put(gotos, cell - Symbol::FIRST_NONTERMINAL, v);
+            table_lines::put(named, v, 1);
+        }
+        b'A' => {
+            table_lines::put(kinds, cell, 2);
+            table_lines::put(values, cell, v);
+        }
+        _ => {
+            table_lines::put(kinds, cell, 3);
+            table_lines::put(values, cell, pop_value(v));
+        }
     }
-    if letter == b'N' {
-        table_lines::put(gotos, cell - Symbol::FIRST_NONTERMINAL, v);
-        table_lines::put(named, v, 1);
-        return;
-    }
-    if letter == b'A' {
-        table_lines::put(kinds, cell, 2);
-        table_lines::put(values, cell, v);
-        return;
-    }
-    table_lines::put(kinds, cell, 3);
-    table_lines::put(values, cell, pop_value(v));
 }
 
 // A line's state and symbol are now the last.
@@ -157,8 +133,7 @@ fn keep_pair(last: &mut [usize], state: usize, symbol: usize)
     requires { length last.old ≡ 2 }
     ensures { last.new ≡ state ∷ symbol ∷ [] }
 {
-    last[0] = state;
-    last[1] = symbol;
+    last.copy_from_slice(&[state, symbol]);
 }
 
 // The action line at `at`, after so many others.
@@ -223,26 +198,16 @@ fn read_rising(
         → Reads (λ l. ActionMemory e (length kinds.old) (length values.old) (length gotos.old) (length named.old) l kinds.new values.new gotos.new named.new last.new) (actions_from s.now t n rules states first) result }
 {
     let mut at = first;
-    let mut k = 0;
-    let mut left = s.len();
-    while 0 < left {
-        left -= 1;
+    for k in 0..s.len() {
         match read_action(
             s, at, t, n, rules, states, k, kinds, values, gotos, named, last,
         ) {
-            Step::Taken(next) => {
-                at = next;
-                k += 1;
-            }
-            Step::Stopped => {
-                return Block::Read(k, at);
-            }
-            Step::Refused(why) => {
-                return Block::Refused(why);
-            }
+            Step::Taken(next) => at = next,
+            Step::Stopped => return Block::Read(k, at),
+            Step::Refused(why) => return Block::Refused(why),
         }
     }
-    Block::Read(k, at)
+    Block::Read(s.len(), at)
 }
 
 // The action lines from `first` on to the book's end. A refusal leaves the slices free; `table::read_tables` then clears them.
