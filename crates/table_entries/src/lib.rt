@@ -25,10 +25,7 @@ fn same_string(m: &[u8], items: usize, i: usize, numbers: &[usize], count: usize
     ensures { (γ ns : List ℕ) → EntryIn m.now i γ → Numbers ns count numbers.now → result ≡ same_string γ (drop 1 ns) }
 {
     let len = items::length_of(m, items, i);
-    if len + 1 != count {
-        return false;
-    }
-    item_groups::is_part(m, items, i, 0, len, &numbers[1..count])
+    len + 1 == count && item_groups::is_part(m, items, i, 0, len, &numbers[1..count])
 }
 
 // The number of the entry whose string is that of the numbers from the second on, 0 where there is none. It looks at
@@ -38,12 +35,10 @@ pub fn find_entry(m: &[u8], rules: usize, entries: usize, numbers: &[usize], cou
     requires entries_bound { (rules + entries < 256) × (1 ≤ count) × (length numbers.now ≡ 67) }
     ensures { (l : List EntryLine) (ns : List ℕ) → length l ≡ entries → Rows m.now rules l → Numbers ns count numbers.now → result ≡ entry_from 1 l (drop 1 ns) }
 {
-    let mut k = 0;
-    while k < entries {
-        if same_string(m, rules + entries, rules + k + 1, numbers, count) {
-            return k + 1;
+    for k in 1..=entries {
+        if same_string(m, rules + entries, rules + k, numbers, count) {
+            return k;
         }
-        k += 1;
     }
     0
 }
@@ -53,13 +48,11 @@ fn all_declared(t: usize, n: usize, numbers: &[usize], count: usize) -> bool
     requires { (1 ≤ count) × (count ≤ length numbers.now) }
     ensures { result ≡ all_declared t n (drop 1 (take count numbers.now)) }
 {
-    let mut k = 1;
-    while k < count {
-        let symbol = Symbol { code: numbers[k] };
+    for code in &numbers[1..count] {
+        let symbol = Symbol { code: *code };
         if !symbol.is_declared(t, n) {
             return false;
         }
-        k += 1;
     }
     true
 }
@@ -70,10 +63,7 @@ pub fn use_of(m: &[u8], items: usize, rules: usize, numbers: &[usize], count: us
     requires rules_le { (rules ≤ items) × (rules ≤ 127) × (length numbers.now ≡ 67) }
     ensures { (g : Grammar) (ns : List ℕ) → RulesIn g m.now rules → Numbers ns count numbers.now → result ≡ first_use g.rules (drop 1 ns) }
 {
-    if count < 2 {
-        return 0;
-    }
-    if 16 < count {
+    if count < 2 || 16 < count {
         return 0;
     }
     item_groups::first_use(m, items, rules, &numbers[1..count])
@@ -83,10 +73,7 @@ pub fn use_of(m: &[u8], items: usize, rules: usize, numbers: &[usize], count: us
 fn may_follow(last: usize, used: usize) -> bool
     ensures { result ≡ not (ltb 0 used) || ltb last used }
 {
-    if used == 0 {
-        return true;
-    }
-    last < used
+    used == 0 || last < used
 }
 
 // What binds the line after one with the first use `used`, which came after so many others. The first line binds none, nor does a string
@@ -94,10 +81,7 @@ fn may_follow(last: usize, used: usize) -> bool
 fn bind_next(last: usize, entries: usize, used: usize) -> usize
     ensures { (rs : List Rule) (l : List EntryLine) (s : ℕ) (γ : List ℕ) → length l ≡ entries → last ≡ last_use rs l → used ≡ first_use rs γ → result ≡ last_use rs (l ++ E s γ ∷ []) }
 {
-    if entries == 0 {
-        return last;
-    }
-    if used == 0 {
+    if entries == 0 || used == 0 {
         return last;
     }
     used
@@ -154,13 +138,12 @@ pub fn store_row(items: &mut [u8], base: usize, numbers: &[usize], count: usize)
     requires by_index_2 { (j : ℕ) → base ≤ j → j < base + 64 → get_or items.old j 0 ≡ 0 }
     ensures { items.new ≡ sets items.old base (entry_row (drop 1 (take count numbers.now))) }
 {
-    let mut k = 0;
-    while k + 1 < count {
-        table_lines::put(items, base + 16 + k, numbers[k + 1]);
-        k += 1;
+    let symbols = &numbers[1..count];
+    for (k, symbol) in symbols.iter().enumerate() {
+        table_lines::put(items, base + 16 + k, *symbol);
     }
     table_lines::put(items, base, 0);
-    table_lines::put(items, base + 1, k);
+    table_lines::put(items, base + 1, symbols.len());
     table_lines::put(items, base + 2, 255);
     table_lines::put(items, base + 3, 0);
 }
@@ -235,8 +218,7 @@ pub fn read_entries(
 {
     let mut last = [0usize; 1];
     let mut at = first;
-    let mut k = 0;
-    while k < count {
+    for k in 0..count {
         match read_entry(
             s,
             at,
@@ -250,17 +232,10 @@ pub fn read_entries(
             named,
             &mut last,
         ) {
-            Step::Taken(next) => {
-                at = next;
-                k += 1;
-            }
-            Step::Stopped => {
-                return Block::Read(k, at);
-            }
-            Step::Refused(why) => {
-                return Block::Refused(why);
-            }
+            Step::Taken(next) => at = next,
+            Step::Stopped => return Block::Read(k, at),
+            Step::Refused(why) => return Block::Refused(why),
         }
     }
-    Block::Read(k, at)
+    Block::Read(count, at)
 }
