@@ -1,29 +1,17 @@
 -- A fault named shows that the list of entries is not the construction's.
 use Prim.Native.Nat.{ℕ, ◌≤◌, ◌<◌}
 use mathlib.Core.Path.{◌≡◌, refl, sym, subst}
-use mathlib.Core.Logic.{⊎_elim}
-use mathlib.Core.List.{[], ◌∷◌}
 use native.Mathlib.Omega.{arith}
-use types.Run.{OneOf}
-use denote.Enum.Declared.{tag_of}
 use Rattle.language.specs.Grammar.{Grammar}
 use Rattle.language.specs.Sentence.{In, here}
 use Rattle.language.proofs.Member.{in_right}
 use Rattle.leftcorner.specs.Table.{Table}
 use Rattle.leftcorner.specs.Construction.{of_group, EntriesMeet}
 use Rattle.check_entries.specs.declared.EntryFault.{EntryFault}
-use Rattle.check_entries.specs.contracts.EntryFault.{the_type}
 use Rattle.check_entries.specs.Faults.{NamedIs, EntryFaultIs, InRange}
 
 clash : {A : Type 0} → ◌≡◌ {A = ℕ} 0 1 → A
 clash z = absurd (omega (arith, z))
-
--- any variant but the last
-pub is_named : (x : EntryFault) → OneOf (0 ∷ 1 ∷ 2 ∷ []) (tag_of the_type x) → x ≡ EntryFault.Nothing → ⊥
-is_named EntryFault.Nothing o e = ⊎_elim (λ z. omega (arith, z)) (λ p. ⊎_elim (λ z. omega (arith, z)) (λ z. omega (arith, z)) p) o
-is_named EntryFault.NotGoal o e = clash cc
-is_named (EntryFault.Bare i from to) o e = clash cc
-is_named (EntryFault.Unwanted k) o e = clash cc
 
 module _ {g : Grammar} {t : Table} where
   pub fine : {Fine : Type 0} {x : EntryFault} → EntryFaultIs g t Fine x → x ≡ EntryFault.Nothing → Fine

@@ -36,14 +36,10 @@ fn same_part(items: &[u8], count: usize, i: usize, from: usize, n: usize, e: usi
     if items::length_of(items, count, e) != n {
         return false;
     }
-    let mut j = 0;
-    while j < n {
-        let x = items::symbol_of(items, count, i, from + j);
-        let y = items::symbol_of(items, count, e, j);
-        if x != y {
+    for j in 0..n {
+        if items::symbol_of(items, count, i, from + j) != items::symbol_of(items, count, e, j) {
             return false;
         }
-        j += 1;
     }
     true
 }
@@ -55,12 +51,10 @@ fn entry_of(items: &[u8], rules: usize, strings: usize, i: usize, from: usize, n
     ensures { FindsEntry items.now rules strings i from n result }
 {
     let count = rules + strings;
-    let mut k = 1;
-    while k <= strings {
+    for k in 1..=strings {
         if same_part(items, count, i, from, n, rules + k) {
             return k;
         }
-        k += 1;
     }
     0
 }
@@ -85,6 +79,7 @@ fn fill_rule(
     let length = items::length_of(items, count, i);
     let mut from = items::mark_of(items, count, i);
     let mut j: usize = 0;
+    // Stays a counted loop: `from` moves by a group's length, and `j` by one.
     while from < length {
         let to = item_groups::group_end(items, count, i, from, length);
         let e = entry_of(items, rules, strings, i, from, to - from);
@@ -114,13 +109,11 @@ fn fill_rules(
     ensures entry_fault_is { (g : Grammar) (t : Table) → HoldsStrings g t items.now rules strings → ((x : ℕ) → get_or uses.old x 0 ≡ 0)
         → EntryFaultIs g t (Filled g t (rules + 1) uses.new wanted.old wanted.new) result }
 {
-    let mut i = 1;
-    while i <= rules {
+    for i in 1..=rules {
         let fault = fill_rule(items, rules, strings, i, uses, wanted);
         let EntryFault::Nothing = fault else {
             return fault;
         };
-        i += 1;
     }
     EntryFault::Nothing
 }
@@ -142,13 +135,7 @@ fn is_goal(items: &[u8], count: usize, i: usize, goal: usize) -> bool
     requires i_le_count { i ≤ count }
     ensures { Decides ((length_at items.now i ≡ 1) × (symbol_at items.now i 0 ≡ goal)) result }
 {
-    if items::length_of(items, count, i) != 1 {
-        return false;
-    }
-    if items::symbol_of(items, count, i, 0) != goal {
-        return false;
-    }
-    true
+    items::length_of(items, count, i) == 1 && items::symbol_of(items, count, i, 0) == goal
 }
 
 // Why the entries are not those of the construction; if nothing is wrong, notes at rule * 16 + group the number of each group's entry.
@@ -196,9 +183,8 @@ pub fn entries_meet(
     ensures decides { (g : Grammar) (t : Table) → HoldsStrings g t items.now rules strings → g.goal ≡ goal
         → Decides (EntriesMeet g t) result × (result ≡ true → HoldsUses uses.new g t) }
 {
-    let fault = find_entry_fault(items, rules, strings, goal, uses);
-    let EntryFault::Nothing = fault else {
-        return false;
-    };
-    true
+    matches!(
+        find_entry_fault(items, rules, strings, goal, uses),
+        EntryFault::Nothing
+    )
 }

@@ -1,10 +1,7 @@
 -- No entry that was passed has the string.
-use Prim.Native.Nat.{ℕ, ◌+◌, ◌≤◌, ◌<◌, ◌-◌}
+use Prim.Native.Nat.{ℕ, ◌+◌, ◌≤◌, ◌<◌}
 use Rattle.check_entries.specs.Parts.{SamePart}
 use Rattle.check_entries.proofs.entry_of.Given as goal
 
 abbrev pub invariant-loop-k : goal.invariant-loop-k
-invariant-loop-k l = (1 ≤ l.k) × (l.k ≤ l.strings + 1) × ((m : ℕ) → 1 ≤ m → m < l.k → SamePart l.items l.i l.from l.n (l.rules + m) → ⊥)
-
-abbrev pub decreases-loop-k : goal.decreases-loop-k
-decreases-loop-k l = l.strings + 1 - l.k
+invariant-loop-k l = (m : ℕ) → 1 ≤ m → m < l.k → SamePart l.items l.i l.from l.n (l.rules + m) → ⊥

@@ -1,22 +1,14 @@
 -- The rules passed are noted and flagged.
-use Prim.Native.Nat.{ℕ, ◌+◌, ◌≤◌, ◌-◌}
+use Prim.Native.Nat.{ℕ}
 use mathlib.Core.Path.{◌≡◌}
-use lib.ListN.{length, get_or}
+use lib.ListN.{get_or}
 use Rattle.language.specs.Grammar.{Grammar}
 use Rattle.leftcorner.specs.Table.{Table}
 use Rattle.check_entries.specs.Uses.{HoldsStrings, Filled}
 use Rattle.check_entries.proofs.fill_rules.Given as goal
 
 abbrev pub invariant-loop-i : goal.invariant-loop-i
-invariant-loop-i l =
-    (1 ≤ l.i)
-    × (l.i ≤ l.rules + 1)
-    × (length l.uses ≡ 2048)
-    × (length l.wanted ≡ 128)
-    × ((g : Grammar) (t : Table)
+invariant-loop-i l = (g : Grammar) (t : Table)
     → HoldsStrings g t l.items l.rules l.strings
     → ((x : ℕ) → get_or l.initial.uses x 0 ≡ 0)
-    → Filled g t l.i l.uses l.initial.wanted l.wanted)
-
-abbrev pub decreases-loop-i : goal.decreases-loop-i
-decreases-loop-i l = l.rules + 1 - l.i
+    → Filled g t l.i l.uses l.initial.wanted l.wanted

@@ -1,10 +1,9 @@
 -- The goal is first, each group has an entry, and each other entry is flagged.
-use borrow.Enum.Refused.{opened}
 use Prim.Native.Nat.{ℕ}
 use mathlib.Core.Path.{refl, sym, ap, ◌∙◌}
 use native.Mathlib.Omega.{arith}
 use lib.ListN.{length, length-replicate}
-use Rattle.check_entries.proofs.FaultLaws.{is_named, fine, still, range_goal, range_entry, range_none}
+use Rattle.check_entries.proofs.FaultLaws.{fine, still, range_goal, range_entry, range_none}
 use Rattle.check_entries.proofs.ListLaws.{goal_entry, entry_goal, lowest_range, entry_unwanted, entries_hold, uses_hold, zeros_of}
 use Rattle.check_entries.proofs.find_entry_fault.Goals as goal
 
@@ -20,7 +19,7 @@ returns-in_default c =
     let f = c.fill_rules-fault in record {
       uses_len = (f.ensures.uses_len_2.0, f.ensures.uses_len_2.2);
       entry_fault_is = λ g t S e.
-          still f.result (is_named f.result (opened c.in_default.in_default-own.keys2))
+          still f.result c.in_default.not-Nothing
           (f.ensures.entry_fault_is g t S (zeros_of 2048 c.requires.uses_value));
     }
 
