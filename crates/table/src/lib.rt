@@ -193,6 +193,7 @@ fn read_short(grammar: &[u8], book: &[u8]) -> TableReply
 }
 
 // Whether slices of these lengths have room.
+#[tactic(auto, unfolding(crate::specs::Memory::room_for))]
 fn has_room(
     items: usize,
     entry_states: usize,
@@ -205,28 +206,14 @@ fn has_room(
 ) -> bool
     ensures { result ≡ room_for items entry_states kernels lookaheads kinds values gotos named }
 {
-    if items < ITEMS {
-        return false;
-    }
-    if entry_states < ENTRY_STATES {
-        return false;
-    }
-    if kernels < KERNELS {
-        return false;
-    }
-    if lookaheads < LOOKAHEADS {
-        return false;
-    }
-    if kinds < CELLS {
-        return false;
-    }
-    if values < CELLS {
-        return false;
-    }
-    if gotos < CELLS {
-        return false;
-    }
-    NAMED <= named
+    ITEMS <= items
+        && ENTRY_STATES <= entry_states
+        && KERNELS <= kernels
+        && LOOKAHEADS <= lookaheads
+        && CELLS <= kinds
+        && CELLS <= values
+        && CELLS <= gotos
+        && NAMED <= named
 }
 
 // Reads a grammar book and a table book into memory. A refusal leaves zeros.
