@@ -112,8 +112,7 @@ pub fn load_tables(
         gotos,
         named,
     );
-    let verdict = checked.verdict;
-    if let Reply::Refused(why) = verdict {
+    if let Reply::Refused(why) = checked.verdict {
         table::clear_all(
             items,
             entry_states,
