@@ -2,14 +2,16 @@
 use Prim.Native.Nat.{ℕ, zero, suc, ◌+◌, ◌-◌, ◌≤◌, ◌<◌}
 use mathlib.Core.Path.{◌≡◌, refl, sym, ap, subst, ◌∙◌}
 use mathlib.Core.Bool.{Bool, cond}
-use mathlib.Core.List.{List}
+use mathlib.Core.List.{List, ◌++◌}
 use native.Mathlib.Nat.{not-suc-le-zero}
 use native.Mathlib.Decide.{ℕ_discrete, dec_lt}
 use native.Mathlib.Omega.{arith}
 use borrow.Author.Tests.{eq-eqb, ne_eqb}
 use lib.Dec.{eqb}
-use lib.ListN.{length, get_or, set, length-set}
+use lib.ListN.{length, get_or, set, replicate, take, drop, get_or-append, length-set, length-replicate}
 use lib.Seq.{get_or-set_same, get_or-set_other}
+use borrow.Rule.Slice.PartMut.{put_mid}
+use Rattle.std.proofs.lemmas.List.{get_or-append_right, get_or-replicate, length-append, length-take-le, length-drop}
 use Rattle.fixpoint.specs.declared.Found.{Found}
 use Rattle.memory.specs.Memory.{state_at}
 use Rattle.kernel_lines.specs.Lines.{LineAt, Finds, last_before}
@@ -117,14 +119,18 @@ module _ {kernels links : List ℕ} {l : ℕ} (h : Linking kernels links l) (low
   unfolding next
   linked_line {n = n} e f = subst (λ (x : List ℕ). Linking kernels x n) (sym e) (subst (Linking kernels next) (let z : suc l ≡ n = omega arith in z) linking_more)
 
--- one more state without a line
-pub clear_more : (links : List ℕ) (q : ℕ) → length links ≡ 1280 → q < 256 → ((p : ℕ) → p < q → get_or links (1024 + p) 0 ≡ 0)
-    → (p : ℕ) → p < q + 1 → get_or (set links (1024 + q) 0) (1024 + p) 0 ≡ 0
-clear_more links q r l h p b = go (ℕ_discrete p q)
-  where
-    go : Dec (p ≡ q) → get_or (set links (1024 + q) 0) (1024 + p) 0 ≡ 0
-    go (yes e) = subst (λ (x : ℕ). get_or (set links (1024 + q) 0) (1024 + x) 0 ≡ 0) (sym e) (get_or-set_same links (1024 + q) 0 0 (omega arith))
-    go (no n) = get_or-set_other links (1024 + q) (1024 + p) 0 0 (λ e. n (omega (arith, e))) ∙ h p (omega arith)
+-- no state has a line yet: the second part of the links is zeros
+pub nothing_linked : {kernels : List ℕ} (links : List ℕ) {zs : List ℕ} (k n : ℕ) → length links ≡ 1280 → k ≡ 256 → n ≡ 256 → zs ≡ replicate n 0
+    → Linking kernels (put_mid 1024 k links zs) 0
+nothing_linked links {zs} k n r ek en e =
+    let lz : length zs ≡ 256 = ap length e ∙ (length-replicate {A = ℕ} n 0 ∙ en) in
+    let room : 1024 ≤ length links = omega arith in
+    let front : length (take 1024 links) ≡ 1024 = simp length-take-le in
+    linking_start (simp (length-append, length-take-le, length-drop) (omega arith)) (λ q l.
+    let past : (1024 + q) - 1024 ≡ q = omega arith in
+    get_or-append_right (take 1024 links) (zs ++ drop k (drop 1024 links)) 1024 (1024 + q) 0 front (omega arith)
+    ∙ rw past (get_or-append zs (drop k (drop 1024 links)) 0 q (omega arith)
+    ∙ (ap (λ (xs : List ℕ). get_or xs q 0) e ∙ get_or-replicate n q 0 0 (omega arith))))
 
 -- ---- what a search says
 pub found_line : (kernels : List ℕ) (lines q i k : ℕ) (r : Found) {l : ℕ} → Finds kernels lines q i k r → r ≡ Found.At l → LineAt kernels lines q i k

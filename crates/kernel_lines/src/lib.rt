@@ -9,19 +9,13 @@ ghost use Rattle.kernel_lines.specs.Lines.{Lines, LineAt, Finds, last_before, Li
 
 use fixpoint::Found;
 
-fn wide(x: u8) -> usize
-    ensures { (result ≡ x) × (result < 256) }
-{
-    x as usize
-}
-
 // The state of line l.
 pub fn state_of(kernels: &[u8], lines: usize, items: usize, l: usize) -> usize
     requires lines { Lines kernels.now lines items }
     requires l_lt_lines { l < lines }
     ensures { (result ≡ state_at kernels.now l) × (result < 256) }
 {
-    wide(kernels[l * 4])
+    kernels[l * 4] as usize
 }
 
 // The item of line l.
@@ -30,7 +24,7 @@ pub fn item_of(kernels: &[u8], lines: usize, items: usize, l: usize) -> usize
     requires l_lt_lines { l < lines }
     ensures { (result ≡ item_at kernels.now l) × (result ≤ items) }
 {
-    wide(kernels[l * 4 + 1])
+    kernels[l * 4 + 1] as usize
 }
 
 // The dot of line l.
@@ -39,19 +33,7 @@ pub fn dot_of(kernels: &[u8], lines: usize, items: usize, l: usize) -> usize
     requires l_lt_lines { l < lines }
     ensures { (result ≡ dot_at kernels.now l) × (result ≤ 15) }
 {
-    wide(kernels[l * 4 + 2])
-}
-
-// No state has a line yet.
-fn clear_last(links: &mut [usize])
-    requires { length links.old ≡ 1280 }
-    ensures { (length links.new ≡ 1280) × ((q : ℕ) → q < 256 → get_or links.new (1024 + q) 0 ≡ 0) }
-{
-    let mut q = 0;
-    while q < 256 {
-        links[1024 + q] = 0;
-        q += 1;
-    }
+    kernels[l * 4 + 2] as usize
 }
 
 // Links the lines of each state.
@@ -60,18 +42,17 @@ pub fn link_lines(kernels: &[u8], lines: usize, items: usize, links: &mut [usize
     requires links_len { length links.old ≡ 1280 }
     ensures { Linked kernels.now links.new lines }
 {
-    clear_last(links);
-    let mut l = 0;
-    while l < lines {
+    // No state has a line yet.
+    links[1024..].fill(0);
+    for l in 0..lines {
         let q = state_of(kernels, lines, items, l);
-        let before = links[1024 + q];
-        links[l] = before;
+        links[l] = links[1024 + q];
         links[1024 + q] = l + 1;
-        l += 1;
     }
 }
 
 // One more than the last line for state q; 0 where there is none.
+#[tactic(auto, using(crate::proofs::LinkLaws::last_low))]
 pub fn last_line(kernels: &[u8], links: &[usize], lines: usize, q: usize) -> usize
     requires linked { Linked kernels.now links.now lines }
     requires q_bound { q < 256 }
@@ -81,6 +62,7 @@ pub fn last_line(kernels: &[u8], links: &[usize], lines: usize, q: usize) -> usi
 }
 
 // One more than the line before line l for the same state; 0 where there is none.
+#[tactic(auto, using(crate::proofs::LinkLaws::last_low))]
 pub fn line_before(kernels: &[u8], links: &[usize], lines: usize, l: usize) -> usize
     requires linked { Linked kernels.now links.now lines }
     requires l_lt_lines { (l < lines) × (lines ≤ 1023) }
@@ -95,13 +77,7 @@ pub fn is_of(kernels: &[u8], lines: usize, items: usize, l: usize, i: usize, k: 
     requires l_lt_lines { l < lines }
     ensures { Decides ((item_at kernels.now l ≡ i) × (dot_at kernels.now l ≡ k)) result }
 {
-    if item_of(kernels, lines, items, l) != i {
-        return false;
-    }
-    if dot_of(kernels, lines, items, l) != k {
-        return false;
-    }
-    true
+    item_of(kernels, lines, items, l) == i && dot_of(kernels, lines, items, l) == k
 }
 
 // The line for item i, dot k in state q.
