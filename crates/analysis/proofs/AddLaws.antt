@@ -60,12 +60,6 @@ adds_one {fs = fs} {fs' = fs'} x e l = subst (λ (xs : List ℕ). Adds (λ (y : 
 
 -- ---- rows
 
-row_empty : (from : List ℕ) (start at y : ℕ) → InRow from start 0 at y → ⊥
-row_empty from start at y r = omega (arith, r.low)
-
-pub row_start : (from : List ℕ) (start at : ℕ) (fs : List ℕ) → Adds (InRow from start 0 at) fs fs
-row_start from start at fs = adds_none fs (row_empty from start at)
-
 -- the row up to c + 1 is that up to c, and c
 row_split : (from : List ℕ) (start at c y : ℕ) → InRow from start (c + 1) at y → InRow from start c at y ⊎ ((y ≡ at + c) × On from (start + c))
 row_split from start at c y r = go (dec_lt r.code c)
@@ -106,11 +100,6 @@ row_skip from start at c {fs₀ = fs₀} e off a =
     down : (y : ℕ) → InRow from start (c + 1) at y → InRow from start c at y
     down y r = pick y (row_split from start at c y r)
 
-pub row_all : (from : List ℕ) (start at : ℕ) {c codes : ℕ} {fs₀ fs : List ℕ} → c ≤ codes → codes ≤ c → Adds (InRow from start c at) fs₀ fs → Adds (InRow from start codes at) fs₀ fs
-row_all from start at {c = c} {codes = codes} {fs₀ = fs₀} {fs = fs} l u a =
-    let e : c ≡ codes = omega arith in
-    subst (λ (n : ℕ). Adds (InRow from start n at) fs₀ fs) e a
-
 -- ---- first of a rest, symbol by symbol
 
 -- the symbols of β up to some point are passed, γ is left
@@ -122,9 +111,6 @@ pub record Passed (codes : ℕ) (nul fst β γ : List ℕ) (at : ℕ) (fs₀ fs 
   pub past : (d c : ℕ) → FirstBy codes nul fst γ d c → FirstBy codes nul fst β d c
 
 module _ (codes : ℕ) (nul fst β : List ℕ) (at : ℕ) where
-  pub passed_none : (fs : List ℕ) → Passed codes nul fst β β at fs fs
-  passed_none fs = record { long = refl; only = λ y on. inl on; kept = λ y on. on; every = λ d c f. inr f; past = λ d c f. f }
-
   -- the codes of X are set
   module _ {fs₀ fs fs' : List ℕ} (X : ℕ) (γ : List ℕ) (p : Passed codes nul fst β (X ∷ γ) at fs₀ fs) (a : Adds (InRow fst (X * 64) codes at) fs fs') where
     begun : (y : ℕ) → InRow fst (X * 64) codes at y → BeginsAt codes nul fst β at y

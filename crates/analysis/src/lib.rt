@@ -21,15 +21,11 @@ fn merge_row(flags: &mut [u8], from: usize, to: usize) -> usize
     ensures { Pass 8192 (Copied flags.old from to) flags.old flags.new 0 result (Includes from to) }
 {
     let mut added: usize = 0;
-    let mut c = 0;
-    while c < CODES {
-        if flags[from * CODES + c] != 0 {
-            if flags[to * CODES + c] == 0 {
-                flags[to * CODES + c] = 1;
-                added += 1;
-            }
+    for c in 0..CODES {
+        if flags[from * CODES + c] != 0 && flags[to * CODES + c] == 0 {
+            flags[to * CODES + c] = 1;
+            added += 1;
         }
-        c += 1;
     }
     added
 }
@@ -42,16 +38,13 @@ fn merge_symbols(m: &[u8], rules: usize, i: usize, nullable: &[u8], first: &mut 
     ensures { Pass 8192 (Row (FirstFrom m.now rules (On nullable.now) (Has first.old))) first.old first.new 0 result (RuleMet m.now (On nullable.now) i) }
 {
     let left = items::left_of(m, rules, i);
-    let n = items::length_of(m, rules, i);
     let mut added: usize = 0;
-    let mut k = 0;
-    while k < n {
+    for k in 0..items::length_of(m, rules, i) {
         let x = items::symbol_of(m, rules, i, k);
         added += merge_row(first, x, left);
         if nullable[x] == 0 {
             return added;
         }
-        k += 1;
     }
     added
 }
@@ -64,10 +57,8 @@ fn close_first(m: &[u8], rules: usize, nullable: &[u8], first: &mut [u8])
 {
     'passes: loop {
         let mut added: usize = 0;
-        let mut i = 1;
-        'rules: while i <= rules {
+        'rules: for i in 1..rules + 1 {
             added += merge_symbols(m, rules, i, nullable, first);
-            i += 1;
         }
         if added == 0 {
             break 'passes;
@@ -81,10 +72,8 @@ fn flag_diagonal(t: usize, first: &mut [u8])
     requires first_value { first.old ≡ replicate 8192 0 }
     ensures { Marks (Row (Diagonal t)) first.new }
 {
-    let mut c = 1;
-    while c <= t {
+    for c in 1..t + 1 {
         first[c * CODES + c] = 1;
-        c += 1;
     }
 }
 
@@ -105,14 +94,7 @@ pub fn any_code(from: &[u8], start: usize, codes: usize) -> bool
     requires { start + codes ≤ length from.now }
     ensures { Decides (AnyIn from.now start codes) result }
 {
-    let mut c = 0;
-    while c < codes {
-        if from[start + c] != 0 {
-            return true;
-        }
-        c += 1;
-    }
-    false
+    from[start..start + codes].iter().any(|flag| *flag != 0)
 }
 
 // Sets in one row of flags those that are set in another.
@@ -121,12 +103,10 @@ pub fn add_codes(from: &[u8], start: usize, codes: usize, flags: &mut [u8], at: 
     requires codes_in_bounds_2 { at + codes ≤ length flags.old }
     ensures { Adds (InRow from.now start codes at) flags.old flags.new }
 {
-    let mut c = 0;
-    while c < codes {
+    for c in 0..codes {
         if from[start + c] != 0 {
             flags[at + c] = 1;
         }
-        c += 1;
     }
 }
 
@@ -149,15 +129,12 @@ pub fn rest_first(
     requires codes_in_bounds { at + codes ≤ length flags.old }
     ensures { RestFirst codes nul.now fst.now (rest_at m.now i k) at flags.old flags.new result }
 {
-    let n = items::length_of(m, items, i);
-    let mut j = k;
-    while j < n {
+    for j in k..items::length_of(m, items, i) {
         let x = items::symbol_of(m, items, i, j);
         add_codes(fst, x * CODES, codes, flags, at);
         if nul[x] == 0 {
             return false;
         }
-        j += 1;
     }
     true
 }

@@ -12,9 +12,8 @@ use lib.ListN.{length, get_or, set, replicate, take, drop, get_or-append, length
 use lib.Seq.{get_or-set_same, get_or-set_other}
 use borrow.Rule.Slice.PartMut.{put_mid}
 use Rattle.std.proofs.lemmas.List.{get_or-append_right, get_or-replicate, length-append, length-take-le, length-drop}
-use Rattle.fixpoint.specs.declared.Found.{Found}
 use Rattle.memory.specs.Memory.{state_at}
-use Rattle.kernel_lines.specs.Lines.{LineAt, Finds, last_before}
+use Rattle.kernel_lines.specs.Lines.{last_before}
 
 module _ (kernels : List ℕ) (q : ℕ) where
   -- p is one more than the last line before l for q, or 0
@@ -131,10 +130,3 @@ nothing_linked links {zs} k n r ek en e =
     get_or-append_right (take 1024 links) (zs ++ drop k (drop 1024 links)) 1024 (1024 + q) 0 front (omega arith)
     ∙ rw past (get_or-append zs (drop k (drop 1024 links)) 0 q (omega arith)
     ∙ (ap (λ (xs : List ℕ). get_or xs q 0) e ∙ get_or-replicate n q 0 0 (omega arith))))
-
--- ---- what a search says
-pub found_line : (kernels : List ℕ) (lines q i k : ℕ) (r : Found) {l : ℕ} → Finds kernels lines q i k r → r ≡ Found.At l → LineAt kernels lines q i k
-found_line kernels lines q i k r {l} f e = record { line = l; is_it = subst (Finds kernels lines q i k) e f }
-
-pub found_none : (kernels : List ℕ) (lines q i k : ℕ) (r : Found) → Finds kernels lines q i k r → r ≡ Found.Nothing → LineAt kernels lines q i k → ⊥
-found_none kernels lines q i k r f e = subst (Finds kernels lines q i k) e f

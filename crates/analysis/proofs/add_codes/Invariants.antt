@@ -1,10 +1,6 @@
 -- The row up to a code is that up to the code before, and the code where it is set.
-use Prim.Native.Nat.{◌≤◌, ◌-◌}
 use Rattle.analysis.specs.Adds.{Adds, InRow}
 use Rattle.analysis.proofs.add_codes.Given as goal
 
 abbrev pub invariant-loop-c : goal.invariant-loop-c
-invariant-loop-c l = (l.c ≤ l.codes) × Adds (InRow l.from l.start l.c l.at) l.initial.flags l.flags
-
-abbrev pub decreases-loop-c : goal.decreases-loop-c
-decreases-loop-c l = l.codes - l.c
+invariant-loop-c l = Adds (InRow l.from l.start l.c l.at) l.initial.flags l.flags

@@ -13,18 +13,14 @@ passes-init c =
 
 pub rules-init : goal.rules-init
 rules-init c = let a = c.args in
-    (omega arith, omega arith, pass_start _ c.passes.invariant.0 (row_seed a.m.now a.rules (On a.nullable.now)) (λ _ j l m. absurd (no_gap l m)))
-
-pub merge_symbols-added-requires : goal.merge_symbols-added-requires
-merge_symbols-added-requires c =
-    record { shaped = c.requires.shaped; le_i = (c.rules.invariant.0, omega arith); nullable_len = (c.requires.nullable_len.0, c.rules.invariant.2.long) }
+    pass_start _ c.passes.invariant.0 (row_seed a.m.now a.rules (On a.nullable.now)) (λ _ j l m. absurd (no_gap l m))
 
 pub overflow_add-added : goal.overflow_add-added
 overflow_add-added c =
     omega (
       arith,
       c.merge_symbols-added.ensures.count,
-      c.rules.invariant.2.count,
+      c.rules.invariant.count,
       zeros_le c.passes.first,
       c.passes.invariant.0,
     )
@@ -32,34 +28,25 @@ overflow_add-added c =
 pub rules-preserved : goal.rules-preserved
 rules-preserved c =
     let a = c.args in
-    let p = c.rules.invariant.2 in (
-      omega arith,
-      omega arith,
-      pass_call _ _ _ refl refl p c.merge_symbols-added.ensures
-          (row_join a.m.now a.rules (On a.nullable.now) p.only)
-          (λ d met. from_more _ 1 c.rules.i d met),
-    )
-
-pub passes-smaller : goal.passes-smaller
-passes-smaller c = omega (arith, c.rules.invariant.2.count, c.if-added-eq0.false)
+    let p = c.rules.invariant in
+    pass_call _ _ _ refl refl p c.merge_symbols-added.ensures
+    (row_join a.m.now a.rules (On a.nullable.now) p.only)
+    (λ d met. from_more _ 1 c.rules.i d met)
 
 pub passes-preserved : goal.passes-preserved
 passes-preserved c =
     let a = c.args in
-    let p = c.rules.invariant.2 in
+    let p = c.rules.invariant in
     let o = c.passes.invariant in (
       p.long,
       λ y on. row_join a.m.now a.rules (On a.nullable.now) o.1 y (p.only y on),
       λ y on. p.kept y (o.2 y on),
     )
 
-pub shape_of-first : goal.shape_of-first
-shape_of-first c = omega (arith, c.rules.invariant.2.long, c.requires.nullable_len.1)
-
 pub returns : goal.returns
 returns c =
     let a = c.args in
-    let p = c.rules.invariant.2 in
+    let p = c.rules.invariant in
     let o = c.passes.invariant in
     row_marks a.m.now a.rules (On a.nullable.now)
     (λ y on. row_join a.m.now a.rules (On a.nullable.now) o.1 y (p.only y on))

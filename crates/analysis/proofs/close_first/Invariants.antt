@@ -1,5 +1,5 @@
 -- Each pass keeps that what is set follows by the rules; a pass that adds nothing has met every rule.
-use Prim.Native.Nat.{ℕ, ◌+◌, ◌≤◌, ◌<◌, ◌-◌}
+use Prim.Native.Nat.{ℕ, ◌≤◌, ◌<◌}
 use mathlib.Core.Path.{◌≡◌}
 use lib.ListN.{length}
 use Rattle.fixpoint.specs.Flags.{On}
@@ -10,11 +10,8 @@ use Rattle.analysis.proofs.close_first.Given as goal
 
 abbrev pub invariant-rules : goal.invariant-rules
 invariant-rules l =
-    (1 ≤ l.i) × (l.i ≤ l.rules + 1) × Pass 8192 (Row (FirstFrom l.m l.rules (On l.nullable) (Has l.initial.first))) l.initial.first l.first l.initial.added l.added
+    Pass 8192 (Row (FirstFrom l.m l.rules (On l.nullable) (Has l.initial.first))) l.initial.first l.first 0 l.added
     (λ fs. (j : ℕ) → 1 ≤ j → j < l.i → RuleMet l.m (On l.nullable) j fs)
-
-abbrev pub decreases-rules : goal.decreases-rules
-decreases-rules l = l.rules + 1 - l.i
 
 abbrev pub invariant-passes : goal.invariant-passes
 invariant-passes l =

@@ -15,7 +15,7 @@ diagonal fs t y f h = subst (On fs) (ap (λ (x : ℕ). cell x (y % 64)) (sym h.0
 
 pub loop-c-init : goal.loop-c-init
 loop-c-init c =
-    (omega arith, omega arith, ap length c.requires.first_value ∙ length-replicate {A = ℕ} 8192 0, λ y on. all_off 8192 c.requires.first_value on, λ k l m. absurd (no_gap l m))
+    (ap length c.requires.first_value ∙ length-replicate {A = ℕ} 8192 0, λ y on. all_off 8192 c.requires.first_value on, λ k l m. absurd (no_gap l m))
 
 pub loop-c-preserved : goal.loop-c-preserved
 loop-c-preserved c =
@@ -24,16 +24,11 @@ loop-c-preserved c =
     let t = c.args.t in
     let i = c.loop-c.invariant in
     let l : cell x x < length fs = omega arith in (
-      omega arith,
-      omega arith,
-      simp length-set i.2,
-      only_set (Row (Diagonal t)) fs (cell x x) i.3 (to_row (Diagonal t) x x (omega arith) (refl, i.0, omega arith)),
-      from_more (λ j. On _ (cell j j)) 1 x (λ k a b. keep_set fs (cell x x) l (cell k k) (i.4 k a b)) (on_set fs (cell x x) l),
+      simp length-set i.0,
+      only_set (Row (Diagonal t)) fs (cell x x) i.1 (to_row (Diagonal t) x x (omega arith) (refl, omega arith, omega arith)),
+      from_more (λ j. On _ (cell j j)) 1 x (λ k a b. keep_set fs (cell x x) l (cell k k) (i.2 k a b)) (on_set fs (cell x x) l),
     )
-
-pub shape_of-first : goal.shape_of-first
-shape_of-first c = omega (arith, c.loop-c.invariant.2, ap length c.requires.first_value, length-replicate {A = ℕ} 8192 0)
 
 pub returns : goal.returns
 returns c = let i = c.loop-c.invariant in
-    record { only = i.3; every = λ y h. diagonal c.loop-c.first c.args.t y (λ j a b. i.4 j a (omega arith)) h }
+    record { only = i.1; every = λ y h. diagonal c.loop-c.first c.args.t y (λ j a b. i.2 j a (omega arith)) h }

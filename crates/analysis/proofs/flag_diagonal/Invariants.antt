@@ -1,5 +1,5 @@
 -- The flags set are those of the terminals passed, each in its own row.
-use Prim.Native.Nat.{ℕ, ◌+◌, ◌≤◌, ◌<◌, ◌-◌}
+use Prim.Native.Nat.{ℕ, ◌≤◌, ◌<◌}
 use mathlib.Core.Path.{◌≡◌}
 use lib.ListN.{length}
 use Rattle.fixpoint.specs.Flags.{On}
@@ -9,7 +9,4 @@ use Rattle.analysis.proofs.flag_diagonal.Given as goal
 
 abbrev pub invariant-loop-c : goal.invariant-loop-c
 invariant-loop-c l =
-    (1 ≤ l.c) × (l.c ≤ l.t + 1) × (length l.first ≡ 8192) × ((y : ℕ) → On l.first y → Row (Diagonal l.t) y) × ((j : ℕ) → 1 ≤ j → j < l.c → On l.first (cell j j))
-
-abbrev pub decreases-loop-c : goal.decreases-loop-c
-decreases-loop-c l = l.t + 1 - l.c
+    (length l.first ≡ 8192) × ((y : ℕ) → On l.first y → Row (Diagonal l.t) y) × ((j : ℕ) → 1 ≤ j → j < l.c → On l.first (cell j j))

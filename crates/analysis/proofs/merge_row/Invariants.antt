@@ -1,5 +1,5 @@
 -- What is set in row `to` was there, or was set in row `from`; the codes passed are included.
-use Prim.Native.Nat.{ℕ, ◌≤◌, ◌<◌, ◌-◌}
+use Prim.Native.Nat.{ℕ, ◌<◌}
 use Rattle.fixpoint.specs.Flags.{On}
 use Rattle.fixpoint.specs.Pass.{Pass}
 use Rattle.fixpoint.specs.Rows.{cell}
@@ -8,7 +8,4 @@ use Rattle.analysis.proofs.merge_row.Given as goal
 
 abbrev pub invariant-loop-c : goal.invariant-loop-c
 invariant-loop-c l =
-    (l.c ≤ 64) × Pass 8192 (Copied l.initial.flags l.from l.to) l.initial.flags l.flags l.initial.added l.added (λ fs. (j : ℕ) → j < l.c → On fs (cell l.from j) → On fs (cell l.to j))
-
-abbrev pub decreases-loop-c : goal.decreases-loop-c
-decreases-loop-c l = 64 - l.c
+    Pass 8192 (Copied l.initial.flags l.from l.to) l.initial.flags l.flags 0 l.added (λ fs. (j : ℕ) → j < l.c → On fs (cell l.from j) → On fs (cell l.to j))
