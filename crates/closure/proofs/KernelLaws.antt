@@ -1,11 +1,10 @@
 -- What a kernel line adds to the closure of its state.
-use Prim.Native.Nat.{ℕ, ◌+◌, ◌*◌, ◌-◌, ◌≤◌, ◌<◌}
+use Prim.Native.Nat.{ℕ, ◌+◌, ◌*◌, ◌-◌, ◌≤◌}
 use native.Mathlib.Omega.{arith}
-use mathlib.Core.Path.{◌≡◌, sym, ap, subst, subst₂, ◌∙◌}
+use mathlib.Core.Path.{◌≡◌, ap, subst, subst₂, ◌∙◌}
 use mathlib.Core.Logic.{◌⊎◌, inl, inr}
-use mathlib.Core.Bool.{Bool, true, false, false≢true}
+use mathlib.Core.Bool.{Bool, true}
 use mathlib.Core.List.{List}
-use lib.ListN.{length, set}
 use Rattle.items.specs.Layout.{symbol_at}
 use Rattle.memory.specs.Memory.{item_at, dot_at}
 use Rattle.fixpoint.specs.Flags.{On}
@@ -13,107 +12,61 @@ use Rattle.analysis.specs.FirstBy.{BeginsAt}
 use Rattle.analysis.specs.Rests.{Before, rest_at}
 use Rattle.analysis.specs.Adds.{Adds, InRow, AnyIn, RestFirst}
 use Rattle.closure.specs.Kernel.{BeforeNonterminal, FollowsNonterminal, LineBefore, LineFollows}
-use Rattle.analysis.proofs.AddLaws.{adds_none, adds_map, adds_one}
 
 -- ---- one line: item i with dot k
 
-module _ (m : List ℕ) (i k : ℕ) where
-  pub none_before : (fs : List ℕ) → (Before m i k → ⊥) → Adds (BeforeNonterminal m i k) fs fs
-  none_before fs f = adds_none fs (λ y p. f p.before)
+module _ (m : List ℕ) (i k codes : ℕ) (nul fst lookaheads : List ℕ) (start : ℕ) {fs₀ fs : List ℕ} {b : Bool} {x : ℕ} (h : Before m i k) (e : x ≡ symbol_at m i k) (g : 64 ≤ x) (a : AnyIn lookaheads start codes)
+    (r : RestFirst codes nul fst (rest_at m i (k + 1)) ((x - 64) * 64) fs₀ fs b) where
+  stands_here : BeforeNonterminal m i k (x - 64)
+  stands_here = record { before = h; symbol = omega arith }
 
-  -- a terminal has no closure
-  terminal_clash : {x : ℕ} → x ≡ symbol_at m i k → x < 64 → (b : ℕ) → BeforeNonterminal m i k b → ⊥
-  terminal_clash e l b p = omega (arith, p.symbol)
+  begun : (y : ℕ) → BeginsAt codes nul fst (rest_at m i (k + 1)) ((x - 64) * 64) y → FollowsNonterminal m codes nul fst lookaheads start i k y
+  begun y q = record {
+    base = x - 64;
+    stands = stands_here;
+    code = a.code;
+    low = a.low;
+    on = a.on;
+    next = q.code;
+    first = q.first a.code;
+    is = q.is;
+  }
 
-  pub terminal_before : (fs : List ℕ) {x : ℕ} → x ≡ symbol_at m i k → x < 64 → Adds (BeforeNonterminal m i k) fs fs
-  terminal_before fs e l = adds_none fs (terminal_clash e l)
+  old : (y : ℕ) → On fs₀ y ⊎ BeginsAt codes nul fst (rest_at m i (k + 1)) ((x - 64) * 64) y
+      → On fs₀ y ⊎ FollowsNonterminal m codes nul fst lookaheads start i k y
+  old y (inl on) = inl on
+  old y (inr q) = inr (begun y q)
 
-  pub one_before : {fs fs' : List ℕ} {x : ℕ} → Before m i k → x ≡ symbol_at m i k → 64 ≤ x → fs' ≡ set fs (x - 64) 1 → x - 64 < length fs
-      → Adds (BeforeNonterminal m i k) fs fs'
-  one_before {x = x} h e g s l = adds_map up down (adds_one (x - 64) s l)
+  place : (y : ℕ) (p : FollowsNonterminal m codes nul fst lookaheads start i k y) → (x - 64) * 64 + p.next ≡ y
+  place y p = omega (arith, p.is, p.stands.symbol)
+
+  pub all_follows : {fs' : List ℕ} → b ≡ true → Adds (InRow lookaheads start codes ((x - 64) * 64)) fs fs'
+      → Adds (FollowsNonterminal m codes nul fst lookaheads start i k) fs₀ fs'
+  all_follows {fs' = fs'} t w = record {
+    long = w.long ∙ r.long;
+    only = λ y on. late y (w.only y on);
+    kept = λ y on. w.kept y (r.kept y on);
+    every = λ y p. subst (On fs') (place y p) (set_on y p (r.every p.code p.next p.first));
+  }
     where
-      up : (y : ℕ) → y ≡ x - 64 → BeforeNonterminal m i k y
-      up y q = record { before = h; symbol = omega arith }
-
-      down : (y : ℕ) → BeforeNonterminal m i k y → y ≡ x - 64
-      down y p = omega (arith, p.symbol)
-
-  module _ (codes : ℕ) (nul fst lookaheads : List ℕ) (start : ℕ) where
-    pub none_follows : (fs : List ℕ) → (Before m i k → ⊥) → Adds (FollowsNonterminal m codes nul fst lookaheads start i k) fs fs
-    none_follows fs f = adds_none fs (λ y p. f p.stands.before)
-
-    pub terminal_follows : (fs : List ℕ) {x : ℕ} → x ≡ symbol_at m i k → x < 64 → Adds (FollowsNonterminal m codes nul fst lookaheads start i k) fs fs
-    terminal_follows fs e l = adds_none fs (λ y p. terminal_clash e l p.base p.stands)
-
-    -- an item without lookaheads
-    pub codeless_follows : (fs : List ℕ) → (AnyIn lookaheads start codes → ⊥) → Adds (FollowsNonterminal m codes nul fst lookaheads start i k) fs fs
-    codeless_follows fs f = adds_none fs (λ y p. f (record { code = p.code; low = p.low; on = p.on }))
-
-    module _ {fs₀ fs : List ℕ} {b : Bool} {x : ℕ} (h : Before m i k) (e : x ≡ symbol_at m i k) (g : 64 ≤ x) (a : AnyIn lookaheads start codes)
-        (r : RestFirst codes nul fst (rest_at m i (k + 1)) ((x - 64) * 64) fs₀ fs b) where
-      stands_here : BeforeNonterminal m i k (x - 64)
-      stands_here = record { before = h; symbol = omega arith }
-
-      begun : (y : ℕ) → BeginsAt codes nul fst (rest_at m i (k + 1)) ((x - 64) * 64) y → FollowsNonterminal m codes nul fst lookaheads start i k y
-      begun y q = record {
+      late : (y : ℕ) → On fs y ⊎ InRow lookaheads start codes ((x - 64) * 64) y → On fs₀ y ⊎ FollowsNonterminal m codes nul fst lookaheads start i k y
+      late y (inl on) = old y (r.only y on)
+      late y (inr q) = inr (record {
         base = x - 64;
         stands = stands_here;
-        code = a.code;
-        low = a.low;
-        on = a.on;
+        code = q.code;
+        low = q.low;
+        on = q.on;
         next = q.code;
-        first = q.first a.code;
+        first = r.through t q.code;
         is = q.is;
-      }
+      })
 
-      old : (y : ℕ) → On fs₀ y ⊎ BeginsAt codes nul fst (rest_at m i (k + 1)) ((x - 64) * 64) y
-          → On fs₀ y ⊎ FollowsNonterminal m codes nul fst lookaheads start i k y
-      old y (inl on) = inl on
-      old y (inr q) = inr (begun y q)
-
-      place : (y : ℕ) (p : FollowsNonterminal m codes nul fst lookaheads start i k y) → (x - 64) * 64 + p.next ≡ y
-      place y p = omega (arith, p.is, p.stands.symbol)
-
-      pub first_follows : b ≡ false → Adds (FollowsNonterminal m codes nul fst lookaheads start i k) fs₀ fs
-      first_follows z = record {
-        long = r.long;
-        only = λ y on. old y (r.only y on);
-        kept = r.kept;
-        every = λ y p. subst (On fs) (place y p) (set_on y p (r.every p.code p.next p.first));
-      }
-        where
-          set_on : (y : ℕ) (p : FollowsNonterminal m codes nul fst lookaheads start i k y) → On fs ((x - 64) * 64 + p.next) ⊎ ((b ≡ true) × (p.next ≡ p.code))
-              → On fs ((x - 64) * 64 + p.next)
-          set_on y p (inl on) = on
-          set_on y p (inr q) = absurd (false≢true (sym z ∙ q.0))
-
-      pub all_follows : {fs' : List ℕ} → b ≡ true → Adds (InRow lookaheads start codes ((x - 64) * 64)) fs fs'
-          → Adds (FollowsNonterminal m codes nul fst lookaheads start i k) fs₀ fs'
-      all_follows {fs' = fs'} t w = record {
-        long = w.long ∙ r.long;
-        only = λ y on. late y (w.only y on);
-        kept = λ y on. w.kept y (r.kept y on);
-        every = λ y p. subst (On fs') (place y p) (set_on y p (r.every p.code p.next p.first));
-      }
-        where
-          late : (y : ℕ) → On fs y ⊎ InRow lookaheads start codes ((x - 64) * 64) y → On fs₀ y ⊎ FollowsNonterminal m codes nul fst lookaheads start i k y
-          late y (inl on) = old y (r.only y on)
-          late y (inr q) = inr (record {
-            base = x - 64;
-            stands = stands_here;
-            code = q.code;
-            low = q.low;
-            on = q.on;
-            next = q.code;
-            first = r.through t q.code;
-            is = q.is;
-          })
-
-          set_on : (y : ℕ) (p : FollowsNonterminal m codes nul fst lookaheads start i k y) → On fs ((x - 64) * 64 + p.next) ⊎ ((b ≡ true) × (p.next ≡ p.code))
-              → On fs' ((x - 64) * 64 + p.next)
-          set_on y p (inl on) = w.kept ((x - 64) * 64 + p.next) on
-          set_on y p (inr q) =
-              w.every ((x - 64) * 64 + p.next) (record { code = p.code; low = p.low; on = p.on; is = ap (λ (n : ℕ). (x - 64) * 64 + n) q.1 })
+      set_on : (y : ℕ) (p : FollowsNonterminal m codes nul fst lookaheads start i k y) → On fs ((x - 64) * 64 + p.next) ⊎ ((b ≡ true) × (p.next ≡ p.code))
+          → On fs' ((x - 64) * 64 + p.next)
+      set_on y p (inl on) = w.kept ((x - 64) * 64 + p.next) on
+      set_on y p (inr q) =
+          w.every ((x - 64) * 64 + p.next) (record { code = p.code; low = p.low; on = p.on; is = ap (λ (n : ℕ). (x - 64) * 64 + n) q.1 })
 
 -- ---- a line of q
 

@@ -6,9 +6,8 @@ use mathlib.Core.Path.{◌≡◌, sym, subst}
 use mathlib.Core.Logic.{◌⊎◌, inl, inr}
 use mathlib.Core.Bool.{Bool, true}
 use mathlib.Core.List.{List}
-use lib.ListN.{length, set, replicate}
+use lib.ListN.{length, set}
 use Rattle.fixpoint.specs.Flags.{On}
-use Rattle.fixpoint.proofs.PassLaws.{all_off, no_gap}
 use Rattle.analysis.specs.FirstBy.{FirstBy, BeginsAt}
 use Rattle.analysis.specs.Rests.{rest_at}
 use Rattle.analysis.specs.Adds.{Adds, RestFirst}
@@ -31,17 +30,6 @@ module _ (m : List ℕ) (codes : ℕ) (nul fst : List ℕ) where
     pub prepared : Prepared m limit codes nul fst starts through
     pub starts_low : (y : ℕ) → On starts y → y < limit * 64
     pub through_low : (i : ℕ) → On through i → i < limit
-
-  pub filled_none : {starts through : List ℕ} (n k : ℕ) → starts ≡ replicate n 0 → through ≡ replicate k 0 → Filled 1 starts through
-  filled_none n k es et = record {
-    prepared = record {
-      starts_only = λ i c l u. absurd (no_gap l u);
-      through_only = λ i l u. absurd (no_gap l u);
-      every = λ i d c l u. absurd (no_gap l u);
-    };
-    starts_low = λ y on. all_off n es on;
-    through_low = λ y on. all_off k et on;
-  }
 
   module _ (few : codes ≤ 64) {starts starts' through through' : List ℕ} {b : Bool} (i : ℕ) (f : Filled i starts through)
       (r : RestFirst codes nul fst (rest_at m i 1) (i * 64) starts starts' b) (a : Adds (λ (y : ℕ). (b ≡ true) × (y ≡ i)) through through') where
@@ -132,8 +120,3 @@ module _ (m : List ℕ) (codes : ℕ) (nul fst : List ℕ) where
       starts_low = low_starts;
       through_low = low_through;
     }
-
-  pub filled_all : {limit i : ℕ} {starts through : List ℕ} → i ≤ limit → limit ≤ i → Filled i starts through → Prepared m limit codes nul fst starts through
-  filled_all {limit = limit} {i = i} {starts = starts} {through = through} l u f =
-      let e : i ≡ limit = omega arith in
-      subst (λ (k : ℕ). Prepared m k codes nul fst starts through) e f.prepared

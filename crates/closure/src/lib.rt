@@ -27,13 +27,7 @@ pub fn stands_before(items: &[u8], count: usize, i: usize, k: usize) -> bool
     requires i_le_count { i ≤ count }
     ensures { Decides (Before items.now i k) result }
 {
-    if items::length_of(items, count, i) <= k {
-        return false;
-    }
-    if items::mark_of(items, count, i) == k {
-        return false;
-    }
-    true
+    k < items::length_of(items, count, i) && items::mark_of(items, count, i) != k
 }
 
 // Fills in, for each rule, what can begin after its first symbol: once, for the closures of all states.
@@ -55,8 +49,7 @@ pub fn prepare_rules(
 {
     reply::clear(starts);
     reply::clear(through);
-    let mut i = 1;
-    while i <= rules {
+    for i in 1..rules + 1 {
         if analysis::rest_first(
             items,
             count,
@@ -70,7 +63,6 @@ pub fn prepare_rules(
         ) {
             through[i] = 1;
         }
-        i += 1;
     }
 }
 
@@ -104,23 +96,21 @@ fn add_item(
     }
     let b = x - Symbol::FIRST_NONTERMINAL;
     present[b] = 1;
-    if !analysis::any_code(lookaheads, start, codes) {
-        return;
+    if analysis::any_code(lookaheads, start, codes)
+        && analysis::rest_first(
+            items,
+            count,
+            i,
+            k + 1,
+            codes,
+            nullable,
+            first,
+            follow,
+            b * CODES,
+        )
+    {
+        analysis::add_codes(lookaheads, start, codes, follow, b * CODES);
     }
-    if !analysis::rest_first(
-        items,
-        count,
-        i,
-        k + 1,
-        codes,
-        nullable,
-        first,
-        follow,
-        b * CODES,
-    ) {
-        return;
-    }
-    analysis::add_codes(lookaheads, start, codes, follow, b * CODES);
 }
 
 // What the kernel lines of state q add to its closure.
@@ -175,13 +165,7 @@ fn left_in(items: &[u8], present: &[u8], count: usize, i: usize) -> bool
     ensures { Decides (LeftIn items.now i present.now) result }
 {
     let x = items::left_of(items, count, i);
-    if x < Symbol::FIRST_NONTERMINAL {
-        return false;
-    }
-    if present[x - Symbol::FIRST_NONTERMINAL] == 0 {
-        return false;
-    }
-    true
+    x >= Symbol::FIRST_NONTERMINAL && present[x - Symbol::FIRST_NONTERMINAL] != 0
 }
 
 // The nonterminal, less 64, that rule i begins with before its recognition point; 64 for none.
@@ -209,22 +193,15 @@ pub fn close_present(items: &[u8], count: usize, rules: usize, present: &mut [u8
 {
     'passes: loop {
         let mut added: usize = 0;
-        let mut i = 1;
-        'rules: while i <= rules {
+        'rules: for i in 1..rules + 1 {
             if !left_in(items, present, count, i) {
-                i += 1;
-                continue 'rules;
+                continue;
             }
             let b = first_nonterminal(items, count, i);
-            if b >= CODES {
-                i += 1;
-                continue 'rules;
-            }
-            if present[b] == 0 {
+            if b < CODES && present[b] == 0 {
                 present[b] = 1;
                 added += 1;
             }
-            i += 1;
         }
         if added == 0 {
             break 'passes;
@@ -238,16 +215,7 @@ fn fires(starts: &[u8], through: &[u8], follow: &[u8], i: usize, a: usize, c: us
     requires i_bound { (i ≤ 127) × (a < 64) × (c < 64) }
     ensures { Decides (Fires starts.now through.now follow.now i a c) result }
 {
-    if starts[i * CODES + c] != 0 {
-        return true;
-    }
-    if through[i] == 0 {
-        return false;
-    }
-    if follow[a * CODES + c] == 0 {
-        return false;
-    }
-    true
+    starts[i * CODES + c] != 0 || through[i] != 0 && follow[a * CODES + c] != 0
 }
 
 // Flags what can follow the nonterminals that rules begin with, until a pass adds nothing.
@@ -270,33 +238,24 @@ fn close_follow(
 {
     'passes: loop {
         let mut added: usize = 0;
-        let mut i = 1;
-        'rules: while i <= rules {
+        'rules: for i in 1..rules + 1 {
             if !left_in(items, present, count, i) {
-                i += 1;
-                continue 'rules;
+                continue;
             }
             let b = first_nonterminal(items, count, i);
             if b >= CODES {
-                i += 1;
-                continue 'rules;
+                continue;
             }
             let a = items::left_of(items, count, i) - Symbol::FIRST_NONTERMINAL;
             if !analysis::any_code(follow, a * CODES, codes) {
-                i += 1;
-                continue 'rules;
+                continue;
             }
-            let mut c = 0;
-            'codes: while c < codes {
-                if follow[b * CODES + c] == 0 {
-                    if fires(starts, through, follow, i, a, c) {
-                        follow[b * CODES + c] = 1;
-                        added += 1;
-                    }
+            'codes: for c in 0..codes {
+                if follow[b * CODES + c] == 0 && fires(starts, through, follow, i, a, c) {
+                    follow[b * CODES + c] = 1;
+                    added += 1;
                 }
-                c += 1;
             }
-            i += 1;
         }
         if added == 0 {
             break 'passes;

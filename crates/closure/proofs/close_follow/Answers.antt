@@ -8,90 +8,52 @@ use Rattle.fixpoint.proofs.CountLaws.{zeros_le}
 use Rattle.fixpoint.proofs.PassLaws.{pass_start, pass_more, pass_add, pass_join, set_on, no_gap, from_more}
 use Rattle.closure.proofs.StepLaws.{any_kept, covered_least, absent, first_none, codeless, code_in, code_out, code_fired, all_codes, all_follow}
 use Rattle.closure.proofs.close_follow.Goals as goal
-use Rattle.closure.proofs.close_follow.Goals.{then-follow-b-eq0+then-fires, then-follow-b-eq0+else-fires, else-follow-b-eq0}
+use Rattle.closure.proofs.close_follow.Goals.{then-follow-b-eq0+then-fires, else-follow-b-eq0, else-follow-b-eq0-via-then-follow-b-eq0+else-fires, else-follow-b-eq0-via-else-follow-b-eq0}
 
 pub passes-init : goal.passes-init
 passes-init c = (c.requires.present_len.1, λ y on. seed on, λ y on. on, c.requires.covered)
 
 pub rules-init : goal.rules-init
-rules-init c = (omega arith, omega arith, pass_start _ c.passes.invariant.0 (λ y on. seed on) (λ _ j l m. absurd (no_gap l m)))
+rules-init c = pass_start _ c.passes.invariant.0 (λ y on. seed on) (λ _ j l m. absurd (no_gap l m))
 
 pub rules-preserved-then-not-left_in : goal.rules-preserved-then-not-left_in
 rules-preserved-then-not-left_in c =
-    let p = c.rules.invariant.2 in (
-      omega arith,
-      omega arith,
-      pass_more _ _ refl refl p (λ d.
-          from_more _ 1 c.rules.i d (absent _ _ _ _ _ (λ b k l on.
-          covered_least _ _ _ _ _ c.requires.rules_le_count.2
-          c.passes.invariant.3 (p.only (b * 64 + k) on) b k l refl)
-          (c.left_in.ensures.no (c.if-not-left_in.true)))),
-    )
+    let p = c.rules.invariant in
+    pass_more _ _ refl refl p (λ d.
+    from_more _ 1 c.rules.i d (absent _ _ _ _ _ (λ b k l on.
+    covered_least _ _ _ _ _ c.requires.rules_le_count.2
+    c.passes.invariant.3 (p.only (b * 64 + k) on) b k l refl)
+    (c.left_in.ensures.no (c.if-not-left_in.true))))
 
 pub rules-preserved-then-b-ge-CODES : goal.rules-preserved-then-b-ge-CODES
-rules-preserved-then-b-ge-CODES c = (
-  omega arith,
-  omega arith,
-  pass_more _ _ refl refl c.rules.invariant.2
-      (λ d. from_more _ 1 c.rules.i d (first_none _ _ _ _ _ c.first_nonterminal-b.ensures c.if-b-ge-CODES.true)),
-)
-
-pub overflow_sub-a : goal.overflow_sub-a
-overflow_sub-a c =
-    omega (arith, (c.left_in.ensures.yes (c.if-not-left_in.false)).is, c.left_of-a.ensures.0)
-
-pub any_code-requires : goal.any_code-requires
-any_code-requires c =
-    omega (
-      arith,
-      c.left_of-a.ensures.1,
-      c.rules.invariant.2.long,
-      c.requires.rules_le_count.2,
-    )
+rules-preserved-then-b-ge-CODES c =
+    pass_more _ _ refl refl c.rules.invariant
+    (λ d. from_more _ 1 c.rules.i d (first_none _ _ _ _ _ c.first_nonterminal-b.ensures c.if-b-ge-CODES.true))
 
 pub rules-preserved-then-not-any_code : goal.rules-preserved-then-not-any_code
-rules-preserved-then-not-any_code c = (
-  omega arith,
-  omega arith,
-  pass_more _ _ refl refl c.rules.invariant.2 (λ d.
-      from_more _ 1 c.rules.i d (codeless _ _ _ _ _ (c.left_of-a.result - 64)
-      (omega (arith, (c.left_in.ensures.yes (c.if-not-left_in.false)).is, c.left_of-a.ensures.0))
-      (c.any_code.ensures.no (c.if-not-any_code.true)))),
-)
+rules-preserved-then-not-any_code c =
+    pass_more _ _ refl refl c.rules.invariant (λ d.
+    from_more _ 1 c.rules.i d (codeless _ _ _ _ _ (c.left_of-a.result - 64)
+    (omega (arith, (c.left_in.ensures.yes (c.if-not-left_in.false)).is, c.left_of-a.ensures.0))
+    (c.any_code.ensures.no (c.if-not-any_code.true))))
 
 pub codes-init : goal.codes-init
-codes-init c = let p = c.rules.invariant.2 in
-    (omega arith, pass_start _ p.long (λ y on. seed on) (λ e. (p.closed e, below_none _)))
-
-pub bounds-follow-b : goal.bounds-follow-b
-bounds-follow-b c =
-    omega (arith, c.codes.invariant.1.long, c.if-b-ge-CODES.false, c.requires.rules_le_count.2)
-
-pub fires-requires : goal.fires-requires
-fires-requires c =
-    let p = c.requires in record { starts_len = (p.starts_len.0, p.starts_len.1, c.codes.invariant.1.long); i_bound = (omega (arith, p.rules_le_count.1), omega (arith, c.left_of-a.ensures.1), omega (arith, p.rules_le_count.2)) }
-
-pub overflow_add-follow : goal.overflow_add-follow
-overflow_add-follow c =
-    omega (arith, c.if-b-ge-CODES.false, c.requires.rules_le_count.2)
-
-pub bounds-follow-b-then-fires : goal.bounds-follow-b-then-fires
-bounds-follow-b-then-fires c =
-    omega (arith, c.codes.invariant.1.long, c.if-b-ge-CODES.false, c.requires.rules_le_count.2)
+codes-init c = let p = c.rules.invariant in
+    pass_start _ p.long (λ y on. seed on) (λ e. (p.closed e, below_none _))
 
 pub overflow_add-added : goal.overflow_add-added
 overflow_add-added c =
     omega (
       arith,
-      c.codes.invariant.1.count,
-      c.rules.invariant.2.count,
+      c.codes.invariant.count,
+      c.rules.invariant.count,
       zeros_le c.passes.follow,
       c.passes.invariant.0,
     )
 
 pub codes-preserved : goal.codes-preserved
 codes-preserved c =
-    let p = c.codes.invariant.1 in
+    let p = c.codes.invariant in
     let k = c.codes.c in
     let b = c.first_nonterminal-b.result in
     let a = c.left_of-a.result - 64 in
@@ -101,35 +63,31 @@ codes-preserved c =
       (c.left_in.ensures.yes (c.if-not-left_in.false)).is,
       c.left_of-a.ensures.0,
     ) in
-    let any = any_kept _ _ p.kept (c.any_code.ensures.yes (c.if-not-any_code.false)) in (
-      omega arith,
-      elim c.if-follow-b-eq0.branch [
-        | then-follow-b-eq0+then-fires w ↦
-            pass_add _ _ (b * 64 + k) w.follow-is w.added-is p (omega (arith, c.if-b-ge-CODES.false, c.requires.rules_le_count.2))
-            w.if-follow-b-eq0.true
-            (code_fired _ _ _ _ _ a e f c.rules.invariant.0 (omega arith) (omega arith) any p.only (w.fires.ensures.yes w.if-fires.true))
-        | then-follow-b-eq0+else-fires w ↦
-            pass_more _ _ w.follow-is w.added-is p (λ d. (d.0, below_more _ k d.1 (code_out _ _ _ _ _ a e f (w.fires.ensures.no w.if-fires.false))))
-        | else-follow-b-eq0 w ↦
-            pass_more _ _ w.follow-is w.added-is p (λ d. (d.0, below_more _ k d.1 (code_in _ _ _ _ _ a e f (set_on w.if-follow-b-eq0.false))))
-      ],
-    )
+    let any = any_kept _ _ p.kept (c.any_code.ensures.yes (c.if-not-any_code.false)) in
+    elim c.if-follow-b-eq0.branch [
+      | then-follow-b-eq0+then-fires w ↦
+          pass_add _ _ (b * 64 + k) w.follow-is w.added-is p (omega (arith, c.if-b-ge-CODES.false, c.requires.rules_le_count.2))
+          w.if-follow-b-eq0.true
+          (code_fired _ _ _ _ _ a e f (omega arith) (omega arith) (omega arith) any p.only (w.fires.ensures.yes w.if-fires.true))
+      | else-follow-b-eq0 w ↦
+          pass_more _ _ w.follow-is w.added-is p (λ d. (
+            d.0,
+            below_more _ k d.1 (elim w.else-follow-b-eq0.branch [
+              | else-follow-b-eq0-via-then-follow-b-eq0+else-fires v ↦ code_out _ _ _ _ _ a e f (v.fires.ensures.no v.if-fires.false)
+              | else-follow-b-eq0-via-else-follow-b-eq0 v ↦ code_in _ _ _ _ _ a e f (set_on v.if-follow-b-eq0.false)
+            ]),
+          ))
+    ]
 
 pub rules-preserved : goal.rules-preserved
 rules-preserved c =
-    let p = c.rules.invariant.2 in (
-      omega arith,
-      omega arith,
-      pass_join _ _ _ refl refl p c.codes.invariant.1 (λ y q. least_join _ p.only q)
-          (λ d. from_more _ 1 c.rules.i d.0 (all_codes _ _ _ _ _ (λ k l. d.1 k (omega arith)))),
-    )
-
-pub passes-smaller : goal.passes-smaller
-passes-smaller c = omega (arith, c.rules.invariant.2.count, c.if-added-eq0.false)
+    let p = c.rules.invariant in
+    pass_join _ _ _ refl refl p c.codes.invariant (λ y q. least_join _ p.only q)
+    (λ d. from_more _ 1 c.rules.i d.0 (all_codes _ _ _ _ _ (λ k l. d.1 k (omega arith))))
 
 pub passes-preserved : goal.passes-preserved
 passes-preserved c =
-    let p = c.rules.invariant.2 in
+    let p = c.rules.invariant in
     let o = c.passes.invariant in (
       p.long,
       λ y on. least_join _ o.1 (p.only y on),
@@ -142,17 +100,9 @@ passes-preserved c =
       },
     )
 
-pub shape_of-follow : goal.shape_of-follow
-shape_of-follow c =
-    omega (
-      arith,
-      c.rules.invariant.2.long,
-      c.requires.present_len.1,
-    )
-
 pub returns : goal.returns
 returns c =
-    let p = c.rules.invariant.2 in
+    let p = c.rules.invariant in
     let o = c.passes.invariant in
     least_marks _ (λ y on. least_join _ o.1 (p.only y on)) (λ y on. p.kept y (o.2 y on))
     (all_follow _ _ _ _ _ (λ j l h. p.closed c.if-added-eq0.true j l (omega arith)))

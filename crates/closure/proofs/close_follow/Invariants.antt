@@ -1,5 +1,5 @@
 -- Passes over the rules and the codes: what is set is in the least set, and a pass that adds nothing meets every clause.
-use Prim.Native.Nat.{ℕ, ◌+◌, ◌≤◌, ◌<◌, ◌-◌}
+use Prim.Native.Nat.{ℕ, ◌≤◌, ◌<◌}
 use mathlib.Core.Path.{◌≡◌}
 use lib.ListN.{length}
 use Rattle.fixpoint.specs.Flags.{On}
@@ -11,24 +11,15 @@ use Rattle.closure.proofs.close_follow.Given as goal
 
 abbrev pub invariant-codes : goal.invariant-codes
 invariant-codes l =
-    (l.c ≤ l.codes)
-    × Pass 4096 (Least (followings l.items l.rules l.codes l.starts l.through) (On l.initial.follow)) l.initial.follow l.follow l.initial.added l.added
+    Pass 4096 (Least (followings l.items l.rules l.codes l.starts l.through) (On l.initial.follow)) l.initial.follow l.follow l.initial.added l.added
     (λ fs.
     ((j : ℕ) → 1 ≤ j → j < l.i → FollowingMet l.items l.rules l.codes l.starts l.through j fs)
     × ((k : ℕ) → k < l.c → CodeMet l.items l.rules l.codes l.starts l.through l.i k fs))
 
-abbrev pub decreases-codes : goal.decreases-codes
-decreases-codes l = l.codes - l.c
-
 abbrev pub invariant-rules : goal.invariant-rules
 invariant-rules l =
-    (1 ≤ l.i)
-    × (l.i ≤ l.rules + 1)
-    × Pass 4096 (Least (followings l.items l.rules l.codes l.starts l.through) (On l.initial.follow)) l.initial.follow l.follow l.initial.added l.added
+    Pass 4096 (Least (followings l.items l.rules l.codes l.starts l.through) (On l.initial.follow)) l.initial.follow l.follow 0 l.added
     (λ fs. (j : ℕ) → 1 ≤ j → j < l.i → FollowingMet l.items l.rules l.codes l.starts l.through j fs)
-
-abbrev pub decreases-rules : goal.decreases-rules
-decreases-rules l = l.rules + 1 - l.i
 
 abbrev pub invariant-passes : goal.invariant-passes
 invariant-passes l =

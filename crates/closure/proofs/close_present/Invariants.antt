@@ -1,5 +1,5 @@
 -- Passes over the rules: what is set is in the least set, and a pass that adds nothing meets every clause.
-use Prim.Native.Nat.{ℕ, ◌+◌, ◌≤◌, ◌<◌, ◌-◌}
+use Prim.Native.Nat.{ℕ, ◌≤◌, ◌<◌}
 use mathlib.Core.Path.{◌≡◌}
 use lib.ListN.{length}
 use Rattle.fixpoint.specs.Flags.{On}
@@ -11,13 +11,8 @@ use Rattle.closure.proofs.close_present.Given as goal
 
 abbrev pub invariant-rules : goal.invariant-rules
 invariant-rules l =
-    (1 ≤ l.i)
-    × (l.i ≤ l.rules + 1)
-    × Pass 64 (Least (expansions l.items l.rules) (On l.initial.present)) l.initial.present l.present l.initial.added l.added
+    Pass 64 (Least (expansions l.items l.rules) (On l.initial.present)) l.initial.present l.present 0 l.added
     (λ fs. (j : ℕ) → 1 ≤ j → j < l.i → ExpansionMet l.items l.rules j fs)
-
-abbrev pub decreases-rules : goal.decreases-rules
-decreases-rules l = l.rules + 1 - l.i
 
 abbrev pub invariant-passes : goal.invariant-passes
 invariant-passes l =
