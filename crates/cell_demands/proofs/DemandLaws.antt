@@ -1,15 +1,10 @@
 -- How what is asked of cells adds up.
 use Prim.Native.Nat.{ℕ, ◌+◌, ◌≤◌, ◌<◌}
-use mathlib.Core.Path.{◌≡◌, refl, sym, ap, subst, ◌∙◌}
+use mathlib.Core.Path.{refl, sym, subst, ◌∙◌}
 use mathlib.Core.Logic.{◌⊎◌, inl, inr}
 use mathlib.Core.List.{List}
-use native.Mathlib.Decide.{ℕ_discrete}
-use native.Mathlib.Omega.{arith}
-use lib.ListN.{length, get_or, set, length-set}
-use lib.Seq.{get_or-set_same, get_or-set_other}
 use borrow.Author.Count.{below_more}
 use Rattle.fixpoint.specs.Flags.{On, Off}
-use Rattle.fixpoint.proofs.PassLaws.{set_on, on_at}
 use Rattle.cell_demands.specs.Demands.{Demand, Differs, Met, Asking, Asks, Wants, CodeAsks}
 
 module _ {D : ℕ → ℕ → Type 0} where
@@ -62,72 +57,6 @@ module _ {D E : ℕ → ℕ → Type 0} {s₀ o₀ s o : List ℕ} where
       met_both c v (inl d) = met_kept b.asking (a.met c v d)
       met_both c v (inr d) = b.met c v d
 
--- ---- one cell
-module _ (s o : List ℕ) (c v : ℕ) (l : c < length s) (m : c < length o) (pos : 1 ≤ v) where
-  some_value : v ≡ 0 → ⊥
-  some_value e = omega arith
-
-  wanted : {d w : ℕ} → Wants c v d w → (x : List ℕ) → get_or x c 0 ≡ v → Demand x d w
-  wanted h x e = record { is = ap (λ (y : ℕ). get_or x y 0) h.code ∙ (e ∙ sym h.value); some = λ n. some_value (sym h.value ∙ n) }
-
-  -- nothing was asked of it
-  pub ask_new : get_or s c 0 ≡ 0 → Asks (Wants c v) s o (set s c v) o
-  ask_new z = record {
-    asking = record {
-      long = length-set s c v;
-      others_long = refl;
-      kept = λ d w h. kept_it d w h (ℕ_discrete d c);
-      only = λ d w h. only_it d w h (ℕ_discrete d c);
-      others_kept = λ d on. on;
-      others_only = λ d w h. inl h;
-    };
-    met = λ d w h. inl (wanted h (set s c v) (get_or-set_same s c v 0 l));
-  }
-    where
-      kept_it : (d w : ℕ) → Demand s d w → Dec (d ≡ c) → Demand (set s c v) d w
-      kept_it d w h (yes q) = absurd (h.some (sym h.is ∙ (ap (λ (x : ℕ). get_or s x 0) q ∙ z)))
-      kept_it d w h (no n) = record { is = get_or-set_other s c d v 0 n ∙ h.is; some = h.some }
-
-      only_it : (d w : ℕ) → Demand (set s c v) d w → Dec (d ≡ c) → Demand s d w ⊎ Wants c v d w
-      only_it d w h (yes q) = inr (record { code = q; value = sym h.is ∙ (ap (λ (x : ℕ). get_or (set s c v) x 0) q ∙ get_or-set_same s c v 0 l) })
-      only_it d w h (no n) = inl (record { is = sym (get_or-set_other s c d v 0 n) ∙ h.is; some = h.some })
-
-  -- the same was asked
-  pub ask_same : get_or s c 0 ≡ v → Asks (Wants c v) s o s o
-  ask_same e = record { asking = asking_none s o; met = λ d w h. inl (wanted h s e) }
-
-  -- two things were asked
-  pub ask_third : (get_or o c 0 ≡ 0 → ⊥) → Asks (Wants c v) s o s o
-  ask_third n = record { asking = asking_none s o; met = λ d w h. inr (on_at (sym h.code) (set_on n)) }
-
-  -- something else was
-  pub ask_other : (get_or s c 0 ≡ 0 → ⊥) → (get_or s c 0 ≡ v → ⊥) → Asks (Wants c v) s o s (set o c v)
-  ask_other n f = record {
-    asking = record {
-      long = refl;
-      others_long = length-set o c v;
-      kept = λ d w h. h;
-      only = λ d w h. inl h;
-      others_kept = λ d on. kept_it d on (ℕ_discrete d c);
-      others_only = λ d w h. only_it d w h (ℕ_discrete d c);
-    };
-    met = λ d w h. inr (there d h.code);
-  }
-    where
-      there : (d : ℕ) → d ≡ c → On (set o c v) d
-      there d q = on_at (sym q) (set_on (λ z. some_value (sym (get_or-set_same o c v 0 m) ∙ z)))
-
-      kept_it : (d : ℕ) → On o d → Dec (d ≡ c) → On (set o c v) d
-      kept_it d on (yes q) = there d q
-      kept_it d on (no k) = set_on (λ z. on.nonzero (sym (get_or-set_other o c d v 0 k) ∙ z))
-
-      only_it : (d w : ℕ) → Demand (set o c v) d w → Dec (d ≡ c) → Demand o d w ⊎ (Wants c v d w × Differs s d w)
-      only_it d w h (yes q) =
-          let e : w ≡ v = sym h.is ∙ (ap (λ (x : ℕ). get_or (set o c v) x 0) q ∙ get_or-set_same o c v 0 m) in
-          let k : get_or s d 0 ≡ get_or s c 0 = ap (λ (x : ℕ). get_or s x 0) q in
-          inr (record { code = q; value = e }, record { other = get_or s c 0; there = record { is = k; some = n }; differ = λ z. f (z ∙ e) })
-      only_it d w h (no k) = inl (record { is = sym (get_or-set_other o c d v 0 k) ∙ h.is; some = h.some })
-
 -- ---- the codes of a row
 
 -- all below c have what they want
@@ -143,6 +72,3 @@ module _ {from : List ℕ} {start low codes demand : ℕ} where
 
   pub codes_more : {s o s' o' : List ℕ} (c : ℕ) → Asks (Wants c demand) s o s' o' → Below from start low codes demand s o c → Below from start low codes demand s' o' (c + 1)
   codes_more c a h = below_more _ c (λ d l v w. met_kept a.asking (h d l v w)) (λ v w. a.met c v (record { code = refl; value = w.is }))
-
-  pub codes_all : {s₀ o₀ s o : List ℕ} {c : ℕ} → codes ≤ c → Asking (CodeAsks from start low codes demand) s₀ o₀ s o → Below from start low codes demand s o c → Asks (CodeAsks from start low codes demand) s₀ o₀ s o
-  codes_all l a h = record { asking = a; met = λ d v w. h d (omega (arith, w.below)) v w }

@@ -6,8 +6,6 @@ ghost use Rattle.std.specs.Prelude.{◌≡◌, ℕ, ◌+◌, ◌<◌, ◌≤◌,
 ghost use Rattle.fixpoint.specs.Flags.{Off, Decides};
 ghost use Rattle.cell_demands.specs.Demands.{Asks, Wants, CodeAsks};
 
-use symbol::CODES;
-
 // Asks for `demand` in the cell for code c. Where something else was asked first, `others` keeps the first that differs.
 fn ask(asked: &mut [usize], others: &mut [usize], c: usize, demand: usize)
     requires { (length asked.old ≡ 64) × (length others.old ≡ 64) × (c < 64) × (1 ≤ demand) }
@@ -16,15 +14,9 @@ fn ask(asked: &mut [usize], others: &mut [usize], c: usize, demand: usize)
     let before = asked[c];
     if before == 0 {
         asked[c] = demand;
-        return;
+    } else if before != demand && others[c] == 0 {
+        others[c] = demand;
     }
-    if before == demand {
-        return;
-    }
-    if others[c] != 0 {
-        return;
-    }
-    others[c] = demand;
 }
 
 // Asks for it in the cell of each code that is flagged, from code `low` on.
@@ -41,14 +33,10 @@ pub fn ask_codes(
     requires asked_len { (length asked.old ≡ 64) × (length others.old ≡ 64) }
     ensures { Asks (CodeAsks from.now start low codes demand) asked.old others.old asked.new others.new }
 {
-    let mut c = low;
-    while c < codes {
-        if from[start + c] == 0 {
-            c += 1;
-            continue;
+    for c in low..codes {
+        if from[start + c] != 0 {
+            ask(asked, others, c, demand);
         }
-        ask(asked, others, c, demand);
-        c += 1;
     }
 }
 
@@ -57,12 +45,5 @@ pub fn agree(others: &[usize]) -> bool
     requires { length others.now ≡ 64 }
     ensures { Decides ((c : ℕ) → c < 64 → Off others.now c) result }
 {
-    let mut c = 0;
-    while c < CODES {
-        if others[c] != 0 {
-            return false;
-        }
-        c += 1;
-    }
-    true
+    others.iter().all(|other| *other == 0)
 }

@@ -1,27 +1,16 @@
-use Rattle.cell_demands.proofs.DemandLaws.{asking_none, asking_then, wants_code, codes_skip, codes_more, codes_all}
+use Rattle.cell_demands.proofs.DemandLaws.{asking_then, wants_code, codes_skip, codes_more}
 use native.Mathlib.Omega.{arith}
-use Rattle.fixpoint.proofs.PassLaws.{set_on, no_gap}
+use Rattle.fixpoint.proofs.PassLaws.{set_on}
 use Rattle.cell_demands.proofs.ask_codes.Goals as goal
-
-pub loop-c-init : goal.loop-c-init
-loop-c-init c = (omega arith, asking_none _ _, λ d l v w. absurd (no_gap w.above l))
-
-pub loop-c-preserved-then-from-start-eq0 : goal.loop-c-preserved-then-from-start-eq0
-loop-c-preserved-then-from-start-eq0 c = let o = c.loop-c.invariant in (omega arith, o.1, codes_skip _ c.if-from-start-eq0.true o.2)
+use Rattle.cell_demands.proofs.ask_codes.Goals.{then-from-start-ne0, else-from-start-ne0}
 
 pub loop-c-preserved : goal.loop-c-preserved
 loop-c-preserved c =
-    let o = c.loop-c.invariant in (
-      omega arith,
-      asking_then o.1 (wants_code o.0 (omega arith) (set_on c.if-from-start-eq0.false)) c.ask.ensures.asking,
-      codes_more _ c.ask.ensures o.2,
-    )
-
-pub shape_of-asked : goal.shape_of-asked
-shape_of-asked c = c.loop-c.invariant.1.long
-
-pub shape_of-others : goal.shape_of-others
-shape_of-others c = c.loop-c.invariant.1.others_long
-
-pub returns : goal.returns
-returns c = codes_all (omega arith) c.loop-c.invariant.1 c.loop-c.invariant.2
+    let o = c.loop-c.invariant in
+    elim c.if-from-start-ne0.branch [
+      | then-from-start-ne0 w ↦ rw (w.asked-is, w.others-is) (
+        asking_then o.0 (wants_code (omega arith) (omega arith) (set_on w.if-from-start-ne0.true)) w.ask.ensures.asking,
+        codes_more _ w.ask.ensures o.1,
+      )
+      | else-from-start-ne0 w ↦ rw (w.asked-is, w.others-is) (o.0, codes_skip _ w.if-from-start-ne0.false o.1)
+    ]
