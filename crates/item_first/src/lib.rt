@@ -23,11 +23,9 @@ pub fn item_first(
     requires i_le_count { (i ≤ count) × (start + 64 ≤ length from.now) × (length row.old ≡ 64) }
     ensures { Adds (FirstsAt items.now codes nul.now fst.now from.now start i k) row.old row.new }
 {
-    if !analysis::any_code(from, start, codes) {
-        return;
+    if analysis::any_code(from, start, codes)
+        && analysis::rest_first(items, count, i, k, codes, nul, fst, row, 0)
+    {
+        analysis::add_codes(from, start, codes, row, 0);
     }
-    if !analysis::rest_first(items, count, i, k, codes, nul, fst, row, 0) {
-        return;
-    }
-    analysis::add_codes(from, start, codes, row, 0);
 }

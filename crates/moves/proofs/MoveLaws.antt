@@ -40,13 +40,16 @@ module _ (kinds values gotos : List ℕ) (q X : ℕ) where
   next_shift l e = simp (lt-ltb X 64 l, eq-eqb (get_or kinds (q * 64 + X) 0) 1 e)
 
 module _ (items kernels present : List ℕ) (rules lines : ℕ) where
-  pub not_has : {q i k : ℕ} → (LineAt kernels lines q i k → ⊥) → (k ≡ 0 → 1 ≤ i → i ≤ rules → Present items present i → ⊥)
-      → HasAt items kernels present rules lines q i k → ⊥
-  not_has f h (by_line l) = f l
-  not_has f h (by_rule a b p) = h refl a b p
+  pub line_has : {q i k : ℕ} → LineAt kernels lines q i k → HasAt items kernels present rules lines q i k
+  line_has l = by_line l
 
   pub rule_has : {q i k : ℕ} → k ≡ 0 → 1 ≤ i → i ≤ rules → Present items present i → HasAt items kernels present rules lines q i k
   rule_has {q} {i} e a b p = subst (λ (n : ℕ). HasAt items kernels present rules lines q i n) (sym e) (by_rule a b p)
+
+  pub has_when : {q i k : ℕ} → HasAt items kernels present rules lines q i k → (LineAt kernels lines q i k → ⊥)
+      → (k ≡ 0) × (1 ≤ i) × (i ≤ rules) × Present items present i
+  has_when (by_line l) f = absurd (f l)
+  has_when (by_rule a b p) f = (refl, a, b, p)
 
   one_less : (k : ℕ) → suc k - 1 ≡ k
   one_less k = omega arith

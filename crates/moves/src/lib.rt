@@ -14,40 +14,34 @@ ghost use Rattle.moves.specs.Flags.{HoldsPresent, HoldsMoves};
 
 use symbol::{CODES, Symbol};
 
-fn wide(x: u8) -> usize
-    ensures { (result ≡ x) × (result < 256) }
-{
-    x as usize
-}
-
 // The symbol before which item i's dot k stands, and not at its recognition point; 0 where there is none.
+#[tactic(auto, unfolding(crate::specs::Moves::symbol_after))]
 pub fn symbol_after(items: &[u8], count: usize, i: usize, k: usize) -> usize
     requires shaped { Shaped items.now count }
     requires i_le_count { i ≤ count }
     ensures { (result ≡ symbol_after items.now i k) × (result < 128) }
 {
-    if items::length_of(items, count, i) <= k {
-        return 0;
+    if k < items::length_of(items, count, i) && items::mark_of(items, count, i) != k {
+        items::symbol_of(items, count, i, k)
+    } else {
+        0
     }
-    if items::mark_of(items, count, i) == k {
-        return 0;
-    }
-    items::symbol_of(items, count, i, k)
 }
 
 // The next state of q's line S or N for x; 0 where there is none.
+#[tactic(auto, unfolding(crate::specs::Moves::next_at))]
 pub fn next_of(kinds: &[u8], values: &[u8], gotos: &[u8], q: usize, x: usize) -> usize
     requires cells { Cells kinds.now values.now gotos.now }
     requires q_bound { (q < 256) × (x < 128) }
     ensures { (result ≡ next_at kinds.now values.now gotos.now q x) × (result < 256) }
 {
-    if Symbol::FIRST_NONTERMINAL <= x {
-        return wide(gotos[q * CODES + (x - Symbol::FIRST_NONTERMINAL)]);
+    if x >= Symbol::FIRST_NONTERMINAL {
+        gotos[q * CODES + (x - Symbol::FIRST_NONTERMINAL)] as usize
+    } else if kinds[q * CODES + x] == 1 {
+        values[q * CODES + x] as usize
+    } else {
+        0
     }
-    if kinds[q * CODES + x] != 1 {
-        return 0;
-    }
-    wide(values[q * CODES + x])
 }
 
 // Whether rule i's left side is flagged.
@@ -58,16 +52,11 @@ pub fn is_present(items: &[u8], present: &[u8], count: usize, i: usize) -> bool
     ensures { Decides (Present items.now present.now i) result }
 {
     let left = items::left_of(items, count, i);
-    if left < Symbol::FIRST_NONTERMINAL {
-        return false;
-    }
-    if present[left - Symbol::FIRST_NONTERMINAL] == 0 {
-        return false;
-    }
-    true
+    left >= Symbol::FIRST_NONTERMINAL && present[left - Symbol::FIRST_NONTERMINAL] != 0
 }
 
 // Whether q's closure has item i at dot k.
+#[tactic(auto, using(crate::proofs::MoveLaws::line_has, crate::proofs::MoveLaws::rule_has, crate::proofs::MoveLaws::has_when))]
 fn has(
     items: &[u8],
     kernels: &[u8],
@@ -84,25 +73,12 @@ fn has(
     requires q_bound { q < 256 }
     ensures { Decides (HasAt items.now kernels.now present.now rules lines q i k) result }
 {
-    if kernel_lines::has_line(kernels, links, lines, count, q, i, k) {
-        return true;
-    }
-    if k != 0 {
-        return false;
-    }
-    if i < 1 {
-        return false;
-    }
-    if rules < i {
-        return false;
-    }
-    if !is_present(items, present, count, i) {
-        return false;
-    }
-    true
+    kernel_lines::has_line(kernels, links, lines, count, q, i, k)
+        || k == 0 && 1 <= i && i <= rules && is_present(items, present, count, i)
 }
 
 // Whether item i comes to dot n by a move from q on x.
+#[tactic(auto, using(crate::proofs::MoveLaws::came_yes, crate::proofs::MoveLaws::came_more, crate::proofs::MoveLaws::came_symbol, crate::proofs::MoveLaws::came_has))]
 fn came(
     items: &[u8],
     kernels: &[u8],
@@ -120,27 +96,20 @@ fn came(
     requires q_bound { (q < 256) × (i ≤ count) }
     ensures { Decides (MovedAt items.now kernels.now present.now rules lines q x i n) result }
 {
-    if n == 0 {
-        return false;
-    }
-    if symbol_after(items, count, i, n - 1) != x {
-        return false;
-    }
-    if !has(
-        items,
-        kernels,
-        links,
-        present,
-        count,
-        rules,
-        lines,
-        q,
-        i,
-        n - 1,
-    ) {
-        return false;
-    }
-    true
+    n != 0
+        && symbol_after(items, count, i, n - 1) == x
+        && has(
+            items,
+            kernels,
+            links,
+            present,
+            count,
+            rules,
+            lines,
+            q,
+            i,
+            n - 1,
+        )
 }
 
 // Whether line l came by a move from q on x.
@@ -162,12 +131,9 @@ pub fn line_came(
 {
     let i = kernel_lines::item_of(kernels, lines, count, l);
     let n = kernel_lines::dot_of(kernels, lines, count, l);
-    if !came(
+    came(
         items, kernels, links, present, count, rules, lines, q, x, i, n,
-    ) {
-        return false;
-    }
-    true
+    )
 }
 
 // Flags the symbols that stand after the dots of q's kernel items, and 0.
@@ -215,15 +181,11 @@ fn flag_rules(
     ensures flagged { Flagged items.now kernels.now present.now rules lines q moves.old moves.new }
     ensures by_index { (i : ℕ) → 1 ≤ i → i < rules + 1 → Present items.now present.now i → On moves.new (symbol_after items.now i 0) }
 {
-    let mut i = 1;
-    while i <= rules {
-        if !is_present(items, present, count, i) {
-            i += 1;
-            continue;
+    for i in 1..rules + 1 {
+        if is_present(items, present, count, i) {
+            let x = symbol_after(items, count, i, 0);
+            moves[x] = 1;
         }
-        let x = symbol_after(items, count, i, 0);
-        moves[x] = 1;
-        i += 1;
     }
 }
 
