@@ -63,15 +63,9 @@ pub fn ask_item(
             &mut row,
         );
         ask_codes(&row, 0, 0, totals.codes, ANNOUNCE + i, asked, others);
-        return;
+    } else if i > totals.rules && items::length_of(items, totals.items, i) == k {
+        ask_codes(from, start, 0, totals.codes, POP + k, asked, others);
     }
-    if i <= totals.rules {
-        return;
-    }
-    if items::length_of(items, totals.items, i) != k {
-        return;
-    }
-    ask_codes(from, start, 0, totals.codes, POP + k, asked, others);
 }
 
 // Asks what the kernel items of q ask.
@@ -162,14 +156,10 @@ fn ask_rules(
     requires asked_len { (length asked.old ≡ 64) × (length others.old ≡ 64) }
     ensures { Asks (RulesAsk items.now nullable.now first.now present.now follow.now totals.rules totals.codes) asked.old others.old asked.new others.new }
 {
-    let mut i = 1;
-    while i <= totals.rules {
-        if !moves::is_present(items, present, totals.items, i) {
-            i += 1;
-            continue;
+    for i in 1..totals.rules + 1 {
+        if moves::is_present(items, present, totals.items, i) {
+            ask_rule(items, nullable, first, follow, totals, i, asked, others);
         }
-        ask_rule(items, nullable, first, follow, totals, i, asked, others);
-        i += 1;
     }
 }
 
