@@ -15,16 +15,12 @@ use Rattle.moves.specs.Moves.{next_at, Present, by_line, by_rule, MovedAt}
 use Rattle.moves.specs.Flags.{HoldsPresent, HoldsMoves}
 use Rattle.check_targets.specs.declared.ItemFault.{ItemFault}
 use Rattle.fixpoint.specs.Misses.{Misses}
-use Rattle.check_targets.specs.Targets.{Arrives, TargetOnly, MovesMeet}
+use Rattle.check_targets.specs.Targets.{Arrives, MovesMeet}
 use Rattle.check_targets.specs.Faults.{FindsExtra, LostItem, MoveNamedIs, MoveFaultIs, no_fault}
-use Rattle.fixpoint.proofs.MissLaws.{not_nothing}
 use Rattle.check_targets.proofs.ArriveLaws.{arrives_to, target_moved}
 use Rattle.check_targets.proofs.MeetLaws.{meets, meets_item, meets_only}
 
 module _ {items kernels present symbols kinds values gotos : List ℕ} {rules lines q X : ℕ} where
-  pub no_extra : TargetOnly items kernels present symbols kinds values gotos rules lines q X → FindsExtra items kernels present symbols kinds values gotos rules lines q X Found.Nothing
-  no_extra t = record { found = λ l e. not_nothing e; none = λ e. t }
-
   -- a line of the next state to which nothing moves
   pub finds_extra : (s : ℕ) {r : Found} → s ≡ next_at kinds values gotos q X → On symbols X → (s ≡ 0 → ⊥)
       → Misses (λ l. state_at kernels l ≡ s) (λ l. MovedAt items kernels present rules lines q X (item_at kernels l) (dot_at kernels l)) 0 lines r

@@ -32,13 +32,7 @@ pub enum ItemFault {
 pub fn is_nothing(fault: ItemFault) -> bool
     ensures { result ≡ no_fault fault }
 {
-    match fault {
-        ItemFault::Unnamed => false,
-        ItemFault::Entry(_) => false,
-        ItemFault::Lost(_, _) => false,
-        ItemFault::Extra(_, _) => false,
-        ItemFault::Nothing => true,
-    }
+    matches!(fault, ItemFault::Nothing)
 }
 
 // Whether item i, dot k of q has its line in the next state, where q has one for the symbol after the dot.
@@ -64,13 +58,7 @@ fn arrives(
         return true;
     }
     let s = moves::next_of(kinds, values, gotos, q, x);
-    if s == 0 {
-        return true;
-    }
-    if !kernel_lines::has_line(kernels, links, totals.lines, totals.items, s, i, k + 1) {
-        return false;
-    }
-    true
+    s == 0 || kernel_lines::has_line(kernels, links, totals.lines, totals.items, s, i, k + 1)
 }
 
 // Whether the item of line l arrives from q.
@@ -92,10 +80,7 @@ fn line_arrives(
 {
     let i = kernel_lines::item_of(kernels, totals.lines, totals.items, l);
     let k = kernel_lines::dot_of(kernels, totals.lines, totals.items, l);
-    if !arrives(items, kernels, links, kinds, values, gotos, totals, q, i, k) {
-        return false;
-    }
-    true
+    arrives(items, kernels, links, kinds, values, gotos, totals, q, i, k)
 }
 
 // The last kernel line of q whose item does not arrive.
@@ -115,6 +100,7 @@ fn find_lost_line(
     ensures { Misses (λ l. state_at kernels.now l ≡ q) (λ l. Arrives items.now kernels.now kinds.now values.now gotos.now totals.lines q (item_at kernels.now l) (dot_at kernels.now l)) 0 totals.lines result }
 {
     let mut p = kernel_lines::last_line(kernels, links, totals.lines, q);
+    // Stays a `while`: each line's link names the next one, so there is no range or slice to go over.
     while 0 < p {
         let l = p - 1;
         if !line_arrives(items, kernels, links, kinds, values, gotos, totals, q, l) {
@@ -142,16 +128,12 @@ fn find_lost_rule(
     requires q_bound { q < 256 }
     ensures { Misses (Present items.now present.now) (λ i. Arrives items.now kernels.now kinds.now values.now gotos.now totals.lines q i 0) 1 (totals.rules + 1) result }
 {
-    let mut i = 1;
-    while i <= totals.rules {
-        if !moves::is_present(items, present, totals.items, i) {
-            i += 1;
-            continue;
-        }
-        if !arrives(items, kernels, links, kinds, values, gotos, totals, q, i, 0) {
+    for i in 1..=totals.rules {
+        if moves::is_present(items, present, totals.items, i)
+            && !arrives(items, kernels, links, kinds, values, gotos, totals, q, i, 0)
+        {
             return Found::At(i);
         }
-        i += 1;
     }
     Found::Nothing
 }
@@ -172,6 +154,7 @@ fn find_stray(
     ensures { Misses (λ l. state_at kernels.now l ≡ s) (λ l. MovedAt items.now kernels.now present.now totals.rules totals.lines q x (item_at kernels.now l) (dot_at kernels.now l)) 0 totals.lines result }
 {
     let mut p = kernel_lines::last_line(kernels, links, totals.lines, s);
+    // Stays a `while`: each line's link names the next one, so there is no range or slice to go over.
     while 0 < p {
         let l = p - 1;
         if !moves::line_came(
@@ -240,15 +223,12 @@ fn find_extra(
     requires symbols_len { (length symbols.now ≡ 128) × (q < 256) }
     ensures { LinesArrive items.now kernels.now kinds.now values.now gotos.now totals.lines q → RulesArrive items.now kernels.now present.now kinds.now values.now gotos.now totals.rules totals.lines q → MoveFaultIs items.now kernels.now present.now symbols.now kinds.now values.now gotos.now totals.items totals.rules totals.lines q result }
 {
-    let mut x = 1;
-    while x < SYMBOLS {
-        let found = find_extra_at(
+    for x in 1..SYMBOLS {
+        if let Found::At(l) = find_extra_at(
             items, kernels, links, kinds, values, gotos, present, symbols, totals, q, x,
-        );
-        if let Found::At(l) = found {
+        ) {
             return ItemFault::Extra(x, l);
         }
-        x += 1;
     }
     ItemFault::Nothing
 }
@@ -271,18 +251,14 @@ pub fn find_move_fault(
     requires symbols_len { (length symbols.now ≡ 128) × (q < 256) }
     ensures { MoveFaultIs items.now kernels.now present.now symbols.now kinds.now values.now gotos.now totals.items totals.rules totals.lines q result }
 {
-    let line = find_lost_line(items, kernels, links, kinds, values, gotos, totals, q);
-    if let Found::At(l) = line {
+    if let Found::At(l) = find_lost_line(items, kernels, links, kinds, values, gotos, totals, q) {
         let i = kernel_lines::item_of(kernels, totals.lines, totals.items, l);
-        return ItemFault::Lost(
-            i,
-            kernel_lines::dot_of(kernels, totals.lines, totals.items, l),
-        );
+        let k = kernel_lines::dot_of(kernels, totals.lines, totals.items, l);
+        return ItemFault::Lost(i, k);
     }
-    let rule = find_lost_rule(
+    if let Found::At(i) = find_lost_rule(
         items, kernels, links, kinds, values, gotos, present, totals, q,
-    );
-    if let Found::At(i) = rule {
+    ) {
         return ItemFault::Lost(i, 0);
     }
     find_extra(
