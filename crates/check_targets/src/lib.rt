@@ -128,7 +128,7 @@ fn find_lost_rule(
     requires q_bound { q < 256 }
     ensures { Misses (Present items.now present.now) (λ i. Arrives items.now kernels.now kinds.now values.now gotos.now totals.lines q i 0) 1 (totals.rules + 1) result }
 {
-    for i in 1..=totals.rules {
+    for i in 1..totals.rules + 1 {
         if moves::is_present(items, present, totals.items, i)
             && !arrives(items, kernels, links, kinds, values, gotos, totals, q, i, 0)
         {
