@@ -16,36 +16,9 @@ use Rattle.kernel_lines.specs.Lines.{LineAt}
 use Rattle.kernel_lines.proofs.HeldLaws.{line_of, kernel_of}
 use Rattle.check_targets.specs.declared.ItemFault.{ItemFault}
 use Rattle.check_targets.specs.Targets.{MovesMeet}
-use Rattle.check_targets.specs.Faults.{MoveNamedIs, MoveFaultIs, no_fault}
+use Rattle.check_targets.specs.Faults.{MoveNamedIs, no_fault}
 use Rattle.check_targets.proofs.FaultLaws.{is_named, moves_decided}
-use Rattle.check_items.specs.Items.{OnlyItem, EntryMeets, EntriesAtMeet, ItemNamedIs, ItemFaultIs, HeldAt}
-
--- ---- one entry
-module _ {entries kernels : List ℕ} {rules lines q k s : ℕ} (is-s : s ≡ get_or entries k 0) where
-  pub entry_elsewhere : (s ≡ q → ⊥) → EntryMeets entries kernels rules lines q k
-  entry_elsewhere f = record { has = λ e. absurd (f (is-s ∙ e)); only = λ e. absurd (f (is-s ∙ e)) }
-
-  pub entry_missing : s ≡ q → (LineAt kernels lines q (rules + k) 0 → ⊥) → EntryMeets entries kernels rules lines q k → ⊥
-  entry_missing e f m = f (m.has (sym is-s ∙ e))
-
-  pub entry_extra : s ≡ q → (OnlyItem kernels lines q (rules + k) → ⊥) → EntryMeets entries kernels rules lines q k → ⊥
-  entry_extra e f m = f (m.only (sym is-s ∙ e))
-
--- ---- the whole
-module _ {items entries kernels kinds values gotos named present symbols : List ℕ} {count rules strings lines q : ℕ} where
-  -- named, with its entries' items: what is wrong is what is wrong with its moves
-  pub by_moves : On named q → EntriesAtMeet entries kernels rules strings lines q → {r : ItemFault}
-      → MoveFaultIs items kernels present symbols kinds values gotos count rules lines q r
-      → ItemFaultIs items entries kernels kinds values gotos named present symbols count rules strings lines q r
-  by_moves o a {r = r} f = record { is = go r f.is }
-    where
-      go : (r : ItemFault) → MoveNamedIs items kernels present symbols kinds values gotos count rules lines q r
-          → ItemNamedIs items entries kernels kinds values gotos named present symbols count rules strings lines q r
-      go ItemFault.Unnamed h = absurd h
-      go (ItemFault.Entry k) h = absurd h
-      go (ItemFault.Lost i k) h = h
-      go (ItemFault.Extra X l) h = h
-      go ItemFault.Nothing h = (o, a, h)
+use Rattle.check_items.specs.Items.{EntryMeets, EntriesAtMeet, ItemNamedIs, ItemFaultIs, HeldAt}
 
 module _ (g : Grammar) (t : Table) {items entries kernels kinds values gotos named present symbols : List ℕ} {rules strings lines q : ℕ}
     (H : HeldAt g t items entries kernels kinds values gotos named present symbols rules strings lines q) where

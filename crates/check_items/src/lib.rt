@@ -28,6 +28,7 @@ fn only_item(
     ensures { Decides (OnlyItem kernels.now lines q i) result }
 {
     let mut p = kernel_lines::last_line(kernels, links, lines, q);
+    // Stays a `while`: each line's link names the next one, so there is no range or slice to go over.
     while 0 < p {
         let l = p - 1;
         if !kernel_lines::is_of(kernels, lines, count, l, i, 0) {
@@ -36,12 +37,6 @@ fn only_item(
         p = kernel_lines::line_before(kernels, links, lines, l);
     }
     true
-}
-
-fn wide(x: u8) -> usize
-    ensures { result ≡ x }
-{
-    x as usize
 }
 
 // Whether q, where it is the state of entry k, has that entry's item and only that.
@@ -60,16 +55,9 @@ fn entry_meets(
     requires q_bound { (q < 256) × (rules ≤ 127) × (k ≤ 127) × (k < length entries.now) }
     ensures { Decides (EntryMeets entries.now kernels.now rules lines q k) result }
 {
-    if wide(entries[k]) != q {
-        return true;
-    }
-    if !kernel_lines::has_line(kernels, links, lines, count, q, rules + k, 0) {
-        return false;
-    }
-    if !only_item(kernels, links, lines, count, q, rules + k) {
-        return false;
-    }
-    true
+    entries[k] as usize != q
+        || kernel_lines::has_line(kernels, links, lines, count, q, rules + k, 0)
+            && only_item(kernels, links, lines, count, q, rules + k)
 }
 
 // The first entry whose state q is, and whose item q does not have alone.
@@ -88,12 +76,10 @@ fn find_entry_at(
     requires q_bound { (q < 256) × (rules ≤ 127) × (strings ≤ 127) × (strings < length entries.now) }
     ensures { Misses Any (EntryMeets entries.now kernels.now rules lines q) 1 (strings + 1) result }
 {
-    let mut k = 1;
-    while k <= strings {
+    for k in 1..strings + 1 {
         if !entry_meets(entries, kernels, links, rules, lines, count, q, k) {
             return Found::At(k);
         }
-        k += 1;
     }
     Found::Nothing
 }
@@ -122,7 +108,7 @@ pub fn find_item_fault(
     if named[q] == 0 {
         return ItemFault::Unnamed;
     }
-    let entry = find_entry_at(
+    if let Found::At(k) = find_entry_at(
         entries,
         kernels,
         links,
@@ -131,8 +117,7 @@ pub fn find_item_fault(
         totals.lines,
         totals.items,
         q,
-    );
-    if let Found::At(k) = entry {
+    ) {
         return ItemFault::Entry(k);
     }
     check_targets::find_move_fault(
