@@ -7,7 +7,7 @@ use mathlib.Core.List.{List}
 use mathlib.Core.Option.{Option, some, none}
 use native.Mathlib.Decide.{ℕ_discrete, dec_le}
 use native.Mathlib.Omega.{arith}
-use borrow.Author.Tests.{le-leb, lt-leb, eq-eqb, ne_eqb}
+use borrow.Author.Tests.{le-leb, lt-leb}
 use lib.Dec.{leb, eqb}
 use lib.ListN.{get_or}
 use Rattle.language.specs.Grammar.{Grammar, IsNonterminal}
@@ -43,21 +43,6 @@ kind_demand (some (S s)) = refl
 kind_demand (some (N s)) = refl
 kind_demand (some (A i)) = omega arith
 kind_demand (some (P n)) = omega arith
-
-module _ (kinds values : List ℕ) (q c : ℕ) where
-  pub demand_none : get_or kinds (q * 64 + c) 0 ≡ 0 → 0 ≡ demand_at kinds values q c
-  unfolding demand_at
-  demand_none e = simp (eq-eqb (get_or kinds (q * 64 + c) 0) 0 e)
-
-  pub demand_shift : get_or kinds (q * 64 + c) 0 ≡ 1 → 256 ≡ demand_at kinds values q c
-  unfolding demand_at
-  demand_shift e = simp (ne_eqb (get_or kinds (q * 64 + c) 0) 0 (λ z. omega (arith, e, z)), eq-eqb (get_or kinds (q * 64 + c) 0) 1 e)
-
-  pub demand_other : {k v : ℕ} → k ≡ get_or kinds (q * 64 + c) 0 → v ≡ get_or values (q * 64 + c) 0 → (k ≡ 0 → ⊥) → (k ≡ 1 → ⊥)
-      → k * 256 + v ≡ demand_at kinds values q c
-  unfolding demand_at
-  demand_other ek ev n m =
-      ap₂ (λ (x y : ℕ). x * 256 + y) ek ev ∙ simp (ne_eqb (get_or kinds (q * 64 + c) 0) 0 (λ z. n (ek ∙ z)), ne_eqb (get_or kinds (q * 64 + c) 0) 1 (λ z. m (ek ∙ z)))
 
 pop_back : (n m : ℕ) → m ≤ 15 → pop_value n ≡ m → n ≡ suc m
 pop_back n m l e = go (dec_le 1 n) (dec_le n 255)

@@ -19,25 +19,17 @@ use cells::{SHIFT, VALUES};
 use fixpoint::Found;
 use symbol::{CODES, Symbol};
 
-fn wide(x: u8) -> usize
-    ensures { (result ≡ x) × (result < 256) }
-{
-    x as usize
-}
-
 // What the cell of q for code c holds, as the number of what would be asked.
+#[tactic(auto, unfolding(crate::specs::Contents::demand_at))]
 pub fn demand_of(kinds: &[u8], values: &[u8], q: usize, c: usize) -> usize
     requires { (16384 ≤ length kinds.now) × (16384 ≤ length values.now) × (q < 256) × (c < 64) }
     ensures { result ≡ demand_at kinds.now values.now q c }
 {
-    let kind = wide(kinds[q * CODES + c]);
-    if kind == 0 {
-        return 0;
+    match kinds[q * CODES + c] {
+        0 => 0,
+        1 => SHIFT,
+        kind => kind as usize * VALUES + values[q * CODES + c] as usize,
     }
-    if kind == 1 {
-        return SHIFT;
-    }
-    kind * VALUES + wide(values[q * CODES + c])
 }
 
 // The first code whose cell of q is not what is asked.
@@ -46,12 +38,10 @@ pub fn find_cell(asked: &[usize], kinds: &[u8], values: &[u8], codes: usize, q: 
     requires in_bounds { (16384 ≤ length kinds.now) × (16384 ≤ length values.now) × (q < 256) }
     ensures { Misses Any (λ c. get_or asked.now c 0 ≡ demand_at kinds.now values.now q c) 0 codes result }
 {
-    let mut c = 0;
-    while c < codes {
+    for c in 0..codes {
         if asked[c] != demand_of(kinds, values, q, c) {
             return Found::At(c);
         }
-        c += 1;
     }
     Found::Nothing
 }
@@ -61,16 +51,7 @@ fn goto_meets(moves: &[u8], gotos: &[u8], q: usize, b: usize) -> bool
     requires { (length moves.now ≡ 128) × (16384 ≤ length gotos.now) × (q < 256) × (b < 64) }
     ensures { Decides (GotoMeets moves.now gotos.now q b) result }
 {
-    if moves[Symbol::FIRST_NONTERMINAL + b] == 0 {
-        if gotos[q * CODES + b] != 0 {
-            return false;
-        }
-        return true;
-    }
-    if gotos[q * CODES + b] == 0 {
-        return false;
-    }
-    true
+    (moves[Symbol::FIRST_NONTERMINAL + b] == 0) == (gotos[q * CODES + b] == 0)
 }
 
 // The first b where q has a next state for nonterminal 64 + b and nothing moves, or the other way round.
@@ -78,12 +59,10 @@ pub fn find_goto(moves: &[u8], gotos: &[u8], q: usize) -> Found
     requires { (length moves.now ≡ 128) × (16384 ≤ length gotos.now) × (q < 256) }
     ensures { Misses Any (GotoMeets moves.now gotos.now q) 0 64 result }
 {
-    let mut b = 0;
-    while b < CODES {
+    for b in 0..CODES {
         if !goto_meets(moves, gotos, q, b) {
             return Found::At(b);
         }
-        b += 1;
     }
     Found::Nothing
 }
@@ -102,13 +81,6 @@ pub fn cells_meet(
     requires asked_len { (length asked.now ≡ 64) × (length moves.now ≡ 128) × (codes ≤ 64) × (q < 256) }
     ensures { (g : Grammar) (t : Table) (items entries kernels lookaheads nul fst : List ℕ) (rules strings lines : ℕ) → HoldsTable g t items entries kernels lookaheads kinds.now values.now gotos.now rules strings lines → codes ≡ suc g.terminals → HoldsMoves g t q moves.now → HoldsAsked g t (FirstBy codes nul fst) q asked.now → Decides (CellsMeet g t (FirstBy codes nul fst) q) result }
 {
-    let cell = find_cell(asked, kinds, values, codes, q);
-    if let Found::At(_) = cell {
-        return false;
-    }
-    let goto = find_goto(moves, gotos, q);
-    if let Found::At(_) = goto {
-        return false;
-    }
-    true
+    matches!(find_cell(asked, kinds, values, codes, q), Found::Nothing)
+        && matches!(find_goto(moves, gotos, q), Found::Nothing)
 }
