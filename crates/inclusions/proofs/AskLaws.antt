@@ -11,58 +11,20 @@ use Rattle.fixpoint.specs.Flags.{On}
 use Rattle.fixpoint.proofs.PassLaws.{all_off}
 use Rattle.memory.specs.Memory.{item_at, dot_at}
 use Rattle.analysis.specs.FirstBy.{first_low}
-use Rattle.analysis.specs.Adds.{Adds, InRow}
+use Rattle.analysis.specs.Adds.{Adds}
 use Rattle.closure.specs.Kernel.{OfLine}
-use Rattle.analysis.proofs.AddLaws.{adds_none, adds_map, adds_then}
-use Rattle.moves.specs.Moves.{symbol_after, next_at}
+use Rattle.analysis.proofs.AddLaws.{adds_map, adds_then}
 use Rattle.item_first.specs.Rows.{FirstsAt, RowOf}
 use Rattle.item_first.specs.Rows as rows
 use Rattle.item_first.proofs.FirstLaws.{at_zero}
 use Rattle.item_groups.specs.Groups.{GroupEnd}
 use Rattle.inclusions.specs.Groups.{group_end, group_from, group_begin}
-use Rattle.inclusions.specs.Asks.{LineAsks, LinesAsk, MoveAsks, GroupAsks, GroupsAsk, ItemAsks, by_move, by_group, KernelAsks, RuleAsks, RulesAsk, StateAsks}
+use Rattle.inclusions.specs.Asks.{LinesAsk, MoveAsks, GroupAsks, GroupsAsk, ItemAsks, by_move, by_group, KernelAsks, RulesAsk, StateAsks}
 use Rattle.closure.proofs.AddingLaws.{Adding, adding_none, adding_then, adds_all}
 use Rattle.inclusions.proofs.GroupLaws.{end_found, group_next, group_order}
 
--- ---- a line
-module _ {kernels from : List ℕ} {codes i k start l : ℕ} where
-  pub line_other : (fs : List ℕ) → ((item_at kernels l ≡ i) × (dot_at kernels l ≡ k) → ⊥) → Adds (LineAsks kernels from codes i k start l) fs fs
-  line_other fs f = adds_none fs (λ y h. f (h.item, h.dot))
-
-  pub line_row : {fs fs' : List ℕ} → (item_at kernels l ≡ i) × (dot_at kernels l ≡ k) → Adds (InRow from start codes (l * 64)) fs fs'
-      → Adds (LineAsks kernels from codes i k start l) fs fs'
-  line_row h a = adds_map (λ y r. record { item = h.0; dot = h.1; row = r }) (λ y r. r.row) a
-
--- ---- a move
-same_next : (items kinds values gotos : List ℕ) (p i k : ℕ) {x s : ℕ} → x ≡ symbol_after items i k → s ≡ next_at kinds values gotos p x
-    → s ≡ next_at kinds values gotos p (symbol_after items i k)
-same_next items kinds values gotos p i k ex es = es ∙ ap (next_at kinds values gotos p) ex
-
-module _ {items kernels kinds values gotos from : List ℕ} {lines codes p i k start : ℕ} (fs : List ℕ) {x : ℕ} (is_x : x ≡ symbol_after items i k) where
-  pub move_still : x ≡ 0 → Adds (MoveAsks items kernels kinds values gotos from lines codes p i k start) fs fs
-  move_still e = adds_none fs (λ y h. h.moves (sym is_x ∙ e))
-
-  module _ {s : ℕ} (is-s : s ≡ next_at kinds values gotos p x) where
-    pub move_nowhere : s ≡ 0 → Adds (MoveAsks items kernels kinds values gotos from lines codes p i k start) fs fs
-    move_nowhere e = adds_none fs (λ y h. h.leads (sym (same_next items kinds values gotos p i k is_x is-s) ∙ e))
-
-    pub move_to : {fs' : List ℕ} → (x ≡ 0 → ⊥) → (s ≡ 0 → ⊥) → Adds (LinesAsk kernels from lines codes s i (k + 1) start) fs fs'
-        → Adds (MoveAsks items kernels kinds values gotos from lines codes p i k start) fs fs'
-    move_to n m a =
-        let e = same_next items kinds values gotos p i k is_x is-s in
-        adds_map
-        (λ y h. record {
-          moves = λ z. n (is_x ∙ z);
-          leads = λ z. m (e ∙ z);
-          asks = subst (λ (u : ℕ). LinesAsk kernels from lines codes u i (k + 1) start y) e h;
-        })
-        (λ y h. subst (λ (u : ℕ). LinesAsk kernels from lines codes u i (k + 1) start y) (sym e) h.asks) a
-
 -- ---- a group
 module _ {items kernels entries nul fst from : List ℕ} {rules lines codes i b e start : ℕ} where
-  pub group_none : (fs : List ℕ) → e ≡ 0 → Adds (GroupAsks items kernels entries nul fst from rules lines codes i b e start) fs fs
-  group_none fs z = adds_none fs (λ y h. h.some_entry z)
-
   pub group_row : {row₀ row fs fs' : List ℕ} {s : ℕ} → (e ≡ 0 → ⊥) → s ≡ get_or entries e 0 → row₀ ≡ replicate 64 0
       → Adds (FirstsAt items codes nul fst from start i b) row₀ row → Adds (LinesAsk kernels row lines codes s (rules + e) 0 0) fs fs'
       → Adds (GroupAsks items kernels entries nul fst from rules lines codes i b e start) fs fs'
@@ -147,14 +109,6 @@ module _ {items kernels entries uses nul fst from : List ℕ} {rules lines codes
 -- ---- an item
 module _ {items kernels kinds values gotos entries uses nul fst from : List ℕ} {rules lines codes p i k start : ℕ} {fs₀ fs : List ℕ}
     (a : Adds (MoveAsks items kernels kinds values gotos from lines codes p i k start) fs₀ fs) where
-  -- away from its recognition point, or an entry's
-  pub item_moves : (i ≤ rules → mark_at items i ≡ k → ⊥) → Adds (ItemAsks items kernels kinds values gotos entries uses nul fst from rules lines codes p i k start) fs₀ fs
-  item_moves f = adds_map (λ y h. by_move h) down a
-    where
-      down : (y : ℕ) → ItemAsks items kernels kinds values gotos entries uses nul fst from rules lines codes p i k start y → MoveAsks items kernels kinds values gotos from lines codes p i k start y
-      down y (by_move h) = h
-      down y (by_group l e h) = absurd (f l e)
-
   pub item_groups : {fs' : List ℕ} → i ≤ rules → mark_at items i ≡ k → Adds (GroupsAsk items kernels entries uses nul fst from rules lines codes i start) fs fs'
       → Adds (ItemAsks items kernels kinds values gotos entries uses nul fst from rules lines codes p i k start) fs₀ fs'
   item_groups l e b = adds_map up down (adds_then a b)
@@ -171,19 +125,13 @@ module _ {items kernels kinds values gotos entries uses nul fst from : List ℕ}
       down y (by_move h) = inl h
       down y (by_group l e h) = inr h
 
--- ---- a line, and a rule that the closure adds
+-- ---- a line
 pub line_item : {items kernels lookaheads kinds values gotos entries uses nul fst : List ℕ} {rules lines codes p : ℕ} {fs fs' : List ℕ} (l : ℕ) {i k : ℕ}
     → i ≡ item_at kernels l → k ≡ dot_at kernels l
     → Adds (ItemAsks items kernels kinds values gotos entries uses nul fst lookaheads rules lines codes p i k (l * 64)) fs fs'
     → Adds (KernelAsks items kernels lookaheads kinds values gotos entries uses nul fst rules lines codes p l) fs fs'
 line_item {items} {kernels} {lookaheads} {kinds} {values} {gotos} {entries} {uses} {nul} {fst} {rules} {lines} {codes} {p} {fs} {fs'} l ei ek a =
     subst₂ (λ (j n : ℕ). Adds (ItemAsks items kernels kinds values gotos entries uses nul fst lookaheads rules lines codes p j n (l * 64)) fs fs') ei ek a
-
-pub rule_item : {items kernels kinds values gotos entries uses nul fst follow : List ℕ} {rules lines codes p i left : ℕ} {fs fs' : List ℕ} → left ≡ left_at items i
-    → Adds (ItemAsks items kernels kinds values gotos entries uses nul fst follow rules lines codes p i 0 ((left - 64) * 64)) fs fs'
-    → Adds (RuleAsks items kernels kinds values gotos entries uses nul fst follow rules lines codes p i) fs fs'
-rule_item {items} {kernels} {kinds} {values} {gotos} {entries} {uses} {nul} {fst} {follow} {rules} {lines} {codes} {p} {i} {fs = fs} {fs' = fs'} e a =
-    subst (λ (n : ℕ). Adds (ItemAsks items kernels kinds values gotos entries uses nul fst follow rules lines codes p i 0 ((n - 64) * 64)) fs fs') e a
 
 -- ---- a state
 module _ {items kernels lookaheads kinds values gotos entries uses nul fst present follow : List ℕ} {rules lines codes p : ℕ} where

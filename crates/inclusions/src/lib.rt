@@ -20,12 +20,6 @@ ghost use Rattle.inclusions.specs.Included.{Includes, FlagAsked};
 use memory::Totals;
 use symbol::{CODES, Symbol};
 
-fn wide(x: u8) -> usize
-    ensures { (result ≡ x) × (result < 256) }
-{
-    x as usize
-}
-
 // Asks of line l, if it is that of item i, dot k, the codes that are flagged from `start` on.
 fn add_line(
     kernels: &[u8],
@@ -43,10 +37,9 @@ fn add_line(
     requires l_lt_lines { (l < lines) × (codes ≤ 64) × (start + 64 ≤ length from.now) × (lines * 64 ≤ length included.old) }
     ensures { Adds (LineAsks kernels.now from.now codes i k start l) included.old included.new }
 {
-    if !kernel_lines::is_of(kernels, lines, count, l, i, k) {
-        return;
+    if kernel_lines::is_of(kernels, lines, count, l, i, k) {
+        analysis::add_codes(from, start, codes, included, l * CODES);
     }
-    analysis::add_codes(from, start, codes, included, l * CODES);
 }
 
 // Asks of the line for item i, dot k in state s, if there is one, the codes that are flagged from `start` on.
@@ -69,6 +62,7 @@ pub fn add_lines(
     ensures { Adds (LinesAsk kernels.now from.now lines codes s i k start) included.old included.new }
 {
     let mut p = kernel_lines::last_line(kernels, links, lines, s);
+    // Stays a `while`: each line's link names the next one, so there is no range or slice to go over.
     while 0 < p {
         let l = p - 1;
         add_line(kernels, from, lines, count, codes, l, i, k, start, included);
@@ -161,7 +155,6 @@ fn add_group(
         at.start,
         &mut row,
     );
-    let s = wide(entries[e]);
     add_lines(
         kernels,
         links,
@@ -169,7 +162,7 @@ fn add_group(
         totals.lines,
         totals.items,
         totals.codes,
-        s,
+        entries[e] as usize,
         totals.rules + e,
         0,
         0,
@@ -199,9 +192,10 @@ fn add_groups(
     let n = items::length_of(items, totals.items, i);
     let mut a = items::mark_of(items, totals.items, i);
     let mut j: usize = 0;
+    // Stays a `while`: groups differ in length, so the place and the group's number move by different steps.
     while a < n {
         let b = item_groups::group_end(items, totals.items, i, a, n);
-        let e = wide(uses[i * 16 + j]);
+        let e = uses[i * 16 + j] as usize;
         add_group(
             items,
             entries,
@@ -251,16 +245,12 @@ fn add_item(
     add_move(
         items, kernels, links, kinds, values, gotos, from, totals, p, at, asked,
     );
-    if at.item > totals.rules {
-        return;
+    if at.item <= totals.rules && items::mark_of(items, totals.items, at.item) == at.dot {
+        add_groups(
+            items, entries, kernels, links, uses, nullable, first, from, totals, at.item, at.start,
+            asked,
+        );
     }
-    if items::mark_of(items, totals.items, at.item) != at.dot {
-        return;
-    }
-    add_groups(
-        items, entries, kernels, links, uses, nullable, first, from, totals, at.item, at.start,
-        asked,
-    );
 }
 
 // What the kernel items of p ask.
@@ -286,6 +276,7 @@ fn add_kernel(
     ensures { Adds (OfLine (KernelAsks items.now kernels.now lookaheads.now kinds.now values.now gotos.now entries.now uses.now nullable.now first.now totals.rules totals.lines totals.codes p) kernels.now totals.lines p) asked.old asked.new }
 {
     let mut next = kernel_lines::last_line(kernels, links, totals.lines, p);
+    // Stays a `while`: each line's link names the next one, so there is no range or slice to go over.
     while 0 < next {
         let l = next - 1;
         let i = kernel_lines::item_of(kernels, totals.lines, totals.items, l);
@@ -387,17 +378,13 @@ fn add_rules(
     requires p_bound { (p < 256) × (length present.now ≡ 64) × (length follow.now ≡ 4096) × (totals.lines * 64 ≤ length asked.old) }
     ensures { Adds (RulesAsk items.now kernels.now kinds.now values.now gotos.now entries.now uses.now nullable.now first.now present.now follow.now totals.rules totals.lines totals.codes p) asked.old asked.new }
 {
-    let mut i = 1;
-    while i <= totals.rules {
-        if !moves::is_present(items, present, totals.items, i) {
-            i += 1;
-            continue;
+    for i in 1..totals.rules + 1 {
+        if moves::is_present(items, present, totals.items, i) {
+            add_rule(
+                items, entries, kernels, links, kinds, values, gotos, uses, nullable, first,
+                follow, totals, p, i, asked,
+            );
         }
-        add_rule(
-            items, entries, kernels, links, kinds, values, gotos, uses, nullable, first, follow,
-            totals, p, i, asked,
-        );
-        i += 1;
     }
 }
 

@@ -1,14 +1,13 @@
 use Rattle.inclusions.specs.Asks.{RuleAsks, RulesAsk}
 use Rattle.closure.proofs.AddingLaws.{Adding}
-use Prim.Native.Nat.{ℕ, ◌+◌, ◌≤◌, ◌<◌, ◌-◌}
+use Prim.Native.Nat.{ℕ, ◌≤◌, ◌<◌}
 use Rattle.fixpoint.specs.Flags.{On}
 use Rattle.moves.specs.Moves.{Present}
 use Rattle.inclusions.proofs.add_rules.Given as goal
 
 abbrev pub invariant-loop-i : goal.invariant-loop-i
 invariant-loop-i l =
-    (1 ≤ l.i)
-    × Adding (RulesAsk l.items l.kernels l.kinds l.values l.gotos l.entries l.uses l.nullable l.first l.present l.follow l.totals.rules l.totals.lines l.totals.codes l.p) l.initial.asked
+    Adding (RulesAsk l.items l.kernels l.kinds l.values l.gotos l.entries l.uses l.nullable l.first l.present l.follow l.totals.rules l.totals.lines l.totals.codes l.p) l.initial.asked
     l.asked
     × ((j : ℕ)
     → 1 ≤ j
@@ -17,6 +16,3 @@ invariant-loop-i l =
     → (y : ℕ)
     → RuleAsks l.items l.kernels l.kinds l.values l.gotos l.entries l.uses l.nullable l.first l.follow l.totals.rules l.totals.lines l.totals.codes l.p j y
     → On l.asked y)
-
-abbrev pub decreases-loop-i : goal.decreases-loop-i
-decreases-loop-i l = l.totals.rules + 1 - l.i
