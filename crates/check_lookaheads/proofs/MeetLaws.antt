@@ -5,25 +5,22 @@ use mathlib.Core.Logic.{◌⊎◌, inl, inr}
 use mathlib.Core.List.{List}
 use mathlib.Core.Option.{some}
 use native.Mathlib.Omega.{arith}
-use lib.ListN.{get_or, set, replicate, length-replicate}
+use lib.ListN.{get_or, replicate}
 use Rattle.language.specs.Grammar.{Grammar}
 use Rattle.language.specs.Sentence.{In}
 use Rattle.leftcorner.specs.Table.{EntryLine, E, Table, entry_at}
 use Rattle.leftcorner.specs.Construction.{entry_item, EntryAt, KernelAt, WellFormed, LookaheadsMeet}
 use Rattle.fixpoint.specs.Flags.{On, Marks}
-use Rattle.fixpoint.proofs.CountLaws.{on_set}
 use Rattle.fixpoint.proofs.PassLaws.{all_off}
 use Rattle.memory.specs.Memory.{state_at, item_at, dot_at}
 use Rattle.memory.specs.Held.{HoldsTable}
 use Rattle.memory.proofs.RangeLaws.{entry_at_lem}
 use Rattle.analysis.specs.FirstBy.{FirstBy, first_low}
 use Rattle.analysis.specs.Adds.{Adds}
-use Rattle.analysis.proofs.AddLaws.{adds_map}
 use Rattle.kernel_lines.specs.Lines.{IsLine}
 use Rattle.closure.specs.InMemory.{LineIs}
 use Rattle.closure.proofs.ItemLaws.{line_of, line_at}
 use Rattle.item_first.proofs.CarryLaws.{code_low}
-use Rattle.inclusions.specs.Asks.{LinesAsk}
 use Rattle.inclusions.specs.Included.{by_move, by_group, Includes, FlagAsked}
 use Rattle.inclusions.proofs.FlagLaws.{flag_map, flag_at, flag_line}
 use Rattle.check_lookaheads.specs.Narrow.{Narrows}
@@ -38,29 +35,6 @@ new_only {P} {none} n e a y on = go (a.only y on)
     go : On none y ⊎ P y → P y
     go (inl o) = all_off n e o
     go (inr p) = p
-
--- code 0, flagged in a row of its own, asked of the lines of the goal's entry
-pub goal_row : {kernels entries row included₀ included : List ℕ} {rules lines s : ℕ} → s ≡ get_or entries 1 0 → row ≡ set (replicate 64 0) 0 1
-    → Adds (LinesAsk kernels row lines 1 s (rules + 1) 0 0) included₀ included → Adds (GoalAsks kernels entries rules lines) included₀ included
-goal_row {kernels} {entries} {row} {rules = rules} {lines = lines} {s = s} is-s is_row a = adds_map to from a
-  where
-    to : (y : ℕ) → LinesAsk kernels row lines 1 s (rules + 1) 0 0 y → GoalAsks kernels entries rules lines y
-    to y o = record {
-      line = o.line;
-      is_line = record { low = o.within; state = o.state ∙ is-s; item = o.holds.item; dot = o.holds.dot };
-      is = omega (arith, o.holds.row.is, o.holds.row.low);
-    }
-
-    zero_on : On row (0 + 0)
-    zero_on = subst (λ (l : List ℕ). On l 0) (sym is_row) (on_set (replicate 64 0) 0 (omega (arith, length-replicate {A = ℕ} 64 0)))
-
-    from : (y : ℕ) → GoalAsks kernels entries rules lines y → LinesAsk kernels row lines 1 s (rules + 1) 0 0 y
-    from y o = let w = o.is_line in record {
-      line = o.line;
-      within = w.low;
-      state = w.state ∙ sym is-s;
-      holds = record { item = w.item; dot = w.dot; row = record { code = 0; low = omega arith; on = zero_on; is = omega (arith, o.is) } };
-    }
 
 module _ (g : Grammar) (t : Table) {items entries kernels lookaheads kinds values gotos : List ℕ} {rules strings lines : ℕ}
     (H : HoldsTable g t items entries kernels lookaheads kinds values gotos rules strings lines) where

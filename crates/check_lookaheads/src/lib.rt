@@ -11,27 +11,15 @@ ghost use Rattle.check_lookaheads.specs.Memory.{Covers, StateCovers, GoalAsks};
 
 use symbol::{CODES, Symbol};
 
-fn wide(x: u8) -> usize
-    ensures { (result ≡ x) × (result < 256) }
-{
-    x as usize
-}
-
 // Whether each code that is asked of line l is one of its lookaheads.
 fn covers(included: &[u8], lookaheads: &[u8], lines: usize, l: usize, codes: usize) -> bool
     requires { (l < lines) × (lines ≤ 1023) × (codes ≤ 64) × (lines * 64 ≤ length included.now) × (lines * 64 ≤ length lookaheads.now) }
     ensures { Decides (Covers included.now lookaheads.now l codes) result }
 {
-    let mut c = 0;
-    while c < codes {
-        if included[l * CODES + c] == 0 {
-            c += 1;
-            continue;
-        }
-        if lookaheads[l * CODES + c] == 0 {
+    for c in 0..codes {
+        if included[l * CODES + c] != 0 && lookaheads[l * CODES + c] == 0 {
             return false;
         }
-        c += 1;
     }
     true
 }
@@ -50,15 +38,10 @@ pub fn mark_narrow(
     requires codes_bound { (codes ≤ 64) × (lines * 64 ≤ length included.now) × (lines * 64 ≤ length lookaheads.now) × (length narrow.old ≡ 256) }
     ensures { Narrows (StateCovers kernels.now included.now lookaheads.now lines codes) narrow.old narrow.new }
 {
-    let mut l = 0;
-    while l < lines {
-        if covers(included, lookaheads, lines, l, codes) {
-            l += 1;
-            continue;
+    for l in 0..lines {
+        if !covers(included, lookaheads, lines, l, codes) {
+            narrow[kernel_lines::state_of(kernels, lines, count, l)] = 1;
         }
-        let s = kernel_lines::state_of(kernels, lines, count, l);
-        narrow[s] = 1;
-        l += 1;
     }
 }
 
@@ -79,7 +62,6 @@ pub fn ask_goal(
 {
     let mut row = [0u8; CODES];
     row[Symbol::END] = 1;
-    let s = wide(entries[1]);
     inclusions::add_lines(
         kernels,
         links,
@@ -87,7 +69,7 @@ pub fn ask_goal(
         lines,
         count,
         1,
-        s,
+        entries[1] as usize,
         rules + 1,
         0,
         0,
