@@ -117,13 +117,7 @@ fn check_state(
 fn note(at: usize, fine: bool, q: usize) -> usize
     ensures { result ≡ noted at fine q }
 {
-    if at != 0 {
-        return at;
-    }
-    if fine {
-        return 0;
-    }
-    q
+    if at != 0 || fine { at } else { q }
 }
 
 // The lowest state whose flag is set; 0 for none.
@@ -131,12 +125,10 @@ fn lowest_set(flags: &[u8], states: usize) -> usize
     requires { (states ≤ 255) × (length flags.now ≡ 256) }
     ensures { Fault (Off flags.now) (states + 1) result }
 {
-    let mut q = 1;
-    while q <= states {
+    for q in 1..states + 1 {
         if flags[q] != 0 {
             return q;
         }
-        q += 1;
     }
     0
 }
@@ -194,25 +186,21 @@ fn check_states(
     ensures found { (g : Grammar) (t : Table) → Given g t items.now entries.now kernels.now lookaheads.now kinds.now values.now gotos.now named.now totals.rules totals.entries totals.lines totals.states totals.codes → HoldsUses uses.now g t
         → Found g t (FirstBy totals.codes nullable.now first.now) kernels.now totals.lines totals.codes (totals.states + 1) result.items result.agree result.cells asked.new }
 {
-    let mut wrong = 0;
-    let mut clash = 0;
-    let mut other = 0;
-    let mut q = 1;
-    while q <= totals.states {
+    let mut faults = Faults {
+        items: 0,
+        agree: 0,
+        cells: 0,
+    };
+    for q in 1..totals.states + 1 {
         let s = check_state(
             items, entries, kernels, links, lookaheads, kinds, values, gotos, named, uses,
             nullable, first, starts, through, totals, q, asked,
         );
-        wrong = note(wrong, s.items, q);
-        clash = note(clash, s.agree, q);
-        other = note(other, s.cells, q);
-        q += 1;
+        faults.items = note(faults.items, s.items, q);
+        faults.agree = note(faults.agree, s.agree, q);
+        faults.cells = note(faults.cells, s.cells, q);
     }
-    Faults {
-        items: wrong,
-        agree: clash,
-        cells: other,
-    }
+    faults
 }
 
 // The reply to a table whose entries are those of the construction; `uses` has the entries that groups use.

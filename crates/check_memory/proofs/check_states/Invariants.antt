@@ -1,4 +1,3 @@
-use Prim.Native.Nat.{◌+◌, ◌-◌, ◌≤◌}
 use mathlib.Core.Path.{◌≡◌}
 use lib.ListN.{length}
 use Rattle.language.specs.Grammar.{Grammar}
@@ -11,9 +10,5 @@ use Rattle.check_memory.proofs.check_states.Given as goal
 
 abbrev pub invariant-loop-q : goal.invariant-loop-q
 invariant-loop-q l =
-    (1 ≤ l.q) × (l.q ≤ l.totals.states + 1) × (length l.asked ≡ 65536) × ((g : Grammar) (t : Table) → Given g t l.items l.entries l.kernels l.lookaheads l.kinds l.values l.gotos l.named l.totals.rules l.totals.entries l.totals.lines l.totals.states l.totals.codes
-    → HoldsUses l.uses g t → Found g t (FirstBy l.totals.codes l.nullable l.first) l.kernels l.totals.lines l.totals.codes l.q l.wrong l.clash l.other l.asked)
-
-abbrev pub decreases-loop-q : goal.decreases-loop-q
-decreases-loop-q l =
-    l.totals.states + 1 - l.q
+    (length l.asked ≡ 65536) × ((g : Grammar) (t : Table) → Given g t l.items l.entries l.kernels l.lookaheads l.kinds l.values l.gotos l.named l.totals.rules l.totals.entries l.totals.lines l.totals.states l.totals.codes
+    → HoldsUses l.uses g t → Found g t (FirstBy l.totals.codes l.nullable l.first) l.kernels l.totals.lines l.totals.codes l.q l.faults.items l.faults.agree l.faults.cells l.asked)

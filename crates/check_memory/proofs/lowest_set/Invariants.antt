@@ -1,9 +1,6 @@
-use Prim.Native.Nat.{ℕ, ◌+◌, ◌-◌, ◌≤◌, ◌<◌}
+use Prim.Native.Nat.{ℕ, ◌≤◌, ◌<◌}
 use Rattle.fixpoint.specs.Flags.{Off}
 use Rattle.check_memory.proofs.lowest_set.Given as goal
 
 abbrev pub invariant-loop-q : goal.invariant-loop-q
-invariant-loop-q l = (1 ≤ l.q) × (l.q ≤ l.states + 1) × ((k : ℕ) → 1 ≤ k → k < l.q → Off l.flags k)
-
-abbrev pub decreases-loop-q : goal.decreases-loop-q
-decreases-loop-q l = l.states + 1 - l.q
+invariant-loop-q l = (k : ℕ) → 1 ≤ k → k < l.q → Off l.flags k
