@@ -32,16 +32,10 @@ fn find_code(asked: &[u8], lookaheads: &[u8], lines: usize, l: usize, codes: usi
     requires { (l < lines) × (lines ≤ 1023) × (codes ≤ 64) × (lines * 64 ≤ length asked.now) × (lines * 64 ≤ length lookaheads.now) }
     ensures { Misses (λ c. On asked.now (l * 64 + c)) (λ c. On lookaheads.now (l * 64 + c)) 0 codes result }
 {
-    let mut c = 0;
-    while c < codes {
-        if asked[l * CODES + c] == 0 {
-            c += 1;
-            continue;
-        }
-        if lookaheads[l * CODES + c] == 0 {
+    for c in 0..codes {
+        if asked[l * CODES + c] != 0 && lookaheads[l * CODES + c] == 0 {
             return Found::At(c);
         }
-        c += 1;
     }
     Found::Nothing
 }
@@ -64,10 +58,10 @@ fn find_asked(
     ensures { MissingIn kernels.now lookaheads.now asked.now lines codes q source result }
 {
     let mut p = kernel_lines::last_line(kernels, links, lines, q);
+    // Stays a `while`: each line's link names the next one, so there is no range or slice to go over.
     while 0 < p {
         let l = p - 1;
-        let found = find_code(asked, lookaheads, lines, l, codes);
-        if let Found::At(c) = found {
+        if let Found::At(c) = find_code(asked, lookaheads, lines, l, codes) {
             return MissingCode::Code(l, c, source);
         }
         p = kernel_lines::line_before(kernels, links, lines, l);
@@ -198,8 +192,7 @@ pub fn find_missing(
     let MissingCode::Nothing = goal else {
         return goal;
     };
-    let mut p = 1;
-    while p <= totals.states {
+    for p in 1..totals.states + 1 {
         let missing = find_from(
             items, entries, kernels, links, lookaheads, kinds, values, gotos, named, uses,
             nullable, first, starts, through, totals, p, q,
@@ -207,7 +200,6 @@ pub fn find_missing(
         let MissingCode::Nothing = missing else {
             return missing;
         };
-        p += 1;
     }
     MissingCode::Nothing
 }

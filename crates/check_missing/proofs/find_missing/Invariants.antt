@@ -1,5 +1,4 @@
 -- The goal, then state by state.
-use Prim.Native.Nat.{◌+◌, ◌-◌, ◌≤◌}
 use Rattle.language.specs.Grammar.{Grammar}
 use Rattle.leftcorner.specs.Table.{Table}
 use Rattle.analysis.specs.FirstBy.{FirstBy}
@@ -10,12 +9,7 @@ use Rattle.check_missing.proofs.find_missing.Given as goal
 
 abbrev pub invariant-loop-p : goal.invariant-loop-p
 invariant-loop-p l =
-    (1 ≤ l.p)
-    × (l.p ≤ l.totals.states + 1)
-    × ((g : Grammar) (t : Table)
+    (g : Grammar) (t : Table)
     → Given g t l.items l.entries l.kernels l.lookaheads l.kinds l.values l.gotos l.named l.totals.rules l.totals.entries l.totals.lines l.totals.states l.totals.codes
     → HoldsUses l.uses g t
-    → LookaheadsBelow g t (FirstBy l.totals.codes l.nullable l.first) l.p l.q)
-
-abbrev pub decreases-loop-p : goal.decreases-loop-p
-decreases-loop-p l = l.totals.states + 1 - l.p
+    → LookaheadsBelow g t (FirstBy l.totals.codes l.nullable l.first) l.p l.q
