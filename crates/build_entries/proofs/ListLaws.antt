@@ -34,26 +34,27 @@ listing_start {g} {size} {items} {rules} {n} e s = record {
 }
 
 module _ {g : Grammar} {size : ℕ} {items : List ℕ} {rules done n : ℕ} (L : Listing g size items rules done n) where
-  module _ (few : n ≤ 127) (b : done < rules) {items' : List ℕ} {n' : ℕ}
-      (add : (l : List (List ℕ)) (r : Rule) → Stored g l size items rules n → rule_at g (done + 1) ≡ some r → Reached g (add_groups l r.groups) size items' rules n') where
+  -- rule i joins
+  module _ (few : n ≤ 127) (b : done < rules) {i to : ℕ} (here : i ≡ done + 1) (there : to ≡ done + 1) {items' : List ℕ} {n' : ℕ}
+      (add : (l : List (List ℕ)) (r : Rule) → Stored g l size items rules n → rule_at g i ≡ some r → Reached g (add_groups l r.groups) size items' rules n') where
     next : (r : Rule) × (rule_at g (suc done) ≡ some r)
     next = at_below g.rules done (omega (arith, b, L.stored.rule_count))
 
     reached : Reached g (add_groups L.strings next.0.groups) size items' rules n'
-    reached = add L.strings next.0 L.stored (ap (rule_at g) (add-one done) ∙ next.1)
+    reached = add L.strings next.0 L.stored (ap (rule_at g) (here ∙ add-one done) ∙ next.1)
 
     whole_next : entry_strings g ≡ add_rules (add_groups L.strings next.0.groups) (drop (suc done) g.rules)
     unfolding add_rules
     whole_next = L.whole few ∙ ap (add_rules L.strings) (drop_at g.rules done next.1)
 
-    pub listing_more : Listing g size items' rules (done + 1) n'
+    pub listing_more : Listing g size items' rules to n'
     listing_more = record {
       strings = reached.strings;
       stored = reached.stored;
       extends = extends_trans reached.extends
           (subst (Extends (add_groups L.strings next.0.groups)) (sym whole_next) (rules_extend (add_groups L.strings next.0.groups) (drop (suc done) g.rules)));
       whole = λ f. whole_next ∙ (ap (λ (l : List (List ℕ)). add_rules l (drop (suc done) g.rules)) (sym (reached.all f))
-          ∙ ap (λ (k : ℕ). add_rules reached.strings (drop k g.rules)) (sym (add-one done)));
+          ∙ ap (λ (k : ℕ). add_rules reached.strings (drop k g.rules)) (sym (there ∙ add-one done)));
     }
 
   -- all rules are done, or the limit is passed

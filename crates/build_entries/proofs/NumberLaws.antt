@@ -26,14 +26,6 @@ low_set m i v room low l k = go (ℕ_discrete k i)
     go (yes e) = rw e (omega (arith, get_or-set_same m i v 0 room))
     go (no f) = omega (arith, get_or-set_other m i k v 0 f, low k)
 
-pub part_more : (m : List ℕ) (f : ℕ → ℕ) (k : ℕ) {v : ℕ} → k + 1 < length m → ((j : ℕ) → j < k → get_or m (j + 1) 0 ≡ f j) → v ≡ f k
-    → (j : ℕ) → j < k + 1 → get_or (set m (k + 1) v) (j + 1) 0 ≡ f j
-part_more m f k {v} room same e j l = go (ℕ_discrete j k)
-  where
-    go : Dec (j ≡ k) → get_or (set m (k + 1) v) (j + 1) 0 ≡ f j
-    go (yes q) = rw q (get_or-set_same m (k + 1) v 0 room ∙ e)
-    go (no n) = get_or-set_other m (k + 1) (j + 1) v 0 (λ q. n (omega (arith, q))) ∙ same j (omega arith)
-
 -- the string that is loaded
 pub part_string : {items : List ℕ} {i from n : ℕ} {γ : List ℕ} → PartIs items i from n γ → (m : List ℕ) → n + 1 ≤ length m
     → ((j : ℕ) → j < n → get_or m (j + 1) 0 ≡ symbol_at items i (from + j)) → drop 1 (take (n + 1) m) ≡ γ

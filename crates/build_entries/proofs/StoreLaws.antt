@@ -44,9 +44,6 @@ module _ {g : Grammar} {items : List ℕ} {rules goal : ℕ} (b : RulesOnly g it
   goal_low = omega (arith, b.goal_is, declared_below g b.formed g.goal (inr b.formed.goal_declared))
 
 -- ---- a row more
-pub grown_same : {items : List ℕ} {rules strings : ℕ} → EntryRoom items rules strings → Grown items items rules strings strings
-grown_same R = record { ready = R; more = omega arith; rows = λ j l. refl }
-
 module _ {items : List ℕ} {rules strings : ℕ} (R : EntryRoom items rules strings) (few : strings ≤ 127) {γ : List ℕ} (f : Fitting γ)
     {items' : List ℕ} (e : items' ≡ sets items ((rules + strings + 1) * 64) (entry_row γ)) where
   pub grown_more : Grown items items' rules strings (strings + 1)

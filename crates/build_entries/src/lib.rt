@@ -18,10 +18,8 @@ fn load_part(items: &[u8], count: usize, i: usize, from: usize, n: usize, number
     ensures numbers_len_2 { (length numbers.new ≡ 67) × ((k : ℕ) → get_or numbers.new k 0 < 128) }
     ensures by_index { (j : ℕ) → j < n → get_or numbers.new (j + 1) 0 ≡ symbol_at items.now i (from + j) }
 {
-    let mut k = 0;
-    while k < n {
+    for k in 0..n {
         numbers[k + 1] = items::symbol_of(items, count, i, from + k);
-        k += 1;
     }
 }
 
@@ -78,10 +76,7 @@ fn add_groups(items: &mut [u8], rules: usize, strings: usize, i: usize) -> usize
     let length = items::length_of(items, rules + strings, i);
     let mut from = items::mark_of(items, rules + strings, i);
     let mut n = strings;
-    while from < length {
-        if 127 < n {
-            return n;
-        }
+    while from < length && n <= 127 {
         let to = item_groups::group_end(items, rules + n, i, from, length);
         n = add_part(items, rules, n, i, from, to - from);
         from = to;
@@ -99,13 +94,11 @@ pub fn list_entries(items: &mut [u8], rules: usize, goal: usize) -> usize
     let mut numbers = [0usize; 67];
     numbers[1] = goal;
     let mut n = add_string(items, rules, 0, &numbers, 2);
-    let mut done = 0;
-    while done < rules {
-        if 127 < n {
-            return n;
+    for i in 1..rules + 1 {
+        if n > 127 {
+            break;
         }
-        done += 1;
-        n = add_groups(items, rules, n, done);
+        n = add_groups(items, rules, n, i);
     }
     n
 }
