@@ -7,7 +7,7 @@ use mathlib.Core.Path.{◌≡◌, sym, ap, subst, ◌∙◌}
 use mathlib.Core.Logic.{◌⊎◌, inl, inr}
 use mathlib.Core.List.{List, [], ◌∷◌, ◌++◌}
 use lib.ListN.{length, get_or, set, take}
-use lib.Seq.{take-suc, take_all}
+use lib.Seq.{take-suc}
 use Rattle.language.specs.Sentence.{In, here}
 use Rattle.language.proofs.Member.{in_left, in_right, in_either}
 use Rattle.build_states.specs.States.{item_of, dot_of}
@@ -23,9 +23,6 @@ use Rattle.build_moves.proofs.MovedLaws.{after_before, before_after}
 -- ---- the numbers of a kernel set, up to j
 
 module _ (P : ℕ → ℕ → Type 0) (k : List ℕ) where
-  pub numbers_none : (fs : List ℕ) → Adds (OfNumber P (take 0 k)) fs fs
-  numbers_none fs = adds_none fs (λ y o. elim o.member [ ])
-
   pub numbers_more : (j : ℕ) {fs₀ fs fs' : List ℕ} → j < length k → Adds (OfNumber P (take j k)) fs₀ fs → Adds (P (get_or k j 0)) fs fs'
       → Adds (OfNumber P (take (j + 1) k)) fs₀ fs'
   numbers_more j l a b = adds_map up down (adds_then a b)
@@ -46,9 +43,6 @@ module _ (P : ℕ → ℕ → Type 0) (k : List ℕ) where
 
       down : (y : ℕ) → OfNumber P (take (j + 1) k) y → OfNumber P (take j k) y ⊎ P (get_or k j 0) y
       down y o = go o.holds (in_either (take j k) (subst (In o.number) is o.member))
-
-  pub numbers_all : {j : ℕ} {fs₀ fs : List ℕ} → length k ≤ j → Adds (OfNumber P (take j k)) fs₀ fs → Adds (OfNumber P k) fs₀ fs
-  numbers_all {j} {fs₀} {fs} l a = subst (λ (m : List ℕ). Adds (OfNumber P m) fs₀ fs) (take_all j k l) a
 
 -- ---- what one number adds
 
@@ -74,9 +68,6 @@ module _ (items : List ℕ) (x : ℕ) {s : ℕ} (is : s ≡ symbol_after items (
 -- ---- the rules below i
 
 module _ (items present : List ℕ) where
-  pub starts_none : (fs : List ℕ) → Adds (RuleStart items present 1) fs fs
-  starts_none fs = adds_none fs (λ y r. omega (arith, r.above, r.below))
-
   wider : {i : ℕ} (y : ℕ) → RuleStart items present i y → RuleStart items present (i + 1) y
   wider y r = record { rule = r.rule; above = r.above; below = omega (arith, r.below); added = r.added; is = r.is }
 
@@ -108,6 +99,3 @@ module _ (items present : List ℕ) where
       down : (y : ℕ) → RuleStart items present i y ⊎ ((y ≡ i * 16) × Present items present i) → RuleStart items present i y ⊎ (y ≡ i * 16)
       down y (inl r) = inl r
       down y (inr h) = inr h.0
-
-  pub starts_all : {i limit : ℕ} {fs₀ fs : List ℕ} → i ≤ limit → limit ≤ i → Adds (RuleStart items present i) fs₀ fs → Adds (RuleStart items present limit) fs₀ fs
-  starts_all {i} {limit} {fs₀} {fs} l u a = let e : i ≡ limit = omega arith in subst (λ (n : ℕ). Adds (RuleStart items present n) fs₀ fs) e a

@@ -114,10 +114,3 @@ module _ (moved : List ℕ) (at x : ℕ) where
 
         more : picked x (take (j + 1) moved) ≡ picked x (take j moved) ++ get_or moved j 0 / 128 ∷ []
         more = one_more j l ∙ ap (λ (m : List ℕ). picked x (take j moved) ++ m) (picked_one x (get_or moved j 0) e)
-
-  pub pick_end : {sets₀ sets : List ℕ} {n j r : ℕ} → j ≤ n → n ≤ j → Picking moved sets₀ sets at x j r
-      → ((r ≤ n) × (r ≡ length (picked x (take n moved)))) × (take (at + r) sets ≡ take at sets₀ ++ picked x (take n moved))
-  pick_end {sets₀} {sets} {n} {j} {r} l u p =
-      let e : j ≡ n = omega arith in
-      let q : Picking moved sets₀ sets at x n r = subst (λ (m : ℕ). Picking moved sets₀ sets at x m r) e p in
-      ((q.few, q.count), q.is)

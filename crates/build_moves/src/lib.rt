@@ -17,17 +17,12 @@ fn flag_kernel(items: &[u8], count: usize, kernel: &[usize], present: &mut [u8],
     ensures adds { Adds (OfNumber (StandsBefore items.now) kernel.now) present.old present.new }
     ensures adds_2 { Adds (OfNumber SameNumber kernel.now) held.old held.new }
 {
-    let mut j = 0;
-    while j < kernel.len() {
-        let x = kernel[j];
+    for &x in kernel {
         held[x] = 1;
         let s = moves::symbol_after(items, count, x / 16, x % 16);
-        if s < Symbol::FIRST_NONTERMINAL {
-            j += 1;
-            continue;
+        if s >= Symbol::FIRST_NONTERMINAL {
+            present[s - Symbol::FIRST_NONTERMINAL] = 1;
         }
-        present[s - Symbol::FIRST_NONTERMINAL] = 1;
-        j += 1;
     }
 }
 
@@ -37,14 +32,10 @@ fn hold_rules(items: &[u8], count: usize, rules: usize, present: &[u8], held: &m
     requires rules_le_count { (rules ≤ count) × (count ≤ 254) × (length present.now ≡ 64) × (length held.old ≡ 4096) }
     ensures { Adds (RuleStart items.now present.now (rules + 1)) held.old held.new }
 {
-    let mut i = 1;
-    while i <= rules {
-        if !moves::is_present(items, present, count, i) {
-            i += 1;
-            continue;
+    for i in 1..rules + 1 {
+        if moves::is_present(items, present, count, i) {
+            held[i * 16] = 1;
         }
-        held[i * 16] = 1;
-        i += 1;
     }
 }
 
@@ -54,22 +45,16 @@ fn list_moved(items: &[u8], count: usize, held: &[u8], moved: &mut [usize]) -> u
     requires count_bound { (count ≤ 254) × (length held.now ≡ 4096) × (length moved.old ≡ 4096) }
     ensures { (result ≤ 4096) × (take result moved.new ≡ moved_below items.now held.now (count * 16 + 16)) }
 {
-    let limit = count * 16 + 16;
     let mut n = 0;
-    let mut x = 0;
-    while x < limit {
+    for x in 0..count * 16 + 16 {
         if held[x] == 0 {
-            x += 1;
             continue;
         }
         let s = moves::symbol_after(items, count, x / 16, x % 16);
-        if s == 0 {
-            x += 1;
-            continue;
+        if s != 0 {
+            moved[n] = (x + 1) * SYMBOLS + s;
+            n += 1;
         }
-        moved[n] = (x + 1) * SYMBOLS + s;
-        n += 1;
-        x += 1;
     }
     n
 }
@@ -103,16 +88,11 @@ pub fn pick_moves(moved: &[usize], n: usize, x: usize, sets: &mut [usize], at: u
     ensures sets_after { take (at + result) sets.new ≡ take at sets.old ++ picked x (take n moved.now) }
 {
     let mut len = 0;
-    let mut j = 0;
-    while j < n {
-        let c = moved[j];
-        if c % SYMBOLS != x {
-            j += 1;
-            continue;
+    for &c in &moved[..n] {
+        if c % SYMBOLS == x {
+            sets[at + len] = c / SYMBOLS;
+            len += 1;
         }
-        sets[at + len] = c / SYMBOLS;
-        len += 1;
-        j += 1;
     }
     len
 }

@@ -6,8 +6,8 @@ use Rattle.build_moves.specs.Moved.{ListsMoves}
 use Rattle.build_moves.proofs.HasLaws.{lists_moves}
 use Rattle.build_moves.proofs.list_moves.Goals as goal
 
-pub returns : goal.returns
-returns c =
-    let moved = c.list_moved.ensures in
+pub returns-clause-lists_moves : goal.returns-clause-lists_moves
+returns-clause-lists_moves c =
     let present = marks_least (adds_marks 64 refl c.flag_kernel.ensures.adds) c.close_present.ensures in
-    let held = adds_marks 4096 refl (adds_then c.flag_kernel.ensures.adds_2 c.hold_rules.ensures) in record { upper_bound = moved.0; lists_moves = subst (ListsMoves _ _ _ _) (sym moved.1) (lists_moves c.requires.shaped c.requires.rules_le_count.0 c.requires.numbered present held) }
+    let held = adds_marks 4096 refl (adds_then c.flag_kernel.ensures.adds_2 c.hold_rules.ensures) in
+    subst (ListsMoves _ _ _ _) (sym c.list_moved.ensures.1) (lists_moves c.requires.shaped c.requires.rules_le_count.0 c.requires.numbered present held)

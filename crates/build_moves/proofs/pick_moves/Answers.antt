@@ -1,22 +1,16 @@
 use native.Mathlib.Omega.{arith}
-use Rattle.build_moves.proofs.PickLaws.{pick_start, pick_skip, pick_more, pick_end}
+use lib.Seq.{length-take-le}
+use Rattle.build_moves.proofs.PickLaws.{pick_start, pick_skip, pick_more}
 use Rattle.build_moves.proofs.pick_moves.Goals as goal
+use Rattle.build_moves.proofs.pick_moves.Goals.{then-c-x, else-c-x}
 
-by-clause : {A B : Type 0} → A × B → record { upper_bound : A; sets_after : B }
-by-clause h = record { upper_bound = h.0; sets_after = h.1 }
+pub loop-c-init : goal.loop-c-init
+loop-c-init c = pick_start _ _ _ _
 
-pub loop-j-init : goal.loop-j-init
-loop-j-init c = (omega arith, pick_start _ _ _ _)
-
-pub loop-j-preserved-then-c-x : goal.loop-j-preserved-then-c-x
-loop-j-preserved-then-c-x c = (omega arith, pick_skip _ _ _ c.loop-j.invariant.1 (omega arith) c.if-c-x.true)
-
-pub loop-j-preserved : goal.loop-j-preserved
-loop-j-preserved c =
-    let o = c.loop-j in (
-      omega arith,
-      pick_more _ _ _ o.invariant.1 (omega arith) c.if-c-x.false (omega (arith, o.invariant.1.few, o.invariant.1.long)),
-    )
-
-pub returns : goal.returns
-returns c = by-clause (pick_end _ _ _ c.loop-j.invariant.0 c.loop-j-test.false c.loop-j.invariant.1)
+pub loop-c-preserved : goal.loop-c-preserved
+loop-c-preserved c =
+    let o = c.loop-c.invariant in
+    elim c.if-c-x.branch [
+      | then-c-x w ↦ rw (w.sets-is, w.len-is) (pick_more _ _ _ o c.loop-c-test.true w.if-c-x.true (omega (arith, length-take-le c.args.n c.args.moved.now c.requires.0)))
+      | else-c-x w ↦ rw (w.sets-is, w.len-is) (pick_skip _ _ _ o c.loop-c-test.true w.if-c-x.false)
+    ]
