@@ -41,18 +41,6 @@ not_fits {sets} {starts} {states} B (inl h) f = omega (arith, h, f.states, sets-
 not_fits B (inr h) f = omega (arith, h, f.lines, sets-total B)
 
 module _ (l : List ℕ) {sets₀ starts₀ kinds₀ values₀ gotos₀ : List ℕ} {q states₀ lines₀ : ℕ} where
-  pub leaving_start : Bounds sets₀ starts₀ states₀ lines₀ → states₀ ≤ 255 → lines₀ ≤ 1023
-      → Leaving l sets₀ starts₀ kinds₀ values₀ gotos₀ q states₀ lines₀ sets₀ starts₀ kinds₀ values₀ gotos₀ states₀ lines₀ 1
-  leaving_start B s r = record {
-    bounds = B;
-    few_states = s;
-    few_lines = r;
-    sets_to = refl;
-    numbered = λ count a b. a;
-    next = λ X a b. absurd (omega (arith, a, b));
-    other = λ p X u b f c. c;
-  }
-
   module _ {sets starts kinds values gotos sets' starts' : List ℕ} {states lines x states' lines' v : ℕ}
       (L : Leaving l sets₀ starts₀ kinds₀ values₀ gotos₀ q states₀ lines₀ sets starts kinds values gotos states lines x) (lx : x < 128)
       (J : Joins sets starts sets' starts' states lines (picked x l) states' lines' v) where

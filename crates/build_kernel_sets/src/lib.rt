@@ -3,7 +3,6 @@
 #![tactic(auto)]
 
 ghost use Rattle.std.specs.Prelude.{◌≡◌, ◌+◌, ◌<◌, ◌≤◌, length, take};
-ghost use Rattle.fixpoint.specs.Flags.{Decides};
 ghost use Rattle.moves.specs.Moves.{Cells};
 ghost use Rattle.build_moves.specs.Moved.{picked};
 ghost use Rattle.build_kernel_sets.specs.Sets.{part, sets_in, Bounds, FindsSet, Joins};
@@ -20,23 +19,6 @@ struct Visit {
     lines: usize,
 }
 
-// Whether two kernel sets are the same.
-fn same_set(a: &[usize], b: &[usize]) -> bool
-    ensures { Decides (a.now ≡ b.now) result }
-{
-    if a.len() != b.len() {
-        return false;
-    }
-    let mut i = 0;
-    while i < a.len() {
-        if a[i] != b[i] {
-            return false;
-        }
-        i += 1;
-    }
-    true
-}
-
 // The number, from 0, of the set that is the same as the `len` numbers from `lines` on; `states` where there is none.
 fn find_set(sets: &[usize], starts: &[usize], states: usize, lines: usize, len: usize) -> usize
     requires bounds { Bounds sets.now starts.now states lines }
@@ -44,15 +26,10 @@ fn find_set(sets: &[usize], starts: &[usize], states: usize, lines: usize, len: 
     ensures upper_bound { result ≤ states }
     ensures finds_set { FindsSet (sets_in sets.now starts.now states) (part sets.now lines (lines + len)) result }
 {
-    let end = lines + len;
-    let mut p = 0;
-    while p < states {
-        let a = starts[p];
-        let b = starts[p + 1];
-        if same_set(&sets[a..b], &sets[lines..end]) {
+    for p in 0..states {
+        if sets[starts[p]..starts[p + 1]] == sets[lines..lines + len] {
             return p;
         }
-        p += 1;
     }
     states
 }
@@ -67,8 +44,8 @@ fn join_set(sets: &[usize], starts: &mut [usize], states: usize, lines: usize, l
     if p < states {
         return Visit {
             state: p + 1,
-            states: states,
-            lines: lines,
+            states,
+            lines,
         };
     }
     starts[states + 1] = lines + len;
@@ -97,8 +74,8 @@ fn visit_symbol(
     if len == 0 {
         return Visit {
             state: 0,
-            states: states,
-            lines: lines,
+            states,
+            lines,
         };
     }
     join_set(sets, starts, states, lines, len)
@@ -113,12 +90,12 @@ fn store_next(kinds: &mut [u8], values: &mut [u8], gotos: &mut [u8], q: usize, x
     if v == 0 {
         return;
     }
-    if Symbol::FIRST_NONTERMINAL <= x {
+    if x >= Symbol::FIRST_NONTERMINAL {
         gotos[q * CODES + (x - Symbol::FIRST_NONTERMINAL)] = v as u8;
-        return;
+    } else {
+        kinds[q * CODES + x] = 1;
+        values[q * CODES + x] = v as u8;
     }
-    kinds[q * CODES + x] = 1;
-    values[q * CODES + x] = v as u8;
 }
 
 // How many states and kernel lines there are.
@@ -149,26 +126,14 @@ pub fn leave_state(
 {
     let mut found = states;
     let mut end = lines;
-    let mut x = 1;
-    while x < SYMBOLS {
+    for x in 1..SYMBOLS {
         let visit = visit_symbol(moved, n, x, sets, starts, found, end);
         found = visit.states;
         end = visit.lines;
-        if 255 < found {
-            return Size {
-                states: found,
-                lines: end,
-            };
+        if found > 255 || end > 1023 {
+            break;
         }
-        if 1023 < end {
-            return Size {
-                states: found,
-                lines: end,
-            };
-        }
-        let state = visit.state;
-        store_next(kinds, values, gotos, q, x, state);
-        x += 1;
+        store_next(kinds, values, gotos, q, x, visit.state);
     }
     Size {
         states: found,
