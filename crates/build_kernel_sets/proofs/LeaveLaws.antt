@@ -3,7 +3,7 @@ use Prim.Native.Nat.{ℕ, zero, suc, ◌+◌, ◌-◌, ◌≤◌, ◌<◌}
 use native.Mathlib.Decide.{ℕ_discrete}
 use native.Mathlib.Numerals.{add-one}
 use native.Mathlib.Omega.{arith}
-use mathlib.Core.Path.{◌≡◌, refl, sym, ap, subst, ◌∙◌}
+use mathlib.Core.Path.{◌≡◌, sym, ap, subst, ◌∙◌}
 use mathlib.Core.Logic.{◌⊎◌, inl, inr}
 use mathlib.Core.List.{List, [], ◌∷◌}
 use lib.ListN.{length, take}
@@ -11,7 +11,6 @@ use Rattle.build_states.specs.States.{Kernel, range, leave}
 use Rattle.build_states.proofs.Distinct.{Extends, kept, longer}
 use Rattle.build_states.proofs.Discovery.{Fits, after_extends, leave_extends}
 use Rattle.build_states.proofs.DiscoverySteps.{leave_none, leave_more, leave_full}
-use Rattle.moves.specs.Moves.{Cells}
 use Rattle.build_moves.specs.Moved.{Numbered, picked}
 use Rattle.build_kernel_sets.specs.Sets.{sets_in, Bounds, Leads, Joins, moves_by, leave_by}
 use Rattle.build_kernel_sets.specs.Cells.{Cell, Stores}
@@ -34,6 +33,11 @@ range_more : (x : ℕ) → x < 128 → range x (128 - x) ≡ x ∷ range (x + 1)
 range_more x l =
     let e : 128 - x ≡ suc (128 - (x + 1)) = omega arith in
     ap (range x) e ∙ ap (λ (n : ℕ). x ∷ range n (128 - (x + 1))) (sym (add-one x))
+
+-- of two tests, one holds
+pub one_of : {A N B : Type 0} → A ⊎ (N × B) → A ⊎ B
+one_of (inl a) = inl a
+one_of (inr b) = inr b.1
 
 -- more than a book may have
 pub not_fits : {sets starts : List ℕ} {states lines : ℕ} → Bounds sets starts states lines → (255 < states) ⊎ (1023 < lines) → Fits (sets_in sets starts states) → ⊥
@@ -108,22 +112,3 @@ pub leaves_grow : {l sets₀ starts₀ kinds₀ values₀ gotos₀ sets starts k
     → Leaves l sets₀ starts₀ kinds₀ values₀ gotos₀ q states₀ lines₀ sets starts kinds values gotos states lines → states₀ ≤ states
 leaves_grow {l} {sets₀} {starts₀} {sets = sets} {starts} {states₀ = states₀} {states = states} L =
     omega (arith, longer (leave_extends (moves_by l) (range 1 127) [] (sets_in sets₀ starts₀ states₀)), ap length L.sets_are, sets-length sets₀ starts₀ states₀, sets-length sets starts states)
-
--- slices as long as they were
-pub record Lengths (sets₀ starts₀ kinds₀ values₀ gotos₀ sets starts kinds values gotos : List ℕ) : Type 0 where
-  pub sets_long : length sets ≡ length sets₀
-  pub starts_long : length starts ≡ length starts₀
-  pub kinds_long : length kinds ≡ length kinds₀
-  pub values_long : length values ≡ length values₀
-  pub gotos_long : length gotos ≡ length gotos₀
-
-pub lengths_same : (sets starts kinds values gotos : List ℕ) → Lengths sets starts kinds values gotos sets starts kinds values gotos
-lengths_same sets starts kinds values gotos = record { sets_long = refl; starts_long = refl; kinds_long = refl; values_long = refl; gotos_long = refl }
-
-pub cells_kept : {sets₀ starts₀ kinds₀ values₀ gotos₀ sets starts kinds values gotos : List ℕ} → Lengths sets₀ starts₀ kinds₀ values₀ gotos₀ sets starts kinds values gotos
-    → Cells kinds₀ values₀ gotos₀ → Cells kinds values gotos
-cells_kept L C = record {
-  kinds_room = omega (arith, C.kinds_room, L.kinds_long);
-  values_room = omega (arith, C.values_room, L.values_long);
-  gotos_room = omega (arith, C.gotos_room, L.gotos_long);
-}

@@ -1,6 +1,5 @@
 use native.Mathlib.Omega.{arith}
-use mathlib.Core.Logic.{inl, inr}
-use Rattle.build_kernel_sets.proofs.LeaveLaws.{joined_low, leaves_full, leaving_more, leaves_end}
+use Rattle.build_kernel_sets.proofs.LeaveLaws.{one_of, joined_low, leaves_full, leaving_more, leaves_end}
 use Rattle.build_kernel_sets.proofs.leave_state.Goals as goal
 
 pub store_next-requires-clause-q_bound : goal.store_next-requires-clause-q_bound
@@ -12,7 +11,7 @@ loop-x-preserved c =
     c.if-found-gt255.false c.if-end-gt1023.false c.store_next.ensures
 
 pub returns-then-found-gt255 : goal.returns-then-found-gt255
-returns-then-found-gt255 c = leaves_full _ c.loop-x.invariant c.loop-x-test.true c.visit_symbol-visit.ensures (elim c.then-found-gt255.either [ inl a ↦ inl a | inr b ↦ inr b.1 ])
+returns-then-found-gt255 c = leaves_full _ c.loop-x.invariant c.loop-x-test.true c.visit_symbol-visit.ensures (one_of c.then-found-gt255.either)
 
 pub returns-after-loop-x : goal.returns-after-loop-x
 returns-after-loop-x c = leaves_end _ c.loop-x-test.false c.loop-x.invariant
