@@ -19,21 +19,6 @@ pub record Seeding (rules : ℕ) (sets starts : List ℕ) (j : ℕ) : Type 0 whe
   pub number : (p : ℕ) → p < j → get_or sets p 0 ≡ (rules + 1 + p) * 16
   pub start : (p : ℕ) → p < j → get_or starts p 0 ≡ p
 
-pub seeding_none : (rules : ℕ) (sets starts : List ℕ) → Seeding rules sets starts 0
-seeding_none rules sets starts = record { number = λ p h. absurd (omega (arith, h)); start = λ p h. absurd (omega (arith, h)) }
-
-pub seeding_more : {rules : ℕ} {sets starts : List ℕ} {j : ℕ} → Seeding rules sets starts j → j < length sets → j < length starts
-    → Seeding rules (set sets j ((rules + 1 + j) * 16)) (set starts j j) (j + 1)
-seeding_more {rules} {sets} {starts} {j} S ls lt = record { number = λ p h. number p h (ℕ_discrete p j); start = λ p h. start p h (ℕ_discrete p j) }
-  where
-    number : (p : ℕ) → p < j + 1 → Dec (p ≡ j) → get_or (set sets j ((rules + 1 + j) * 16)) p 0 ≡ (rules + 1 + p) * 16
-    number p h (yes e) = subst (λ (n : ℕ). get_or (set sets j ((rules + 1 + j) * 16)) n 0 ≡ (rules + 1 + n) * 16) (sym e) (get_or-set_same sets j ((rules + 1 + j) * 16) 0 ls)
-    number p h (no f) = get_or-set_other sets j p ((rules + 1 + j) * 16) 0 f ∙ S.number p (omega (arith, h, f))
-
-    start : (p : ℕ) → p < j + 1 → Dec (p ≡ j) → get_or (set starts j j) p 0 ≡ p
-    start p h (yes e) = subst (λ (n : ℕ). get_or (set starts j j) n 0 ≡ n) (sym e) (get_or-set_same starts j j 0 lt)
-    start p h (no f) = get_or-set_other starts j p j 0 f ∙ S.start p (omega (arith, h, f))
-
 -- and the end of the last
 pub seeded : {rules strings : ℕ} {sets starts : List ℕ} {j : ℕ} → j ≤ strings → strings ≤ j → Seeding rules sets starts j → strings ≤ length sets → strings < length starts
     → Seeded rules strings sets (set starts strings strings)

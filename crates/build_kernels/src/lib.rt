@@ -20,11 +20,9 @@ fn seed_entries(rules: usize, strings: usize, sets: &mut [usize], starts: &mut [
     requires { (rules ≤ 127) × (strings ≤ 127) × (5119 ≤ length sets.old) × (257 ≤ length starts.old) }
     ensures { Seeded rules strings sets.new starts.new }
 {
-    let mut j = 0;
-    while j < strings {
+    for j in 0..strings {
         sets[j] = (rules + 1 + j) * 16;
         starts[j] = j;
-        j += 1;
     }
     starts[strings] = strings;
 }
@@ -49,45 +47,33 @@ fn explore_states(
 {
     let count = rules + strings;
     let mut moved = [0usize; 4096];
-    let mut states = strings;
-    let mut lines = strings;
+    let mut size = Size {
+        states: strings,
+        lines: strings,
+    };
     let mut q = 0;
-    while q < states {
-        let a = starts[q];
-        let b = starts[q + 1];
-        let n = build_moves::list_moves(items, count, rules, &sets[a..b], &mut moved);
-        let size = build_kernel_sets::leave_state(
+    // Stays a counted loop: leaving a state moves its end.
+    while q < size.states {
+        let kernel = &sets[starts[q]..starts[q + 1]];
+        let n = build_moves::list_moves(items, count, rules, kernel, &mut moved);
+        size = build_kernel_sets::leave_state(
             q + 1,
             &moved,
             n,
             sets,
             starts,
-            states,
-            lines,
+            size.states,
+            size.lines,
             kinds,
             values,
             gotos,
         );
-        states = size.states;
-        lines = size.lines;
-        if 255 < states {
-            return Size {
-                states: states,
-                lines: lines,
-            };
-        }
-        if 1023 < lines {
-            return Size {
-                states: states,
-                lines: lines,
-            };
+        if size.states > 255 || size.lines > 1023 {
+            break;
         }
         q += 1;
     }
-    Size {
-        states: states,
-        lines: lines,
-    }
+    size
 }
 
 // Writes kernel line l.
@@ -106,10 +92,8 @@ fn write_set(sets: &[usize], a: usize, b: usize, q: usize, kernels: &mut [u8])
     requires by_index { (l : ℕ) → l < b → get_or sets.now l 0 < 4096 }
     ensures { WritesSet sets.now kernels.old kernels.new a b q }
 {
-    let mut l = a;
-    while l < b {
+    for l in a..b {
         write_line(kernels, l, q, sets[l]);
-        l += 1;
     }
 }
 
@@ -120,12 +104,8 @@ fn write_lines(sets: &[usize], starts: &[usize], states: usize, lines: usize, ke
     requires by_index { (l : ℕ) → l < lines → get_or sets.now l 0 < 4096 }
     ensures { LinesOf sets.now starts.now states kernels.new }
 {
-    let mut p = 0;
-    while p < states {
-        let a = starts[p];
-        let b = starts[p + 1];
-        write_set(sets, a, b, p + 1, kernels);
-        p += 1;
+    for p in 0..states {
+        write_set(sets, starts[p], starts[p + 1], p + 1, kernels);
     }
 }
 
@@ -156,15 +136,10 @@ pub fn find_states(
 {
     let mut sets = [0usize; 5120];
     seed_entries(rules, strings, &mut sets, starts);
-    let size = explore_states(
+    let Size { states, lines } = explore_states(
         items, rules, strings, &mut sets, starts, kinds, values, gotos,
     );
-    let states = size.states;
-    let lines = size.lines;
-    if 255 < states {
-        return Discovery::TooMany;
-    }
-    if 1023 < lines {
+    if states > 255 || lines > 1023 {
         return Discovery::TooMany;
     }
     write_lines(&sets, starts, states, lines, kernels);
