@@ -1,6 +1,6 @@
 -- Passes over the states, state by state and flag by flag.
 use Prim.Native.Nat.{ℕ, ◌+◌, ◌/◌, ◌≤◌, ◌<◌}
-use mathlib.Core.Path.{◌≡◌, refl, sym, subst, subst₂, ◌∙◌}
+use mathlib.Core.Path.{◌≡◌, sym, subst, subst₂, ◌∙◌}
 use mathlib.Core.Logic.{◌⊎◌, inl, inr}
 use mathlib.Core.List.{List}
 use native.Mathlib.Omega.{arith}
@@ -8,16 +8,13 @@ use borrow.Author.Count.{below_more}
 use lib.ListN.{length, set, length-set}
 use Rattle.fixpoint.specs.Flags.{On, Off}
 use Rattle.fixpoint.proofs.CountLaws.{zeros-set, on_set, only_set, keep_set}
-use Rattle.fixpoint.proofs.PassLaws.{no_gap, from_more}
+use Rattle.fixpoint.proofs.PassLaws.{from_more}
 use Rattle.memory.specs.Memory.{state_at}
 use Rattle.inclusions.specs.Asks.{StateAsks}
 use Rattle.build_lookaheads.specs.Passes.{StateAdds, SomeAsks, StateMet, StatesAdd, Merges}
 
 -- ---- state by state
 module _ {items kernels lookaheads kinds values gotos entries uses nul fst : List ℕ} {rules lines codes : ℕ} {changed : List ℕ} {all : ℕ} where
-  pub states_start : (fs : List ℕ) → StatesAdd items kernels lookaheads kinds values gotos entries uses nul fst rules lines codes changed all 1 fs fs
-  states_start fs = record { long = refl; only = λ y on. inl on; kept = λ y on. on; met = λ p a b. absurd (no_gap a b) }
-
   -- a state that is not flagged
   pub states_skip : {fs₀ fs : List ℕ} {p n : ℕ} → StatesAdd items kernels lookaheads kinds values gotos entries uses nul fst rules lines codes changed all p fs₀ fs → Off changed p → n ≡ p + 1
       → StatesAdd items kernels lookaheads kinds values gotos entries uses nul fst rules lines codes changed all n fs₀ fs
@@ -47,10 +44,6 @@ module _ {items kernels lookaheads kinds values gotos entries uses nul fst : Lis
           → StateMet items kernels lookaheads kinds values gotos entries uses nul fst rules lines codes fs' q
       still q m = record { present = m.present; follow = m.follow; closure = m.closure; every = λ y x. a.adds.kept y (m.every y x) }
 
-  pub states_end : {fs₀ fs : List ℕ} {p : ℕ} → p ≡ all + 1 → StatesAdd items kernels lookaheads kinds values gotos entries uses nul fst rules lines codes changed all p fs₀ fs
-      → StatesAdd items kernels lookaheads kinds values gotos entries uses nul fst rules lines codes changed all (all + 1) fs₀ fs
-  states_end {fs₀} {fs} e h = subst (λ (k : ℕ). StatesAdd items kernels lookaheads kinds values gotos entries uses nul fst rules lines codes changed all k fs₀ fs) e h
-
 -- ---- flag by flag: those below y are done
 pub record Merging (kernels from fs₀ fs changed₀ changed : List ℕ) (added y : ℕ) : Type 0 where
   pub merges : Merges kernels from y fs₀ fs changed added
@@ -58,21 +51,6 @@ pub record Merging (kernels from fs₀ fs changed₀ changed : List ℕ) (added 
   pub few : added ≤ y
 
 module _ {kernels from : List ℕ} where
-  pub merging_start : (fs changed : List ℕ) → Merging kernels from fs fs changed changed 0 0
-  merging_start fs changed = record {
-    merges = record {
-      long = refl;
-      only = λ x on. inl on;
-      kept = λ x on. on;
-      every = λ x l. absurd (omega (arith, l));
-      noted = λ x on. inl on;
-      count = omega arith;
-      still = λ e. refl;
-    };
-    noted_long = refl;
-    few = omega arith;
-  }
-
   -- nothing to add
   pub merging_skip : {fs₀ fs changed₀ changed : List ℕ} {added y : ℕ} → Merging kernels from fs₀ fs changed₀ changed added y → (On from y → On fs y)
       → Merging kernels from fs₀ fs changed₀ changed added (y + 1)
@@ -108,6 +86,3 @@ module _ {kernels from : List ℕ} where
       later : (x : ℕ) → On fs₀ x ⊎ On changed (state_at kernels (x / 64)) → On fs₀ x ⊎ On (set changed s 1) (state_at kernels (x / 64))
       later x (inl o) = inl o
       later x (inr o) = inr (keep_set changed s ls (state_at kernels (x / 64)) o)
-
-  pub merging_end : {fs₀ fs changed₀ changed : List ℕ} {added y size : ℕ} → Merging kernels from fs₀ fs changed₀ changed added y → y ≡ size → Merges kernels from size fs₀ fs changed added
-  merging_end {fs₀} {fs} {changed = changed} {added = added} h e = subst (λ (k : ℕ). Merges kernels from k fs₀ fs changed added) e h.merges

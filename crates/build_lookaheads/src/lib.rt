@@ -90,17 +90,13 @@ fn ask_states(
     requires states_bound { (totals.states ≤ 255) × (length changed.now ≡ 256) × (totals.lines * 64 ≤ length lookaheads.now) × (totals.lines * 64 ≤ length asked.old) }
     ensures { StatesAdd items.now kernels.now lookaheads.now kinds.now values.now gotos.now entries.now uses.now nullable.now first.now totals.rules totals.lines totals.codes changed.now totals.states (totals.states + 1) asked.old asked.new }
 {
-    let mut p = 1;
-    while p <= totals.states {
-        if changed[p] == 0 {
-            p += 1;
-            continue;
+    for p in 1..totals.states + 1 {
+        if changed[p] != 0 {
+            ask_state(
+                items, entries, kernels, links, lookaheads, kinds, values, gotos, uses, nullable,
+                first, starts, through, totals, p, asked,
+            );
         }
-        ask_state(
-            items, entries, kernels, links, lookaheads, kinds, values, gotos, uses, nullable,
-            first, starts, through, totals, p, asked,
-        );
-        p += 1;
     }
 }
 
@@ -119,21 +115,13 @@ fn add_flags(
     ensures changed_len { length changed.new ≡ 256 }
 {
     let mut added: usize = 0;
-    let mut y = 0;
-    while y < lines * CODES {
-        if from[y] == 0 {
-            y += 1;
-            continue;
+    for y in 0..lines * CODES {
+        if from[y] != 0 && flags[y] == 0 {
+            let s = kernel_lines::state_of(kernels, lines, count, y / CODES);
+            flags[y] = 1;
+            changed[s] = 1;
+            added += 1;
         }
-        if flags[y] != 0 {
-            y += 1;
-            continue;
-        }
-        let s = kernel_lines::state_of(kernels, lines, count, y / CODES);
-        flags[y] = 1;
-        changed[s] = 1;
-        added += 1;
-        y += 1;
     }
     added
 }
