@@ -1,34 +1,19 @@
--- How what is written adds up: byte by byte, one text after another, a text for each of some numbers.
-use Prim.Native.Nat.{ℕ, zero, suc, ◌+◌, ◌-◌, ◌≤◌, ◌<◌}
+-- How what is written adds up: one text after another, a text for each of some numbers.
+use Prim.Native.Nat.{ℕ, zero, suc, ◌+◌, ◌-◌, ◌≤◌}
 use mathlib.Core.Path.{◌≡◌, sym, ap, ap₂, subst, ◌∙◌}
-use mathlib.Core.List.{List, [], ◌∷◌, ◌++◌, map, append_assoc, append-nil}
+use mathlib.Core.List.{List, [], ◌++◌, map, append_assoc, append-nil}
 use native.Mathlib.Decide.{dec_le}
 use native.Mathlib.Omega.{arith}
-use lib.ListN.{length, take, set, length-append}
-use lib.Seq.{sets, set_out, take_all, take-nil, take-append-le, take-append-add, length-sets}
+use lib.ListN.{length, take, length-append}
+use lib.Seq.{sets, take_all, take-nil, take-append-le, take-append-add}
 use Rattle.language.specs.Grammar.{concat}
 use Rattle.items.proofs.StoreLaws.{sets_join}
 use Rattle.build_states.specs.States.{range}
 use Rattle.build_writer.specs.Sink.{Wrote}
 
--- ---- one byte
-
--- a byte below the limit is set, whether there is room for it or not
-set_byte : (l : List ℕ) (i v : ℕ) → i < 65537 → set l i v ≡ sets l i (take (65537 - i) (v ∷ []))
-set_byte l i v h = ap (sets l i) (sym (take_all (65537 - i) (v ∷ []) (omega arith)))
-
-pub put_in : (l : List ℕ) (i v : ℕ) → i < 65537 → Wrote l i (v ∷ []) (set l i v) (i + 1)
-put_in l i v h = record { bytes = set_byte l i v h; next = omega arith }
-
-pub put_out : (l : List ℕ) (i v : ℕ) → i < 65537 → length l ≤ i → Wrote l i (v ∷ []) l (i + 1)
-put_out l i v h o = record { bytes = sym (set_out l i v o) ∙ set_byte l i v h; next = omega arith }
-
 -- no bytes are left below the limit
 none_left : (l : List ℕ) (i n : ℕ) (a : List ℕ) → n ≡ 0 → l ≡ sets l i (take n a)
 none_left l i n a e = ap (λ (k : ℕ). sets l i (take k a)) (sym e)
-
-pub put_full : (l : List ℕ) (i v : ℕ) → 65537 ≤ i → Wrote l i (v ∷ []) l 65537
-put_full l i v h = record { bytes = none_left l i (65537 - i) (v ∷ []) (omega arith); next = omega arith }
 
 -- ---- one text after another
 
@@ -91,6 +76,3 @@ pub through_all : {f : ℕ → List ℕ} {a k : ℕ} {l m b : List ℕ} {i j : �
 through_all {f} {a} {k} t n e s =
     let z : k - a ≡ n = omega arith in
     in_words (ap (λ (x : ℕ). texts f (range a x)) z ∙ s) t.wrote
-
-pub wrote_length : {l a m : List ℕ} {i j : ℕ} → Wrote l i a m j → length m ≡ length l
-wrote_length {l} {a} {m} {i} {j} w = ap length w.bytes ∙ length-sets l i (take (65537 - i) a)

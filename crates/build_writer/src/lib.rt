@@ -15,23 +15,16 @@ ghost use Rattle.build_writer.specs.Sink.{Wrote, in_room};
 use symbol::{CODES, Symbol};
 use table::Counts;
 
-fn wide(x: u8) -> usize
-    ensures { (result ≡ x) × (result < 256) }
-{
-    x as usize
-}
-
 // Stores a byte, where there is room for it.
 fn put(out: &mut [u8], at: usize, byte: u8) -> usize
     ensures { Wrote out.old at (byte ∷ []) out.new result }
 {
-    if 65537 <= at {
+    if at >= 65537 {
         return 65537;
     }
-    if out.len() <= at {
-        return at + 1;
+    if at < out.len() {
+        out[at] = byte;
     }
-    out[at] = byte;
     at + 1
 }
 
@@ -63,12 +56,9 @@ fn put_symbols(items: &[u8], count: usize, i: usize, out: &mut [u8], at: usize) 
     requires i_le_count { (i ≤ count) × (at ≤ 65537) }
     ensures { Wrote out.old at (fields (symbols_in items.now i)) out.new result }
 {
-    let n = items::length_of(items, count, i);
     let mut to = at;
-    let mut k = 0;
-    while k < n {
+    for k in 0..items::length_of(items, count, i) {
         to = put_field(out, to, items::symbol_of(items, count, i, k));
-        k += 1;
     }
     to
 }
@@ -99,10 +89,9 @@ fn put_entries(
     ensures { Wrote out.old at (entry_text (map (entry_in items.now entries.now rules) (range 1 strings))) out.new result }
 {
     let mut to = at;
-    let mut k = 1;
-    while k <= strings {
-        to = put_entry(items, rules + strings, rules + k, wide(entries[k]), out, to);
-        k += 1;
+    for k in 1..strings + 1 {
+        let state = entries[k] as usize;
+        to = put_entry(items, rules + strings, rules + k, state, out, to);
     }
     to
 }
@@ -124,10 +113,8 @@ fn put_codes(lookaheads: &[u8], l: usize, codes: usize, out: &mut [u8], at: usiz
     ensures { Wrote out.old at (fields (codes_in lookaheads.now l codes)) out.new result }
 {
     let mut to = at;
-    let mut d = 0;
-    while d < codes {
+    for d in 0..codes {
         to = put_code(lookaheads, l, d, out, to);
-        d += 1;
     }
     to
 }
@@ -145,9 +132,9 @@ fn put_kernel(
     ensures { Wrote out.old at (line 75 (state_at kernels.now l ∷ item_at kernels.now l ∷ dot_at kernels.now l ∷ codes_in lookaheads.now l codes)) out.new result }
 {
     let first = put(out, at, b'K');
-    let second = put_field(out, first, wide(kernels[l * 4]));
-    let third = put_field(out, second, wide(kernels[l * 4 + 1]));
-    let fourth = put_field(out, third, wide(kernels[l * 4 + 2]));
+    let second = put_field(out, first, kernels[l * 4] as usize);
+    let third = put_field(out, second, kernels[l * 4 + 1] as usize);
+    let fourth = put_field(out, third, kernels[l * 4 + 2] as usize);
     let end = put_codes(lookaheads, l, codes, out, fourth);
     put(out, end, b'\n')
 }
@@ -165,10 +152,8 @@ fn put_kernels(
     ensures { Wrote out.old at (kernel_text (map (kernel_in kernels.now lookaheads.now codes) (range 0 lines))) out.new result }
 {
     let mut to = at;
-    let mut l = 0;
-    while l < lines {
+    for l in 0..lines {
         to = put_kernel(kernels, lookaheads, codes, l, out, to);
-        l += 1;
     }
     to
 }
@@ -190,16 +175,12 @@ fn put_cell(kind: u8, value: usize, q: usize, x: usize, out: &mut [u8], at: usiz
     requires { (value < 256) × (q < 256) × (x < 256) × (at ≤ 65537) }
     ensures { Wrote out.old at (action_text (line_if q x (cell_in kind value) [])) out.new result }
 {
-    if kind == 1 {
-        return put_line(out, at, b'S', q, x, value);
+    match kind {
+        1 => put_line(out, at, b'S', q, x, value),
+        2 => put_line(out, at, b'A', q, x, value),
+        3 => put_line(out, at, b'P', q, x, value + 1),
+        _ => at,
     }
-    if kind == 2 {
-        return put_line(out, at, b'A', q, x, value);
-    }
-    if kind == 3 {
-        return put_line(out, at, b'P', q, x, value + 1);
-    }
-    at
 }
 
 // The line of a move on nonterminal x, where there is one.
@@ -226,24 +207,14 @@ fn put_action(
     requires { (16640 ≤ length kinds.now) × (16640 ≤ length values.now) × (16640 ≤ length gotos.now) × (q < 256) × (at ≤ 65537) }
     ensures { Wrote out.old at (action_text (line_if q symbol (action_in kinds.now values.now gotos.now q symbol) [])) out.new result }
 {
-    let x = wide(symbol);
+    let x = symbol as usize;
     if x < Symbol::FIRST_NONTERMINAL {
-        return put_cell(
-            kinds[q * CODES + x],
-            wide(values[q * CODES + x]),
-            q,
-            x,
-            out,
-            at,
-        );
+        let cell = q * CODES + x;
+        put_cell(kinds[cell], values[cell] as usize, q, x, out, at)
+    } else {
+        let cell = q * CODES + (x - Symbol::FIRST_NONTERMINAL);
+        put_goto(gotos[cell] as usize, q, x, out, at)
     }
-    put_goto(
-        wide(gotos[q * CODES + (x - Symbol::FIRST_NONTERMINAL)]),
-        q,
-        x,
-        out,
-        at,
-    )
 }
 
 // The action lines of state q.
@@ -259,10 +230,8 @@ fn put_state(
     ensures { Wrote out.old at (action_text (lines_in kinds.now values.now gotos.now q)) out.new result }
 {
     let mut to = at;
-    let mut x: u8 = 0;
-    while x < 128 {
+    for x in 0..128 {
         to = put_action(kinds, values, gotos, q, x, out, to);
-        x += 1;
     }
     to
 }
@@ -280,10 +249,8 @@ fn put_actions(
     ensures { Wrote out.old at (action_text (actions_of (action_in kinds.now values.now gotos.now) (range 1 states))) out.new result }
 {
     let mut to = at;
-    let mut q = 1;
-    while q <= states {
+    for q in 1..states + 1 {
         to = put_state(kinds, values, gotos, q, out, to);
-        q += 1;
     }
     to
 }
@@ -316,10 +283,10 @@ pub fn write_table(
     ensures value { result ≡ min (length (memory_text items.now entries.now kernels.now lookaheads.now kinds.now values.now gotos.now counts.grammar.rules counts.entries counts.kernels counts.states (counts.grammar.terminals + 1))) 65537 }
     ensures out_after { out.new ≡ in_room (length out.old) (memory_text items.now entries.now kernels.now lookaheads.now kinds.now values.now gotos.now counts.grammar.rules counts.entries counts.kernels counts.states (counts.grammar.terminals + 1)) }
 {
-    let heading = counts.grammar;
-    let codes = heading.terminals + 1;
+    let rules = counts.grammar.rules;
+    let codes = counts.grammar.terminals + 1;
     let first = put_header(out, counts.states, counts.entries);
-    let second = put_entries(items, entries, heading.rules, counts.entries, out, first);
+    let second = put_entries(items, entries, rules, counts.entries, out, first);
     let third = put_kernels(kernels, lookaheads, counts.kernels, codes, out, second);
     put_actions(kinds, values, gotos, counts.states, out, third)
 }

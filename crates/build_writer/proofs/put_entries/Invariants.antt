@@ -1,5 +1,5 @@
 -- The entries passed are written.
-use Prim.Native.Nat.{◌+◌, ◌≤◌, ◌-◌}
+use Prim.Native.Nat.{◌+◌}
 use mathlib.Core.List.{◌∷◌}
 use lib.ListN.{get_or}
 use Rattle.build_book.specs.Text.{line}
@@ -9,7 +9,4 @@ use Rattle.build_writer.proofs.put_entries.Given as goal
 
 abbrev pub invariant-loop-k : goal.invariant-loop-k
 invariant-loop-k l =
-    (l.k ≤ l.strings + 1) × Through (λ e. line 69 (get_or l.entries e 0 ∷ symbols_in l.items (l.rules + e))) 1 l.k l.initial.out l.initial.to l.out l.to
-
-abbrev pub decreases-loop-k : goal.decreases-loop-k
-decreases-loop-k l = l.strings + 1 - l.k
+    Through (λ e. line 69 (get_or l.entries e 0 ∷ symbols_in l.items (l.rules + e))) 1 l.k l.initial.out l.initial.to l.out l.to

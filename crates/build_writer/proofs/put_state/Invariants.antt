@@ -1,5 +1,4 @@
 -- The symbols passed are written.
-use Prim.Native.Nat.{◌≤◌, ◌-◌}
 use mathlib.Core.List.{[]}
 use Rattle.build_book.specs.Text.{action_text}
 use Rattle.build_book.specs.Built.{line_if}
@@ -9,7 +8,4 @@ use Rattle.build_writer.proofs.put_state.Given as goal
 
 abbrev pub invariant-loop-x : goal.invariant-loop-x
 invariant-loop-x l =
-    (l.x ≤ 128) × Through (λ X. action_text (line_if l.q X (action_in l.kinds l.values l.gotos l.q X) [])) 0 l.x l.initial.out l.initial.to l.out l.to
-
-abbrev pub decreases-loop-x : goal.decreases-loop-x
-decreases-loop-x l = 128 - l.x
+    Through (λ X. action_text (line_if l.q X (action_in l.kinds l.values l.gotos l.q X) [])) 0 l.x l.initial.out l.initial.to l.out l.to
