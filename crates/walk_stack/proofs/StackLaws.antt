@@ -1,5 +1,5 @@
 -- A slice's bytes as a stack, top first, under pushes and pops.
-use mathlib.Core.Path.{◌≡◌, refl, sym, ap, ◌∙◌}
+use mathlib.Core.Path.{◌≡◌, refl, ap, ◌∙◌}
 use mathlib.Core.List.{List, ◌∷◌}
 use Prim.Native.Nat.{ℕ, zero, suc, ◌+◌, ◌-◌, ◌≤◌, ◌<◌}
 use native.Mathlib.Numerals.{add-one}
@@ -61,24 +61,6 @@ module _ (rules s : List ℕ) (r h u v w : ℕ) (a : u ≡ figure_of rules r 4) 
       let l : length (set (set s h u) (h + 1) v) ≡ length s = simp length-set in
       ap (tops (set (set (set s h u) (h + 1) v) (h + 2) w)) n
       ∙ push_group rules (set (set s h u) (h + 1) v) (tops s h) r (h + 2) 2 w c (omega arith) (push_two b (omega arith))
-
-pub push_end : (rules s S : List ℕ) (r g h j : ℕ) → j ≡ g → tops s (h + j) ≡ groups_over rules r j S → tops s (h + g) ≡ groups_over rules r g S
-push_end rules s S r g h j e so = ap (λ (k : ℕ). tops s (h + k)) (sym e) ∙ so ∙ ap (λ (k : ℕ). groups_over rules r k S) e
-
--- the state of the group pushed last is on top
-pub group_top : (rules s S : List ℕ) (r n j v : ℕ) → v ≡ figure_of rules r (4 + j) → tops s n ≡ groups_over rules r (suc j) S → v ≡ next (tops s n) 0
-group_top rules s S r n j v e so = e ∙ sym (ap (λ (l : List ℕ). next l 0) so)
-
-pub push_top : (s : List ℕ) (h v : ℕ) → h < length s → v ≡ next (tops (set s h v) (h + 1)) 0
-push_top s h v lt = sym (ap (λ (l : List ℕ). next l 0) (tops_push s h v lt))
-
--- the groups pushed above the goto
-pub push_rule :
-    (gotos rules s s' : List ℕ) (r g h n v top left : ℕ) → h < length s → left ≡ figure_of rules r 1 → top ≡ next (tops s h) 0 → v ≡ goto_of gotos top left
-    → tops s' n ≡ groups_over rules r g (tops (set s h v) (h + 1)) → tops s' n ≡ rule_over gotos rules r g (tops s h)
-unfolding rule_over
-push_rule gotos rules s s' r g h n v top left lt el et ev so =
-    so ∙ ap (groups_over rules r g) (tops_push s h v lt ∙ ap (λ (q : ℕ). q ∷ tops s h) (ev ∙ rw (el, et)))
 
 groups_length : (rules : List ℕ) (r j : ℕ) (S : List ℕ) → length (groups_over rules r j S) ≡ j + length S
 groups_length rules r zero S = omega arith

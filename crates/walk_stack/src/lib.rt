@@ -5,7 +5,7 @@
 ghost use Rattle.std.specs.Prelude.{◌≡◌, ◌+◌, ◌-◌, ◌<◌, ◌≤◌, length};
 ghost use Rattle.walk_stack.specs.Stack.{tops, groups_over, rule_over, PushesFrom, IsTop};
 
-use walk_tables::{figure, goto_at};
+use walk_tables::Machine;
 
 // The top of a stack: its height and the state there. The state is kept beside the slice, so that the next step need not wait until
 // it is read back.
@@ -17,38 +17,35 @@ pub struct Top {
 
 // Pushes the entry states of the groups from number `from` on, in the order of the row, above those of the groups before.
 fn push_more(
-    rules: &[u8],
+    machine: &Machine,
     rule: u8,
     from: usize,
     groups: usize,
     stack: &mut [u8],
     height: usize,
-) -> usize
-    requires { (length rules.now ≡ 8448) × (from ≤ groups) × (groups < 256) × (height + groups ≤ length stack.old) }
-    ensures value { result ≡ height + groups }
-    ensures pushes_from { PushesFrom rules.now rule from groups height stack.old stack.new }
+)
+    requires { (from ≤ groups) × (groups < 256) × (height + groups ≤ length stack.old) }
+    ensures { PushesFrom machine.now.rules rule from groups height stack.old stack.new }
 {
-    let mut j = from;
-    while j < groups {
-        stack[height + j] = figure(rules, rule, 4 + j);
-        j += 1;
+    for j in from..groups {
+        stack[height + j] = machine.figure(rule, 4 + j);
     }
-    height + j
 }
 
 // Pushes the entry states of a rule's groups in the order of the row. Three groups stand here by themselves: for so few the
 // loop, a copy of bytes, is the slower, and the state on top is at hand.
-fn push_groups(rules: &[u8], rule: u8, groups: usize, stack: &mut [u8], base: Top) -> Top
-    requires { (length rules.now ≡ 8448) × (groups < 256) × (base.height + groups ≤ length stack.old) × IsTop stack.old base }
+#[tactic(auto, using(crate::proofs::StackLaws::tops_push))]
+fn push_groups(machine: &Machine, rule: u8, groups: usize, stack: &mut [u8], base: Top) -> Top
+    requires { (groups < 256) × (base.height + groups ≤ length stack.old) × IsTop stack.old base }
     ensures height_value { result.height ≡ base.height + groups }
-    ensures height_after { tops stack.new result.height ≡ groups_over rules.now rule groups (tops stack.old base.height) }
+    ensures height_after { tops stack.new result.height ≡ groups_over machine.now.rules rule groups (tops stack.old base.height) }
     ensures top { IsTop stack.new result }
 {
     if groups == 0 {
         return base;
     }
     let height = base.height;
-    let first = figure(rules, rule, 4);
+    let first = machine.figure(rule, 4);
     stack[height] = first;
     if groups == 1 {
         return Top {
@@ -56,7 +53,7 @@ fn push_groups(rules: &[u8], rule: u8, groups: usize, stack: &mut [u8], base: To
             state: first,
         };
     }
-    let second = figure(rules, rule, 5);
+    let second = machine.figure(rule, 5);
     stack[height + 1] = second;
     if groups == 2 {
         return Top {
@@ -64,7 +61,7 @@ fn push_groups(rules: &[u8], rule: u8, groups: usize, stack: &mut [u8], base: To
             state: second,
         };
     }
-    let third = figure(rules, rule, 6);
+    let third = machine.figure(rule, 6);
     stack[height + 2] = third;
     if groups == 3 {
         return Top {
@@ -72,7 +69,8 @@ fn push_groups(rules: &[u8], rule: u8, groups: usize, stack: &mut [u8], base: To
             state: third,
         };
     }
-    let raised = push_more(rules, rule, 3, groups, stack, height);
+    push_more(machine, rule, 3, groups, stack, height);
+    let raised = height + groups;
     Top {
         height: raised,
         state: stack[raised - 1],
@@ -80,34 +78,21 @@ fn push_groups(rules: &[u8], rule: u8, groups: usize, stack: &mut [u8], base: To
 }
 
 // Pushes the goto of the state on top for the rule's left side, then its groups' entries.
-pub fn push_rule(
-    gotos: &[u8],
-    rules: &[u8],
-    rule: u8,
-    groups: usize,
-    stack: &mut [u8],
-    base: Top,
-) -> Top
-    requires gotos_len { (length gotos.now ≡ 16640) × (length rules.now ≡ 8448) × (groups < 256) }
-    requires groups_in_bounds { (base.height + groups < length stack.old) × IsTop stack.old base }
+#[tactic(auto, using(crate::proofs::StackLaws::tops_push), unfolding(crate::specs::Stack::rule_over))]
+pub fn push_rule(machine: &Machine, rule: u8, groups: usize, stack: &mut [u8], base: Top) -> Top
+    requires { (groups < 256) × (base.height + groups < length stack.old) × IsTop stack.old base }
     ensures height_value { result.height ≡ base.height + 1 + groups }
-    ensures height_after { tops stack.new result.height ≡ rule_over gotos.now rules.now rule groups (tops stack.old base.height) }
+    ensures height_after { tops stack.new result.height ≡ rule_over machine.now.gotos machine.now.rules rule groups (tops stack.old base.height) }
     ensures top { IsTop stack.new result }
 {
-    let left = figure(rules, rule, 1);
-    let next = goto_at(gotos, base.state, left);
-    let height = base.height;
-    stack[height] = next;
-    push_groups(
-        rules,
-        rule,
-        groups,
-        stack,
-        Top {
-            height: height + 1,
-            state: next,
-        },
-    )
+    let left = machine.figure(rule, 1);
+    let state = machine.goto_at(base.state, left);
+    stack[base.height] = state;
+    let top = Top {
+        height: base.height + 1,
+        state,
+    };
+    push_groups(machine, rule, groups, stack, top)
 }
 
 // The top after so many states are popped. None, one and two are told apart, so that the height after them does not wait for the

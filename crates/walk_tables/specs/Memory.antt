@@ -1,18 +1,11 @@
--- Tables in memory, as flat byte slices, and the grammar and the machine that they stand for, whatever they hold.
-use Rattle.std.specs.Prelude.{ℕ, zero, suc, ◌+◌, ◌*◌, ◌-◌, ◌%◌, ◌≡◌, cond, List, [], ◌∷◌, eqb, length, get_or, replicate}
+-- A machine in memory, as flat arrays of bytes, and the grammar and the automaton that it stands for, whatever it holds.
+use Rattle.std.specs.Prelude.{ℕ, zero, suc, ◌+◌, ◌*◌, ◌-◌, ◌%◌, cond, List, [], ◌∷◌, eqb, get_or, replicate}
 use Rattle.language.specs.Grammar.{Rule, Grammar}
 use Rattle.leftcorner.specs.Machine.{Automaton}
 use Rattle.leftcorner.specs.Machine as machine
 use Rattle.walk_tables.specs.declared.Cell.{Cell}
 use Rattle.walk_tables.specs.declared.Cell.TheVariants.{Shift, Announce, Pop, Empty}
-
--- states and rules are bytes: cells and gotos stand at state * 64 + code, a rule's row at rule * 32, and every index that
--- bytes can make is in range
-pub record Shaped (kinds values gotos rules : List ℕ) : Type 0 where
-  pub kinds_long : length kinds ≡ 16640
-  pub values_long : length values ≡ 16640
-  pub gotos_long : length gotos ≡ 16640
-  pub rules_long : length rules ≡ 8448
+use Rattle.walk_tables.specs.declared.Machine.{Machine}
 
 -- kinds: 1 shift, 2 announce, 3 pop, all others empty
 abbrev pub cell_of : ℕ → ℕ → Cell
@@ -49,7 +42,7 @@ rules_from rules (suc n) i = memory_rule rules i ∷ rules_from rules n (suc i)
 unfoldable pub memory_grammar : List ℕ → Grammar
 memory_grammar rules = record { terminals = 63; nonterminals = 64; goal = 64; rules = rules_from rules 255 1 }
 
--- ---- the machine: entry 1 enters `start`, and entry 2 + s enters state s
+-- ---- the automaton: entry 1 enters `start`, and entry 2 + s enters state s
 
 abbrev pub entry_state : ℕ → ℕ → ℕ
 entry_state start zero = 0
@@ -68,9 +61,9 @@ meaning rules (Announce r) = machine.announce r (group_entries rules r (figure_o
 meaning rules (Pop n) = machine.pop (suc n)
 meaning rules Empty = machine.empty
 
-unfoldable pub memory_automaton : List ℕ → List ℕ → List ℕ → List ℕ → ℕ → Automaton
-memory_automaton kinds values gotos rules start = record {
-  enter = entry_state start;
-  goto = λ q X. goto_of gotos q (X - 64);
-  cell = λ q c. meaning rules (cell_at kinds values q c);
+unfoldable pub memory_automaton : Machine → Automaton
+memory_automaton mem = record {
+  enter = entry_state mem.start;
+  goto = λ q X. goto_of mem.gotos q (X - 64);
+  cell = λ q c. meaning mem.rules (cell_at mem.kinds mem.values q c);
 }
