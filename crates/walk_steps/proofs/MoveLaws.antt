@@ -10,6 +10,7 @@ use Rattle.language.specs.Grammar.{Grammar, rule_at}
 use Rattle.language.specs.First.{next}
 use Rattle.leftcorner.proofs.Bounded.{fits_yes}
 use Rattle.leftcorner.specs.Machine.{Automaton, Event, Outcome, on, rules_of, to_come, taken, shift_to, pop_to, tell, Verdict}
+use Rattle.walk_tables.specs.declared.Machine.{Machine}
 use Rattle.walk_tables.specs.Memory.{figure_of, group_entries, memory_grammar, memory_automaton}
 use Rattle.walk_tables.proofs.MemoryLaws.{unit_is}
 use Rattle.walk_stack.specs.Stack.{tops, rule_over}
@@ -49,16 +50,16 @@ module _ (g : Grammar) (m : Automaton) (n k : ℕ) (tokens stack listing : List 
           → again a b c d ≡ again a' b' c' d'
       again_same again x y z w = cc
 
-  pub move_shift : (s c code : ℕ) → Stands g n k tokens stack listing p → code ≡ p.code → (code ≡ 0 → ⊥) → p.height < length stack
+  pub move_shift : (s c : ℕ) → Stands g n k tokens stack listing p → (p.code ≡ 0 → ⊥) → p.height < length stack
       → c ≡ get_or tokens (p.taken + 1) 0
-      → Moves g m n k tokens stack listing p (shift_to s (tops stack p.height) code) (set stack p.height s) listing
+      → Moves g m n k tokens stack listing p (shift_to s (tops stack p.height) p.code) (set stack p.height s) listing
       (record { height = p.height + 1; taken = p.taken + 1; listed = p.listed; units = p.units; top = s; code = c })
   unfolding steps_left
-  move_shift s c code h ec ne lt e =
-      let more : p.taken < length tokens = inside tokens p.taken (λ z. ne (ec ∙ h.code_is ∙ z)) in
+  move_shift s c h ne lt e =
+      let more : p.taken < length tokens = inside tokens p.taken (λ z. ne (h.code_is ∙ z)) in
       let one : p.height + 1 - 1 ≡ p.height = omega arith in
       let long : length (set stack p.height s) ≡ length stack = simp length-set in
-      moves (shift_on s (tops stack p.height) code ne) (sym (tops_push stack p.height s lt)) (drop-drop 1 p.taken tokens) (sym (add-one p.taken))
+      moves (shift_on s (tops stack p.height) p.code ne) (sym (tops_push stack p.height s lt)) (drop-drop 1 p.taken tokens) (sym (add-one p.taken))
       (append-nil (take p.listed listing))
       (record {
         stack_long = long ∙ h.stack_long;
@@ -73,15 +74,15 @@ module _ (g : Grammar) (m : Automaton) (n k : ℕ) (tokens stack listing : List 
       })
       (fewer (k - p.listed + (length tokens - (p.taken + 1))) (k - p.listed + (length tokens - p.taken)) n p.height (p.height + 1) (omega arith) (omega (arith, h.stack_long)))
 
-  pub move_pop : (symbols pops code : ℕ) → Stands g n k tokens stack listing p → code ≡ p.code → pops ≡ symbols + 1 → pops < p.height
-      → {t : Turn} → t ≡ lowered_to stack (p.height - pops) code p
-      → Turned g m n k tokens stack listing p (pop_to (drop (suc symbols) (tops stack p.height)) code) stack listing t
+  pub move_pop : (symbols pops : ℕ) → Stands g n k tokens stack listing p → pops ≡ symbols + 1 → pops < p.height
+      → {t : Turn} → t ≡ lowered_to stack (p.height - pops) p
+      → Turned g m n k tokens stack listing p (pop_to (drop (suc symbols) (tops stack p.height)) p.code) stack listing t
   unfolding steps_left
-  move_pop symbols pops code h ec e lt et =
+  move_pop symbols pops h e lt et =
       let d : drop (suc symbols) (tops stack p.height) ≡ tops stack (p.height - pops) =
       let z : p.height - suc symbols ≡ p.height - pops = omega arith in tops-drop stack (suc symbols) p.height (omega arith) ∙ ap (tops stack) z in
-      subst (Turned g m n k tokens stack listing p (pop_to (drop (suc symbols) (tops stack p.height)) code) stack listing) (sym et)
-      (moves (pop_on (drop (suc symbols) (tops stack p.height)) code (omega (arith, length-drop (suc symbols) (tops stack p.height), tops-length stack p.height))) d refl refl
+      subst (Turned g m n k tokens stack listing p (pop_to (drop (suc symbols) (tops stack p.height)) p.code) stack listing) (sym et)
+      (moves (pop_on (drop (suc symbols) (tops stack p.height)) p.code (omega (arith, length-drop (suc symbols) (tops stack p.height), tops-length stack p.height))) d refl refl
       (append-nil (take p.listed listing))
       (record {
         stack_long = h.stack_long;
@@ -92,19 +93,19 @@ module _ (g : Grammar) (m : Automaton) (n k : ℕ) (tokens stack listing : List 
         in_tokens = h.in_tokens;
         counted = h.counted;
         top_is = refl;
-        code_is = ec ∙ h.code_is;
+        code_is = h.code_is;
       })
       (omega arith))
 
-module _ (kinds values gotos rules : List ℕ) (start n k : ℕ) (tokens stack listing : List ℕ) (p : Position) where
-  pub move_announce : (r code pops groups unit height top : ℕ) (stack' : List ℕ) → Stands (memory_grammar rules) n k tokens stack listing p → code ≡ p.code
-      → 0 < r → r < 256 → pops ≡ figure_of rules r 0 → pops < p.height → groups ≡ figure_of rules r 3 → unit ≡ figure_of rules r 2 % 2
+module _ (mem : Machine) (n k : ℕ) (tokens stack listing : List ℕ) (p : Position) where
+  pub move_announce : (r pops groups unit height top : ℕ) (stack' : List ℕ) → Stands (memory_grammar mem.rules) n k tokens stack listing p
+      → 0 < r → r < 256 → pops ≡ figure_of mem.rules r 0 → pops < p.height → groups ≡ figure_of mem.rules r 3 → unit ≡ figure_of mem.rules r 2 % 2
       → p.listed < length listing → p.height - pops + groups < length stack → height ≡ p.height - pops + 1 + groups
       → length stack' ≡ length stack
-      → tops stack' height ≡ rule_over gotos rules r groups (tops stack (p.height - pops)) → top ≡ next (tops stack' height) 0
-      → Moves (memory_grammar rules) (memory_automaton kinds values gotos rules start) n k tokens stack listing p
-      (tell (memory_grammar rules) (memory_automaton kinds values gotos rules start) (rule_at (memory_grammar rules) r) r
-      (group_entries rules r (figure_of rules r 3)) (tops stack p.height))
+      → tops stack' height ≡ rule_over mem.gotos mem.rules r groups (tops stack (p.height - pops)) → top ≡ next (tops stack' height) 0
+      → Moves (memory_grammar mem.rules) (memory_automaton mem) n k tokens stack listing p
+      (tell (memory_grammar mem.rules) (memory_automaton mem) (rule_at (memory_grammar mem.rules) r) r
+      (group_entries mem.rules r (figure_of mem.rules r 3)) (tops stack p.height))
       stack' (set listing p.listed r)
       (record {
         height = height;
@@ -112,18 +113,18 @@ module _ (kinds values gotos rules : List ℕ) (start n k : ℕ) (tokens stack l
         listed = p.listed + 1;
         units = p.units + unit;
         top = top;
-        code = code;
+        code = p.code;
       })
   unfolding steps_left
-  move_announce r code pops groups unit height top stack' h ec pos small ep lp eg eu slot fit eh es so et =
-      let a : drop (figure_of rules r 0) (tops stack p.height) ≡ tops stack (p.height - pops) = rw (← ep) (tops-drop stack pops p.height (omega arith)) in
-      let b : rule_over gotos rules r (figure_of rules r 3) (drop (figure_of rules r 0) (tops stack p.height)) ≡ tops stack' height =
+  move_announce r pops groups unit height top stack' h pos small ep lp eg eu slot fit eh es so et =
+      let a : drop (figure_of mem.rules r 0) (tops stack p.height) ≡ tops stack (p.height - pops) = rw (← ep) (tops-drop stack pops p.height (omega arith)) in
+      let b : rule_over mem.gotos mem.rules r (figure_of mem.rules r 3) (drop (figure_of mem.rules r 0) (tops stack p.height)) ≡ tops stack' height =
       rw (a, ← eg) (sym so) in
       let o : take (p.listed + 1) (set listing p.listed r) ≡ take p.listed listing ++ r ∷ [] =
       rw (add-one) (take-suc-set listing p.listed r slot) in
       let long : length (set listing p.listed r) ≡ length listing = simp length-set in
-      moves (memory_grammar rules) (memory_automaton kinds values gotos rules start) n k tokens stack listing p
-      (told_on kinds values gotos rules start r pos small (tops stack p.height) (omega (arith, tops-length stack p.height))) b refl refl (sym o)
+      moves (memory_grammar mem.rules) (memory_automaton mem) n k tokens stack listing p
+      (told_on mem r pos small (tops stack p.height) (omega (arith, tops-length stack p.height))) b refl refl (sym o)
       (record {
         stack_long = es ∙ h.stack_long;
         listing_long = long ∙ h.listing_long;
@@ -131,9 +132,9 @@ module _ (kinds values gotos rules : List ℕ) (start n k : ℕ) (tokens stack l
         high = omega (arith, h.stack_long);
         room = omega (arith, h.listing_long);
         in_tokens = h.in_tokens;
-        counted = rw (o, units_snoc, unit_is rules r pos small, ← eu, ← h.counted);
+        counted = rw (o, units_snoc, unit_is mem.rules r pos small, ← eu, ← h.counted);
         top_is = et ∙ tops_top stack' height (omega arith);
-        code_is = ec ∙ h.code_is;
+        code_is = h.code_is;
       })
       (fewer (k - (p.listed + 1) + (length tokens - p.taken)) (k - p.listed + (length tokens - p.taken)) n p.height height
       (omega (arith, h.listing_long)) (omega (arith, h.stack_long)))

@@ -25,9 +25,6 @@ pub shift_on : (s : ℕ) (S : List ℕ) (c : ℕ) → (c ≡ 0 → ⊥) → shif
 shift_on s S zero ne = absurd (ne refl)
 shift_on s S (suc a) ne = refl
 
-pub shift_wrong : (s : ℕ) (S : List ℕ) (c : ℕ) → c ≡ 0 → shift_to s S c ≡ wrong
-shift_wrong s S c e = rw e
-
 pub pop_on : (S : List ℕ) (c : ℕ) → 0 < length S → pop_to S c ≡ on machine.closed S
 pop_on [] c pos = absurd (omega arith)
 pop_on (q ∷ S) c pos = refl

@@ -3,6 +3,7 @@ use Rattle.std.specs.Prelude.{ℕ, suc, ◌+◌, ◌*◌, ◌-◌, ◌≤◌, �
 use Rattle.language.specs.Grammar.{Grammar, rule_at}
 use Rattle.language.specs.Listing.{units_in}
 use Rattle.leftcorner.specs.Machine.{Automaton, Outcome, shift_to, pop_to, tell, Verdict, whole_at, wrong_at, short_at, proceed}
+use Rattle.walk_tables.specs.declared.Machine.{Machine}
 use Rattle.walk_tables.specs.Memory.{figure_of, group_entries, memory_grammar, memory_automaton}
 use Rattle.walk_stack.specs.Stack.{tops}
 use Rattle.walk_steps.specs.declared.Position.{Position}
@@ -10,9 +11,9 @@ use Rattle.walk_steps.specs.declared.Turn.{Turn}
 use Rattle.walk_steps.specs.declared.Turn.TheVariants.{On, Whole, Wrong, Short}
 
 -- position p with the stack lowered to a height
-abbrev pub lowered_to : List ℕ → ℕ → ℕ → Position → Turn
-lowered_to stack height code p = On (record
-    { height = height; taken = p.taken; listed = p.listed; units = p.units; top = get_or stack (height - 1) 0; code = code })
+abbrev pub lowered_to : List ℕ → ℕ → Position → Turn
+lowered_to stack height p = On (record
+    { height = height; taken = p.taken; listed = p.listed; units = p.units; top = get_or stack (height - 1) 0; code = p.code })
 
 -- a bound on the steps that are left: each takes a place of the listing or a token, or lowers the stack
 unfoldable pub steps_left : ℕ → ℕ → List ℕ → Position → ℕ
@@ -55,20 +56,20 @@ module _ (g : Grammar) (m : Automaton) (n k : ℕ) (tokens stack listing : List 
 
 -- ---- the steps: each looks at its own slices only, so holds with any others
 
-abbrev pub Shifts : List ℕ → List ℕ → ℕ → ℕ → Position → Turn → List ℕ → Type 0
-Shifts tokens stack s code p t stack' =
-    (g : Grammar) (m : Automaton) (n k : ℕ) (listing : List ℕ) → Stands g n k tokens stack listing p → code ≡ p.code
-    → Turned g m n k tokens stack listing p (shift_to s (tops stack p.height) code) stack' listing t
+abbrev pub Shifts : List ℕ → List ℕ → ℕ → Position → Turn → List ℕ → Type 0
+Shifts tokens stack s p t stack' =
+    (g : Grammar) (m : Automaton) (n k : ℕ) (listing : List ℕ) → Stands g n k tokens stack listing p
+    → Turned g m n k tokens stack listing p (shift_to s (tops stack p.height) p.code) stack' listing t
 
-abbrev pub Pops : List ℕ → ℕ → ℕ → Position → Turn → Type 0
-Pops stack symbols code p t =
-    (g : Grammar) (m : Automaton) (n k : ℕ) (tokens listing : List ℕ) → Stands g n k tokens stack listing p → code ≡ p.code
-    → Turned g m n k tokens stack listing p (pop_to (drop (suc symbols) (tops stack p.height)) code) stack listing t
+abbrev pub Pops : List ℕ → ℕ → Position → Turn → Type 0
+Pops stack symbols p t =
+    (g : Grammar) (m : Automaton) (n k : ℕ) (tokens listing : List ℕ) → Stands g n k tokens stack listing p
+    → Turned g m n k tokens stack listing p (pop_to (drop (suc symbols) (tops stack p.height)) p.code) stack listing t
 
-abbrev pub Announces : List ℕ → List ℕ → List ℕ → List ℕ → ℕ → ℕ → Position → Turn → List ℕ → List ℕ → Type 0
-Announces gotos rules stack listing r code p t stack' listing' =
-    (kinds values : List ℕ) (start n k : ℕ) (tokens : List ℕ) → Stands (memory_grammar rules) n k tokens stack listing p → code ≡ p.code
-    → Turned (memory_grammar rules) (memory_automaton kinds values gotos rules start) n k tokens stack listing p
-    (tell (memory_grammar rules) (memory_automaton kinds values gotos rules start) (rule_at (memory_grammar rules) r) r
-    (group_entries rules r (figure_of rules r 3)) (tops stack p.height))
+abbrev pub Announces : Machine → List ℕ → List ℕ → ℕ → Position → Turn → List ℕ → List ℕ → Type 0
+Announces mem stack listing r p t stack' listing' =
+    (n k : ℕ) (tokens : List ℕ) → Stands (memory_grammar mem.rules) n k tokens stack listing p
+    → Turned (memory_grammar mem.rules) (memory_automaton mem) n k tokens stack listing p
+    (tell (memory_grammar mem.rules) (memory_automaton mem) (rule_at (memory_grammar mem.rules) r) r
+    (group_entries mem.rules r (figure_of mem.rules r 3)) (tops stack p.height))
     stack' listing' t

@@ -9,8 +9,7 @@ use borrow.Rule.Slice.PartMut.{put_mid}
 use Rattle.reply.specs.Reply.{padded}
 use Rattle.language.specs.Grammar.{Grammar}
 use Rattle.leftcorner.specs.Machine.{Verdict, whole_at, wrong_at, short_at}
-use Rattle.walker.specs.declared.Walked.{Walked}
-use Rattle.walker.specs.Walked.{answer, listed, rule_count, Ended}
+use Rattle.walker.specs.Walked.{Walked, answer, listed, rule_count, Ended}
 
 -- ---- a lent tail of a slice
 
@@ -30,7 +29,7 @@ count_is g (whole_at p l) = refl
 count_is g (wrong_at p) = refl
 count_is g (short_at p) = refl
 
-pub count_within : {g : Grammar} {v : Verdict} {w : Walked} {slice : List ℕ} {n : ℕ} → Ended g v w slice → n ≡ rule_count w → n ≡ length (listed v)
+count_within : {g : Grammar} {v : Verdict} {w : Walked} {slice : List ℕ} {n : ℕ} → Ended g v w slice → n ≡ rule_count w → n ≡ length (listed v)
 count_within {g} {v} h e = e ∙ ap rule_count h.answered ∙ count_is g v
 
 -- the listing, then zeros

@@ -1,5 +1,4 @@
--- `walker::run` meets its contract. The invariant: the position stands in memory, and the walk of the theory goes on from it. The measure
--- bounds the steps that are left. Assumes nothing.
+-- The position stands in memory, and the walk of the theory goes on from it. The measure bounds the steps that are left.
 use lib.ListN.{length}
 use Rattle.walk_tables.specs.Memory.{memory_grammar}
 use Rattle.walk_steps.specs.Turn.{Stands, steps_left}
@@ -7,8 +6,8 @@ use Rattle.walker.proofs.RunLaws.{Going}
 use Rattle.walker.proofs.run.Given as goal
 
 abbrev pub invariant-loop-next : goal.invariant-loop-next
-invariant-loop-next l = Stands (memory_grammar l.rules) (length l.initial.stack) (length l.initial.listing) l.tokens l.stack l.listing l.p
-    × Going l.kinds l.values l.gotos l.rules l.start (length l.initial.stack) (length l.initial.listing) l.tokens l.stack l.listing l.p
+invariant-loop-next l = Stands (memory_grammar l.machine.rules) (length l.initial.stack) (length l.initial.listing) l.tokens l.stack l.listing l.p
+    × Going l.machine (length l.initial.stack) (length l.initial.listing) l.tokens l.stack l.listing l.p
 
 abbrev pub decreases-loop-next : goal.decreases-loop-next
 decreases-loop-next l = steps_left (length l.initial.stack) (length l.initial.listing) l.tokens l.p
