@@ -6,9 +6,9 @@ use mathlib.Core.Bool.{Bool, true, false}
 use mathlib.Core.List.{List, [], ◌∷◌}
 use native.Mathlib.Decide.{ℕ_discrete}
 use native.Mathlib.Omega.{arith}
-use lib.ListN.{length, get_or, set, replicate, length-set, length-replicate}
+use lib.ListN.{length, get_or, set, replicate, length-replicate}
 use lib.Dec.{leb}
-use lib.Seq.{sets, length-sets, get_or-set_same, get_or-set_other}
+use lib.Seq.{sets, length-sets}
 use borrow.Author.Tests.{leb-true, leb-false}
 use Rattle.items.specs.Layout.{left_at, mark_at, unit_at}
 use Rattle.items.proofs.StoreLaws.{read_below, read_above, read_inside, read_zeros}
@@ -23,31 +23,6 @@ beside x a n f = go (leb a x) (leb (a + n) x) refl refl
     go false d e h = inl (leb-false a x e)
     go true true e h = inr (leb-true (a + n) x h)
     go true false e h = absurd (f (leb-true a x e) (leb-false (a + n) x h))
-
-module _ {entries uses : List ℕ} {i groups : ℕ} where
-  pub groups_start : {rows : List ℕ} → length rows ≡ 8448 → GroupsLinked entries uses i groups 0 rows rows
-  groups_start l = record { long = l; state = λ j h. absurd (omega (arith, h)); outside = λ x f. refl }
-
-  pub groups_more : {j e : ℕ} {rows₀ rows : List ℕ} → GroupsLinked entries uses i groups j rows₀ rows → j < groups → i < 128 → groups ≤ 15
-      → e ≡ get_or uses (i * 16 + j) 0 → GroupsLinked entries uses i groups (j + 1) rows₀ (set rows (i * 32 + 3 + groups - j) (get_or entries e 0))
-  groups_more {j} {e} {rows₀} {rows} G lj li lg h = record {
-    long = simp length-set G.long;
-    state = λ k l. go k l (ℕ_discrete k j);
-    outside = λ x f. get_or-set_other rows (i * 32 + 3 + groups - j) x (get_or entries e 0) 0 (λ q. f (omega (arith, q, lj)) (omega (arith, q, lj))) ∙ G.outside x f;
-  }
-    where
-      go : (k : ℕ) → k < j + 1 → Dec (k ≡ j)
-          → get_or (set rows (i * 32 + 3 + groups - j) (get_or entries e 0)) (i * 32 + 3 + groups - k) 0 ≡ get_or entries (get_or uses (i * 16 + k) 0) 0
-      go k l (yes q) =
-          ap (λ (y : ℕ). get_or (set rows (i * 32 + 3 + groups - j) (get_or entries e 0)) (i * 32 + 3 + groups - y) 0) q
-          ∙ get_or-set_same rows (i * 32 + 3 + groups - j) (get_or entries e 0) 0 (omega (arith, G.long, li, lg, lj))
-          ∙ ap (λ (y : ℕ). get_or entries y 0) (h ∙ ap (λ (y : ℕ). get_or uses (i * 16 + y) 0) (sym q))
-      go k l (no f) =
-          let ne : i * 32 + 3 + groups - k ≡ i * 32 + 3 + groups - j → ⊥ = λ q. f (omega (arith, q, l, lj)) in
-          get_or-set_other rows (i * 32 + 3 + groups - j) (i * 32 + 3 + groups - k) (get_or entries e 0) 0 ne ∙ G.state k (omega (arith, l, f))
-
-  pub groups_all : {j : ℕ} {rows₀ rows : List ℕ} → j ≡ groups → GroupsLinked entries uses i groups j rows₀ rows → GroupsLinked entries uses i groups groups rows₀ rows
-  groups_all {rows₀ = rows₀} {rows = rows} e G = subst (λ (n : ℕ). GroupsLinked entries uses i groups n rows₀ rows) e G
 
 -- four stores side by side
 four_stores : (l : List ℕ) (a p q u v : ℕ) → set (set (set (set l a p) (a + 1) q) (a + 2) u) (a + 3) v ≡ sets l a (p ∷ q ∷ u ∷ v ∷ [])

@@ -14,25 +14,17 @@ ghost use Rattle.walk_rules.specs.Rows.{GroupCount, GroupsLinked, RuleLinked};
 
 use symbol::CODES;
 
-fn wide(x: u8) -> usize
-    ensures { (result ≡ x) × (result < 256) }
-{
-    x as usize
-}
-
 // The number of groups of rule i: they use entries, and a 0 stands behind the last.
 fn count_groups(uses: &[u8], i: usize) -> usize
     requires { (length uses.now ≡ 2048) × (i < 128) }
     ensures { GroupCount uses.now i result }
 {
-    let mut n = 0;
-    while n < 15 {
+    for n in 0..15 {
         if uses[i * 16 + n] == 0 {
             return n;
         }
-        n += 1;
     }
-    n
+    15
 }
 
 // Writes the entry states of rule i's groups into its row, the last group's first.
@@ -41,11 +33,9 @@ fn link_groups(entries: &[u8], uses: &[u8], i: usize, groups: usize, rows: &mut 
     requires i_bound { (i < 128) × (groups ≤ 15) }
     ensures { GroupsLinked entries.now uses.now i groups groups rows.old rows.new }
 {
-    let mut j = 0;
-    while j < groups {
-        let e = wide(uses[i * 16 + j]);
+    for j in 0..groups {
+        let e = uses[i * 16 + j] as usize;
         rows[i * 32 + 3 + groups - j] = entries[e];
-        j += 1;
     }
 }
 
@@ -74,9 +64,7 @@ pub fn link_rules(items: &[u8], rules: usize, strings: usize, entries: &[u8], ro
 {
     let mut uses = [0u8; 2048];
     check_entries::note_uses(items, rules, strings, &mut uses);
-    let mut i = 1;
-    while i <= rules {
+    for i in 1..rules + 1 {
         link_rule(items, rules + strings, i, entries, &uses, rows);
-        i += 1;
     }
 }
