@@ -6,32 +6,31 @@ use mathlib.Core.List.{List, ◌++◌, append-nil}
 use borrow.Author.Tests.{lt-ltb, le-ltb}
 use lib.ListN.{length, take, set}
 use lib.Seq.{take-suc-set}
+use Rattle.std.specs.Prelude.{Ok, Err}
 use Rattle.language.specs.Grammar.{Grammar}
 use Rattle.leftcorner.specs.Machine.{Verdict, whole_at, wrong_at, short_at}
 use Rattle.leftcorner.proofs.ReadOff.{clash}
 use Rattle.reply.specs.Reply.{kind_number}
 use Rattle.reply.specs.declared.Refusal.{Refusal}
-use Rattle.walker.specs.declared.Walked.{Walked}
-use Rattle.walker.specs.declared.Walked.TheVariants as walked
-use Rattle.walker.specs.Walked.{answer}
+use Rattle.walker.specs.Walked.{Walked, answer}
 use Rattle.expected_trial.specs.declared.Trial.TheVariants.{Fits, Misfit, Outgrown}
 use Rattle.expected_trial.specs.Trial.{as_tokens, trial_of}
 
 -- ---- a trial, by how its walk was answered
 module _ (g : Grammar) (p : ℕ) where
-  pub trial_whole : (v : Verdict) {w : Walked} {t : _} → w ≡ answer g v → w ≡ walked.Accepted t → Fits ≡ trial_of p v
+  pub trial_whole : (v : Verdict) {w : Walked} {t : _} → w ≡ answer g v → w ≡ Ok t → Fits ≡ trial_of p v
   trial_whole (whole_at q l) e f = refl
   trial_whole (wrong_at q) e f = clash cc
   trial_whole (short_at q) e f = clash cc
 
-  module _ {w : Walked} {why : Refusal} (refused : w ≡ walked.Refused why) where
-    why_is : {x : Refusal} → w ≡ walked.Refused x → why ≡ x
+  module _ {w : Walked} {why : Refusal} (refused : w ≡ Err why) where
+    why_is : {x : Refusal} → w ≡ Err x → why ≡ x
     why_is e = cc
 
-    place_is : {x : Refusal} → w ≡ walked.Refused x → why.place ≡ x.place
+    place_is : {x : Refusal} → w ≡ Err x → why.place ≡ x.place
     place_is e = ap (λ (r : Refusal). r.place) (why_is e)
 
-    number_is : {x : Refusal} → w ≡ walked.Refused x → kind_number why.kind ≡ kind_number x.kind
+    number_is : {x : Refusal} → w ≡ Err x → kind_number why.kind ≡ kind_number x.kind
     number_is e = ap (λ (r : Refusal). kind_number r.kind) (why_is e)
 
     pub trial_past : (v : Verdict) → w ≡ answer g v → p < why.place → Fits ≡ trial_of p v

@@ -3,12 +3,11 @@
 #![tactic(auto)]
 
 ghost use Rattle.std.specs.Prelude.{◌≡◌, ◌++◌, ◌<◌, length, take, replicate};
-ghost use Rattle.walk_tables.specs.Memory.{Shaped};
 ghost use Rattle.walker.specs.Walked.{memory_walk};
 ghost use Rattle.expected_trial.specs.Trial.{as_tokens, trial_of};
 
 use reply::clear;
-use walker::Walked;
+use walk_tables::Machine;
 
 // What the trial of a code tells: that it could come, that it could not, or that the walk outgrows what is lent before it is taken.
 #[derive(Clone, Copy)]
@@ -20,28 +19,21 @@ pub enum Trial {
 
 // Walks the first tokens and a code behind them: past the place, the code was taken.
 fn try_tokens(
-    kinds: &[u8],
-    values: &[u8],
-    gotos: &[u8],
-    rows: &[u8],
-    start: u8,
+    machine: &Machine,
     tokens: &[u8],
     place: usize,
     stack: &mut [u8],
     listing: &mut [u8],
 ) -> Trial
-    requires { Shaped kinds.now values.now gotos.now rows.now }
-    ensures { result ≡ trial_of place (memory_walk kinds.now values.now gotos.now rows.now start (length stack.old) (length listing.old) tokens.now) }
+    ensures { result ≡ trial_of place (memory_walk machine.now (length stack.old) (length listing.old) tokens.now) }
 {
-    let walked = walker::run(kinds, values, gotos, rows, start, tokens, stack, listing);
-    let Walked::Refused(why) = walked else {
+    let Err(why) = walker::run(machine, tokens, stack, listing) else {
         return Trial::Fits;
     };
     if place < why.place {
         return Trial::Fits;
     }
-    let kind = why.kind;
-    if reply::kind_number(kind) == 12 {
+    if reply::kind_number(why.kind) == 12 {
         return Trial::Misfit;
     }
     Trial::Outgrown
@@ -49,48 +41,22 @@ fn try_tokens(
 
 // Tries a code after the first tokens, which stand in `trial`.
 pub fn try_code(
-    kinds: &[u8],
-    values: &[u8],
-    gotos: &[u8],
-    rows: &[u8],
-    start: u8,
+    machine: &Machine,
     trial: &mut [u8],
     place: usize,
     code: u8,
     stack: &mut [u8],
     listing: &mut [u8],
 ) -> Trial
-    requires shaped { Shaped kinds.now values.now gotos.now rows.now }
-    requires place_in_bounds { place < length trial.old }
-    ensures value { result ≡ trial_of place (memory_walk kinds.now values.now gotos.now rows.now start (length stack.old) (length listing.old) (take place trial.old ++ as_tokens code)) }
+    requires { place < length trial.old }
+    ensures value { result ≡ trial_of place (memory_walk machine.now (length stack.old) (length listing.old) (take place trial.old ++ as_tokens code)) }
     ensures trial_unchanged { take place trial.new ≡ take place trial.old }
 {
     if code == 0 {
-        return try_tokens(
-            kinds,
-            values,
-            gotos,
-            rows,
-            start,
-            &trial[..place],
-            place,
-            stack,
-            listing,
-        );
+        return try_tokens(machine, &trial[..place], place, stack, listing);
     }
     trial[place] = code;
-    let end = place + 1;
-    try_tokens(
-        kinds,
-        values,
-        gotos,
-        rows,
-        start,
-        &trial[..end],
-        place,
-        stack,
-        listing,
-    )
+    try_tokens(machine, &trial[..place + 1], place, stack, listing)
 }
 
 // Clears the slices of the walks, once for all trials.

@@ -9,27 +9,27 @@ use Rattle.expected_trial.proofs.try_tokens.Goals as goal
 pub returns-in_default : goal.returns-in_default
 returns-in_default c =
     let k = c.args in
-    let v = memory_walk k.kinds.now k.values.now k.gotos.now k.rows.now k.start (length k.stack.now) (length k.listing.now) k.tokens.now in
-    let g = memory_grammar k.rows.now in
-    trial_whole g k.place v c.run-walked.ensures.answered c.in_default.is
+    let v = memory_walk k.machine.now (length k.stack.now) (length k.listing.now) k.tokens.now in
+    let g = memory_grammar k.machine.now.rules in
+    trial_whole g k.place v c.run.ensures.answered c.in_default.is
 
 pub returns-then-place-why : goal.returns-then-place-why
 returns-then-place-why c =
     let k = c.args in
-    let v = memory_walk k.kinds.now k.values.now k.gotos.now k.rows.now k.start (length k.stack.now) (length k.listing.now) k.tokens.now in
-    let g = memory_grammar k.rows.now in
-    trial_past g k.place c.in-Refused.is v c.run-walked.ensures.answered c.if-place-why.true
+    let v = memory_walk k.machine.now (length k.stack.now) (length k.listing.now) k.tokens.now in
+    let g = memory_grammar k.machine.now.rules in
+    trial_past g k.place c.in-Err.is v c.run.ensures.answered c.if-place-why.true
 
 pub returns-then-kind_number-eq12 : goal.returns-then-kind_number-eq12
 returns-then-kind_number-eq12 c =
     let k = c.args in
-    let v = memory_walk k.kinds.now k.values.now k.gotos.now k.rows.now k.start (length k.stack.now) (length k.listing.now) k.tokens.now in
-    let g = memory_grammar k.rows.now in
-    trial_misfit g k.place c.in-Refused.is v c.run-walked.ensures.answered c.if-place-why.false (sym c.kind_number.ensures ∙ c.if-kind_number-eq12.true)
+    let v = memory_walk k.machine.now (length k.stack.now) (length k.listing.now) k.tokens.now in
+    let g = memory_grammar k.machine.now.rules in
+    trial_misfit g k.place c.in-Err.is v c.run.ensures.answered c.if-place-why.false (sym c.kind_number.ensures ∙ c.if-kind_number-eq12.true)
 
 pub returns : goal.returns
 returns c =
     let k = c.args in
-    let v = memory_walk k.kinds.now k.values.now k.gotos.now k.rows.now k.start (length k.stack.now) (length k.listing.now) k.tokens.now in
-    let g = memory_grammar k.rows.now in
-    trial_outgrown g k.place c.in-Refused.is v c.run-walked.ensures.answered c.if-place-why.false (λ z. c.if-kind_number-eq12.false (c.kind_number.ensures ∙ z))
+    let v = memory_walk k.machine.now (length k.stack.now) (length k.listing.now) k.tokens.now in
+    let g = memory_grammar k.machine.now.rules in
+    trial_outgrown g k.place c.in-Err.is v c.run.ensures.answered c.if-place-why.false (λ z. c.if-kind_number-eq12.false (c.kind_number.ensures ∙ z))
