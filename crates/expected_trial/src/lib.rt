@@ -52,11 +52,9 @@ pub fn try_code(
     ensures value { result ≡ trial_of place (memory_walk machine.now (length stack.old) (length listing.old) (take place trial.old ++ as_tokens code)) }
     ensures trial_unchanged { take place trial.new ≡ take place trial.old }
 {
-    if code == 0 {
-        return try_tokens(machine, &trial[..place], place, stack, listing);
-    }
     trial[place] = code;
-    try_tokens(machine, &trial[..place + 1], place, stack, listing)
+    let end = if code == 0 { place } else { place + 1 };
+    try_tokens(machine, &trial[..end], place, stack, listing)
 }
 
 // Clears the slices of the walks, once for all trials.
