@@ -6,7 +6,6 @@ use mathlib.Core.Bool.{Bool, true, false, cond}
 use mathlib.Core.List.{List, [], ◌∷◌}
 use lib.ListN.{length, get_or, drop, drop_of_length-le}
 use lib.Seq.{drop-cons}
-use borrow.Author.Count.{below_more}
 use Rattle.fixpoint.specs.declared.Found.{Found}
 use Rattle.range.specs.Range.{within}
 use Rattle.range.proofs.RangeLaws.{within-true, true-within}
@@ -44,8 +43,3 @@ spanned t at least most (a ∷ w) lo hi all =
 -- the tokens before i
 abbrev pub SpansBefore : ℕ → List ℕ → ℕ → ℕ → Type 0
 SpansBefore i w least most = (j : ℕ) → j < i → (least ≤ get_or w j 0) × (get_or w j 0 ≤ most)
-
-pub span_more : (w : List ℕ) (i least most least' most' : ℕ) → least' ≤ get_or w i 0 → least' ≤ least → get_or w i 0 ≤ most' → most ≤ most'
-    → SpansBefore i w least most → SpansBefore (i + 1) w least' most'
-span_more w i least most least' most' a b c d all =
-    below_more (λ (j : ℕ). (least' ≤ get_or w j 0) × (get_or w j 0 ≤ most')) i (λ j l. (omega (arith, (all j l).0), omega (arith, (all j l).1))) (a, c)

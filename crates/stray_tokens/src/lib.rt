@@ -15,42 +15,15 @@ struct Span {
     most: u8,
 }
 
-fn wide(x: u8) -> usize
-    ensures { (result ≡ x) × (result < 256) }
-{
-    x as usize
-}
-
-fn lesser(x: u8, y: u8) -> u8
-    ensures { (result ≤ x) × (result ≤ y) }
-{
-    if x < y {
-        return x;
-    }
-    y
-}
-
-fn greater(x: u8, y: u8) -> u8
-    ensures { (x ≤ result) × (y ≤ result) }
-{
-    if x < y {
-        return y;
-    }
-    x
-}
-
 // Looks at every token and leaves nowhere early, so that many are looked at in one instruction.
 fn span_of(tokens: &[u8]) -> Span
     ensures { Spans tokens.now result.least result.most }
 {
-    let mut least = 255;
-    let mut most = 0;
-    let mut i = 0;
-    while i < tokens.len() {
-        let token = tokens[i];
-        least = lesser(token, least);
-        most = greater(token, most);
-        i += 1;
+    let mut least = 255u8;
+    let mut most = 0u8;
+    for token in tokens {
+        least = least.min(*token);
+        most = most.max(*token);
     }
     Span { least, most }
 }
@@ -59,15 +32,13 @@ fn span_of(tokens: &[u8]) -> Span
 fn first_stray(tokens: &[u8], terminals: usize) -> Found
     ensures { result ≡ stray_from terminals 0 tokens.now }
 {
-    let mut i = 0;
-    while i < tokens.len() {
+    for (i, code) in tokens.iter().enumerate() {
         let token = Symbol {
-            code: wide(tokens[i]),
+            code: *code as usize,
         };
         if !token.is_terminal(terminals) {
             return Found::At(i);
         }
-        i += 1;
     }
     Found::Nothing
 }
@@ -78,15 +49,13 @@ pub fn find_stray(tokens: &[u8], terminals: usize) -> Found
 {
     let all = span_of(tokens);
     let least = Symbol {
-        code: wide(all.least),
+        code: all.least as usize,
     };
-    if least.is_terminal(terminals) {
-        let most = Symbol {
-            code: wide(all.most),
-        };
-        if most.is_terminal(terminals) {
-            return Found::Nothing;
-        }
+    let most = Symbol {
+        code: all.most as usize,
+    };
+    if least.is_terminal(terminals) && most.is_terminal(terminals) {
+        return Found::Nothing;
     }
     first_stray(tokens, terminals)
 }
