@@ -15,6 +15,7 @@ use Rattle.leftcorner.specs.Construction.{ActionAt}
 use Rattle.leftcorner.proofs.ReadOff.{action_back}
 use Rattle.memory.specs.Memory.{HoldsActions, kind_of, value_of, pop_value}
 use Rattle.memory.specs.Fits.{Fits}
+use Rattle.walk_tables.specs.declared.Machine.{Machine}
 use Rattle.walk_tables.specs.Memory.{figure_of, goto_of, cell_at, memory_rule, memory_grammar, meaning, memory_automaton}
 use Rattle.walk_tables.specs.Memory as memory
 use Rattle.walk_tables.proofs.MemoryLaws.{rule_is}
@@ -34,19 +35,19 @@ low_append : (a b : List ℕ) → AllLow a → AllLow b → AllLow (a ++ b)
 low_append [] b h k = k
 low_append (q ∷ a) b h k = (h.0, low_append a b h.1 k)
 
-module _ (g : Grammar) (t : Table) (kinds values gotos rules : List ℕ) (start : ℕ) (H : HoldsActions kinds values gotos t) (F : Fits g t)
-    (L : Linked rules start g t) (few : (i : ℕ) (r : Rule) → rule_at g i ≡ some r → (i < 256) × (r.left < 128))
+module _ (g : Grammar) (t : Table) (mem : Machine) (H : HoldsActions mem.kinds mem.values mem.gotos t) (F : Fits g t)
+    (L : Linked mem.rules mem.start g t) (few : (i : ℕ) (r : Rule) → rule_at g i ≡ some r → (i < 256) × (r.left < 128))
     (pops : (q c n : ℕ) → ActionAt g t q c (P n) → (1 ≤ n) × (n ≤ 255)) where
   abbrev m : Automaton
-  m = memory_automaton kinds values gotos rules start
+  m = memory_automaton mem
 
   abbrev k : Grammar
-  k = memory_grammar rules
+  k = memory_grammar mem.rules
 
   -- the cell in memory is that of the line
-  cell_is : (q c : ℕ) → q < 256 → c < 64 → m.cell q c ≡ meaning rules (memory.cell_of (kind_of (action_for t.actions q c)) (value_of (action_for t.actions q c)))
+  cell_is : (q c : ℕ) → q < 256 → c < 64 → m.cell q c ≡ meaning mem.rules (memory.cell_of (kind_of (action_for t.actions q c)) (value_of (action_for t.actions q c)))
   unfolding memory_automaton cell_at
-  cell_is q c lq lc = ap₂ (λ (x y : ℕ). meaning rules (memory.cell_of x y)) (H.kind_is q c lq lc) (H.value_is q c lq lc)
+  cell_is q c lq lc = ap₂ (λ (x y : ℕ). meaning mem.rules (memory.cell_of x y)) (H.kind_is q c lq lc) (H.value_is q c lq lc)
 
   goto_is : (q X : ℕ) → q < 256 → 64 ≤ X → X < 128 → m.goto q X ≡ (automaton g t).goto q X
   unfolding memory_automaton goto_of
@@ -56,27 +57,27 @@ module _ (g : Grammar) (t : Table) (kinds values gotos rules : List ℕ) (start 
   pop_value_lem n l h = ap (λ (b : Bool). suc (cond b (n - 1) 255)) (ap₂ ◌&&◌ (le-leb 1 n l) (le-leb n 255 h)) ∙ (let e : suc (n - 1) ≡ n = omega arith in e)
 
   land_same : (i : ℕ) (r : Rule) (l : List ℕ) → AllLow l → rule_at g i ≡ some r
-      → land k m i (memory_rule rules i) (memory.group_entries rules i (figure_of rules i 3)) l ≡ land g (automaton g t) i r (group_entries g t i) l
+      → land k m i (memory_rule mem.rules i) (memory.group_entries mem.rules i (figure_of mem.rules i 3)) l ≡ land g (automaton g t) i r (group_entries g t i) l
   unfolding memory_automaton
   land_same i r [] h e = refl
   land_same i r (q ∷ l) h e =
-      let x : 64 + figure_of rules i 1 ≡ r.left = L.left_is i e in
-      let b : 64 + figure_of rules i 1 < 128 = omega (arith, x, (few i r e).1) in
+      let x : 64 + figure_of mem.rules i 1 ≡ r.left = L.left_is i e in
+      let b : 64 + figure_of mem.rules i 1 < 128 = omega (arith, x, (few i r e).1) in
       ap₂ (λ (p : List ℕ) (s : ℕ). on (announced i) (p ++ s ∷ q ∷ l)) (L.pushes i e)
-      (goto_is q (64 + figure_of rules i 1) h.0 (omega arith) b ∙ ap (λ (Y : ℕ). (automaton g t).goto q Y) x)
+      (goto_is q (64 + figure_of mem.rules i 1) h.0 (omega arith) b ∙ ap (λ (Y : ℕ). (automaton g t).goto q Y) x)
 
   tell_same : (i : ℕ) (r : Rule) (l : List ℕ) → AllLow l → rule_at g i ≡ some r
-      → tell k m (rule_at k i) i (memory.group_entries rules i (figure_of rules i 3)) l ≡ tell g (automaton g t) (rule_at g i) i (group_entries g t i) l
+      → tell k m (rule_at k i) i (memory.group_entries mem.rules i (figure_of mem.rules i 3)) l ≡ tell g (automaton g t) (rule_at g i) i (group_entries g t i) l
   tell_same zero r l h e = let z : ◌≡◌ {A = ℕ} 0 1 = cc in absurd (omega arith)
   tell_same (suc i) r l h e =
-      ap (λ (o : Option Rule). tell k m o (suc i) (memory.group_entries rules (suc i) (figure_of rules (suc i) 3)) l) (rule_is rules (suc i) (omega arith) (few (suc i) r e).0)
-      ∙ ap (λ (n : ℕ). land k m (suc i) (memory_rule rules (suc i)) (memory.group_entries rules (suc i) (figure_of rules (suc i) 3)) (drop n l))
-      (length-replicate (figure_of rules (suc i) 0) 1 ∙ L.pops_is (suc i) e)
+      ap (λ (o : Option Rule). tell k m o (suc i) (memory.group_entries mem.rules (suc i) (figure_of mem.rules (suc i) 3)) l) (rule_is mem.rules (suc i) (omega arith) (few (suc i) r e).0)
+      ∙ ap (λ (n : ℕ). land k m (suc i) (memory_rule mem.rules (suc i)) (memory.group_entries mem.rules (suc i) (figure_of mem.rules (suc i) 3)) (drop n l))
+      (length-replicate (figure_of mem.rules (suc i) 0) 1 ∙ L.pops_is (suc i) e)
       ∙ land_same (suc i) r (drop (length r.before) l) (low_drop (length r.before) l h) e
       ∙ sym (ap (λ (o : Option Rule). tell g (automaton g t) o (suc i) (group_entries g t (suc i)) l) e)
 
   act_same : (o : Option Action) (q c : ℕ) (l : List ℕ) → action_for t.actions q c ≡ o → AllLow l
-      → act k m (meaning rules (memory.cell_of (kind_of o) (value_of o))) l c ≡ act g (automaton g t) (cell_of g t o) l c
+      → act k m (meaning mem.rules (memory.cell_of (kind_of o) (value_of o))) l c ≡ act g (automaton g t) (cell_of g t o) l c
   act_same none q c l e h = refl
   act_same (some (S s)) q c l e h = refl
   act_same (some (N s)) q c l e h = refl

@@ -7,6 +7,7 @@ use mathlib.Core.Logic.{inl, inr}
 use mathlib.Core.List.{List}
 use mathlib.Core.Option.{some}
 use lib.ListN.{length, get_or}
+use Rattle.std.specs.Prelude.{Ok}
 use Rattle.language.specs.Grammar.{Grammar, Rule, rule_at}
 use Rattle.language.proofs.GrammarLaws.{rule_range}
 use Rattle.language.specs.First.{First}
@@ -15,18 +16,13 @@ use Rattle.leftcorner.specs.Machine.{walk}
 use Rattle.leftcorner.specs.Table.{Action, P, Table, state_of, automaton}
 use Rattle.leftcorner.specs.Construction.{EntryAt, ActionAt, Asked, to_move, to_announce, to_pop}
 use Rattle.leftcorner.proofs.ReadOff.{clash}
-use Rattle.reply.specs.declared.Refusal.{Refusal}
-use Rattle.table.specs.declared.TableReply.{TableReply}
-use Rattle.table.specs.declared.TableReply.TheVariants as reply
-use Rattle.table.specs.Book.{Reading, whole, rejected}
-use Rattle.table.specs.Memory.{reply_of}
+use Rattle.table.specs.Book.{Reading, whole}
 use Rattle.checker.specs.Loaded.{InMemory}
+use Rattle.walk_tables.specs.declared.Machine.{Machine}
 use Rattle.walk_tables.specs.Memory.{memory_grammar, memory_automaton}
 use Rattle.walker.specs.Walked.{memory_walk}
 use Rattle.walker.proofs.AgreeLaws.{CodeOf, walk_agree, units_agree}
 use Rattle.walk_rules.specs.Linked.{Linked}
-use Rattle.machine.specs.declared.Machine.{Machine}
-use Rattle.machine.specs.declared.MachineReply.TheVariants.{Ready, Refused}
 use Rattle.machine.specs.Machine.{AllLow, Drives, MachineIs}
 use Rattle.machine.proofs.AgreeLaws.{step_same, step_low, enter_low}
 
@@ -37,7 +33,7 @@ module _ (g : Grammar) (t : Table) where
   pop_of (to_announce i r h f) n e = clash cc
   pop_of (to_pop k {s} {γ} h f) n e = (k, s, γ, h, (let z : n ≡ suc (length γ) = cc in z))
 
-  module _ {items entries kinds values gotos : List ℕ} {terminals rules strings : ℕ} (I : InMemory g t items entries kinds values gotos terminals rules strings) where
+  module _ (mem : Machine) {items entries : List ℕ} {rules strings : ℕ} (I : InMemory g t items entries mem.kinds mem.values mem.gotos mem.terminals rules strings) where
     pops_low : (q c n : ℕ) → ActionAt g t q c (P n) → (1 ≤ n) × (n ≤ 255)
     pops_low q c n a =
         let h = pop_of ((I.meets.cells q).asked c (P n) a) n refl in
@@ -49,26 +45,26 @@ module _ (g : Grammar) (t : Table) where
         (omega (arith, (rule_range g i e).1, f.few_rules), omega (arith, (f.formed i e).left_declared.1, f.few_nonterminals))
 
     -- where the rules are linked
-    pub drives : {rows : List ℕ} (start : ℕ) → Linked rows start g t → start ≡ get_or entries 1 0 → Drives g t kinds values gotos rows (record { start = start; terminals = terminals })
-    drives {rows} start L first =
+    pub drives : Linked mem.rules mem.start g t → mem.start ≡ get_or entries 1 0 → Drives g t mem
+    drives L first =
         let goal = I.meets.entries.goal_first in
         let F = I.holds_strings.fits in
         record {
           terminals_is = sym I.terminals_is;
           few_terminals = I.holds_strings.formed.few_terminals;
-          steps = λ S c low small. step_same g t kinds values gotos rows start I.holds_actions F L rules_low pops_low S c low small;
+          steps = λ S c low small. step_same g t mem I.holds_actions F L rules_low pops_low S c low small;
           start_is = ap state_of goal.1 ∙ sym (I.holds_entries.state_is 1 goal.0 goal.1) ∙ sym first;
           start_low = (enter_low g t F 1, tt);
           stays_low = step_low g t F;
-          units_is = units_agree (memory_grammar rows) g L.units_is;
+          units_is = units_agree (memory_grammar mem.rules) g L.units_is;
         }
 
 -- the walk over the machine is the walk of the table's automaton
-pub walk_is : {g : Grammar} {t : Table} {kinds values gotos rows : List ℕ} {m : Machine} → Drives g t kinds values gotos rows m
-    → (n k : ℕ) (w : List ℕ) → ((a : ℕ) → In a w → a < 64) → walk g (automaton g t) n k w ≡ memory_walk kinds values gotos rows m.start n k w
+pub walk_is : {g : Grammar} {t : Table} {mem : Machine} → Drives g t mem
+    → (n k : ℕ) (w : List ℕ) → ((a : ℕ) → In a w → a < 64) → walk g (automaton g t) n k w ≡ memory_walk mem n k w
 unfolding memory_walk memory_automaton
-walk_is {g} {t} {kinds} {values} {gotos} {rows} {m} D n k w tokens =
-    walk_agree g (memory_grammar rows) (automaton g t) (memory_automaton kinds values gotos rows m.start) w AllLow
+walk_is {g} {t} {mem} D n k w tokens =
+    walk_agree g (memory_grammar mem.rules) (automaton g t) (memory_automaton mem) w AllLow
     (λ S U c e s x h. D.stays_low S c e U h s)
     (λ S c s x. sym (D.steps S c s (code x)))
     n k D.start_is D.start_low
@@ -79,11 +75,5 @@ walk_is {g} {t} {kinds} {values} {gotos} {rows} {m} D n k w tokens =
 
 -- ---- what loading answers
 
-module _ (kinds values gotos rows : List ℕ) where
-  pub machine_ready : {x : Reading} {g : Grammar} {t : Table} {m : Machine} → x ≡ whole g t → Drives g t kinds values gotos rows m
-      → MachineIs x (Ready m) kinds values gotos rows
-  machine_ready {m = m} e D = subst (λ (y : Reading). MachineIs y (Ready m) kinds values gotos rows) (sym e) (m, refl, D)
-
-  pub machine_refused : (x : Reading) {r : TableReply} {why : Refusal} → r ≡ reply_of x → r ≡ reply.Refused why → MachineIs x (Refused why) kinds values gotos rows
-  machine_refused (whole g t) e f = clash cc
-  machine_refused (rejected y) {why = why} e f = ap Refused (let q : why ≡ y = cc in q)
+pub machine_ready : {x : Reading} {g : Grammar} {t : Table} (mem : Machine) → x ≡ whole g t → Drives g t mem → MachineIs x (Ok tt) mem
+machine_ready mem e D = subst (λ (y : Reading). MachineIs y (Ok tt) mem) (sym e) (refl, D)
