@@ -6,6 +6,7 @@ use mathlib.Core.List.{List}
 use lib.Dec.{ltb}
 use lib.ListN.{length, take}
 use borrow.Author.Tests.{lt-ltb, le-ltb}
+use Rattle.std.specs.Prelude.{Result, Err, Ok}
 use Rattle.language.specs.Grammar.{Grammar}
 use Rattle.leftcorner.specs.Table.{Table}
 use Rattle.leftcorner.proofs.ReadOff.{clash}
@@ -13,12 +14,10 @@ use Rattle.reply.specs.declared.Kind.TheVariants.{LimitExceeded}
 use Rattle.reply.specs.declared.Refusal.{Refusal}
 use Rattle.reply.specs.declared.Reply.{Reply}
 use Rattle.table.specs.Book.{Reading, whole, rejected}
-use Rattle.machine.specs.declared.Machine.{Machine}
-use Rattle.machine.specs.declared.MachineReply.{MachineReply}
-use Rattle.machine.specs.declared.MachineReply.TheVariants as reply
+use Rattle.walk_tables.specs.declared.Machine.{Machine}
 use Rattle.machine.specs.Machine.{Drives, MachineIs}
 use Rattle.checker.specs.Checked.{checked_of}
-use Rattle.walker.specs.declared.Walked.{Walked}
+use Rattle.walker.specs.Walked.{Walked}
 use Rattle.session.specs.Session.{Session, refused_by, refused_at, table_session, after_books, session, Tells}
 use Rattle.session.specs.Read.{ReadIn, over_table, after_read}
 
@@ -34,18 +33,15 @@ module _ (g : Grammar) (t : Table) (n k : ℕ) {v : Reply} (w : List ℕ) {a : W
   read_walked e T = subst (λ (x : Reply). Tells (over_table n k g t x w) a stack listing) (sym e) T
 
 -- books that are refused, or loaded
-module _ (n k : ℕ) (v : Reply) (w : List ℕ) {r : MachineReply} (kinds values gotos rows : List ℕ) {a : Walked} {stack listing : List ℕ} where
-  pub books_refused : (x : Reading) {why : Refusal} → MachineIs x r kinds values gotos rows → r ≡ reply.Refused why → Tells (refused_by n k why) a stack listing
+module _ (n k : ℕ) (v : Reply) (w : List ℕ) {r : Result (Unit {0}) Refusal} (mem : Machine) {a : Walked} {stack listing : List ℕ} where
+  pub books_refused : (x : Reading) {why : Refusal} → MachineIs x r mem → r ≡ Err why → Tells (refused_by n k why) a stack listing
       → Tells (after_read n k x v w) a stack listing
-  books_refused (whole g t) i e T = let f = i.1 in clash cc
+  books_refused (whole g t) i e T = let f = i.0 in clash cc
   books_refused (rejected y) {why} i e T = subst (λ (z : Refusal). Tells (refused_by n k z) a stack listing) (let q : why ≡ y = cc in q) T
 
-  pub books_walked : (x : Reading) {m : Machine} → MachineIs x r kinds values gotos rows → r ≡ reply.Ready m
-      → ((g : Grammar) (t : Table) → Drives g t kinds values gotos rows m → Tells (over_table n k g t v w) a stack listing) → Tells (after_read n k x v w) a stack listing
-  books_walked (whole g t) {m} i e T =
-      let f = i.1 in
-      let q : i.0 ≡ m = cc in
-      T g t (subst (λ (z : Machine). Drives g t kinds values gotos rows z) q i.2)
+  pub books_walked : (x : Reading) {u : Unit {0}} → MachineIs x r mem → r ≡ Ok u
+      → ((g : Grammar) (t : Table) → Drives g t mem → Tells (over_table n k g t v w) a stack listing) → Tells (after_read n k x v w) a stack listing
+  books_walked (whole g t) i e T = T g t i.1
   books_walked (rejected y) i e T = clash cc
 
 -- the first tokens of a slice

@@ -5,6 +5,7 @@ use mathlib.Core.Path.{◌≡◌, refl, sym, ap, ap₂, ◌∙◌}
 use mathlib.Core.Logic.{inl, inr}
 use mathlib.Core.List.{List, ◌++◌}
 use lib.ListN.{length, replicate}
+use Rattle.std.specs.Prelude.{Ok}
 use Rattle.language.specs.Grammar.{Grammar, IsTerminal}
 use Rattle.language.specs.Derivation.{Tree, yield, IsTree}
 use Rattle.language.specs.Listing.{listing}
@@ -19,7 +20,6 @@ use Rattle.reply.specs.declared.Kind.TheVariants.{SyntaxError}
 use Rattle.reply.specs.Reply.{padded}
 use Rattle.checker.specs.Checked.{Accepts}
 use Rattle.checker.proofs.Exactly.{accepts, accepted_sound, exactly}
-use Rattle.walker.specs.declared.Walked.TheVariants.{Accepted}
 use Rattle.walker.specs.Walked.{as_reply}
 use Rattle.session.specs.Session.{Session, refused_at, ended_by, session}
 use Rattle.session.proofs.SessionLaws.{session_walks, ended_short, whole_is, wrong_is, whole_number, wrong_number, wrong_place}
@@ -40,7 +40,7 @@ module _ (g : Grammar) (t : Table) (w : List ℕ) (C : Claim g (automaton g t) w
       let l = C.its_listing T d y in
       whole_is n k g (length w) C.listed x C.ending ended (C.whole_exactly.1 (record { tree = T; derives = d; yields_it = y }))
       ∙ ap₂ (λ (m : List ℕ) (u : ℕ). record {
-        reply = Accepted (record { tokens = length w; rules = length m; units = u });
+        reply = Ok (record { tokens = length w; rules = length m; units = u });
         listing = m ++ replicate (k - length m) 0;
         stack = replicate n 0;
       }) l.0 l.1

@@ -8,6 +8,7 @@ use mathlib.Core.List.{List, [], ◌∷◌}
 use lib.ListN.{length, replicate}
 use lib.Dec.{ltb}
 use borrow.Author.Tests.{le-ltb, ltb-false}
+use Rattle.std.specs.Prelude.{Err}
 use Rattle.language.specs.Grammar.{Grammar, IsTerminal}
 use Rattle.language.specs.Sentence.{In, here, there}
 use Rattle.language.proofs.Member.{in_cons}
@@ -23,7 +24,6 @@ use Rattle.reply.specs.Reply.{padded}
 use Rattle.grammar.specs.Book.{on_found}
 use Rattle.table.specs.Book.{Reading, whole}
 use Rattle.checker.specs.Checked.{checked_of}
-use Rattle.walker.specs.declared.Walked.TheVariants.{Refused}
 use Rattle.walker.specs.Walked.{as_reply}
 use Rattle.stray_tokens.specs.Stray.{stray_from}
 use Rattle.session.specs.Session.{Session, refused_at, ended_by, table_session, after_books, session}
@@ -83,10 +83,10 @@ unfolding padded
 zeros k = let e : k - 0 ≡ k = omega arith in ap (λ (m : ℕ). replicate m 0) e
 
 pub ended_wrong : (n k p : ℕ) (g : Grammar) → ended_by n k g (wrong_at p) ≡ refused_at n k SyntaxError p
-ended_wrong n k p g = ap (λ (l : List ℕ). record { reply = Refused (record { kind = SyntaxError; place = p }); listing = l; stack = replicate n 0 }) (zeros k)
+ended_wrong n k p g = ap (λ (l : List ℕ). record { reply = Err (record { kind = SyntaxError; place = p }); listing = l; stack = replicate n 0 }) (zeros k)
 
 pub ended_short : (n k p : ℕ) (g : Grammar) → ended_by n k g (short_at p) ≡ refused_at n k BufferTooSmall p
-ended_short n k p g = ap (λ (l : List ℕ). record { reply = Refused (record { kind = BufferTooSmall; place = p }); listing = l; stack = replicate n 0 }) (zeros k)
+ended_short n k p g = ap (λ (l : List ℕ). record { reply = Err (record { kind = BufferTooSmall; place = p }); listing = l; stack = replicate n 0 }) (zeros k)
 
 -- a session that ended as a walk with enough lent comes back
 module _ (n k : ℕ) (g : Grammar) (count : ℕ) (l : List ℕ) (x : Session) (o : Ending) (ended : x ≡ ended_by n k g (comes_back o count l)) where

@@ -6,6 +6,7 @@ use mathlib.Core.Logic.{◌⊎◌, inl, inr}
 use mathlib.Core.Bool.{Bool, true, false, cond}
 use mathlib.Core.List.{List, [], ◌∷◌}
 use lib.ListN.{length, replicate}
+use Rattle.std.specs.Prelude.{Ok}
 use Rattle.language.specs.Grammar.{Grammar}
 use Rattle.language.specs.Listing.{units_in}
 use Rattle.language.specs.Sentence.{In}
@@ -18,11 +19,9 @@ use Rattle.range.specs.Range.{within}
 use Rattle.range.proofs.RangeLaws.{within-true}
 use Rattle.reply.specs.declared.Kind.TheVariants.{Undeclared}
 use Rattle.reply.specs.Reply.{padded}
-use Rattle.walker.specs.declared.Walked.{Walked}
-use Rattle.walker.specs.declared.Walked.TheVariants.{Accepted}
+use Rattle.walker.specs.Walked.{Walked, memory_walk, answer, listed}
 use Rattle.walk_tables.specs.Memory.{memory_grammar}
-use Rattle.walker.specs.Walked.{memory_walk, answer, listed}
-use Rattle.machine.specs.declared.Machine.{Machine}
+use Rattle.walk_tables.specs.declared.Machine.{Machine}
 use Rattle.machine.specs.Machine.{Drives}
 use Rattle.machine.proofs.DriveLaws.{walk_is}
 use Rattle.grammar.specs.Book.{on_found}
@@ -43,7 +42,7 @@ all_terminals t at (b ∷ w) e a m = go (within 1 b t) refl e (λ f. all_termina
 
 -- units are counted alike, so the walk's answer is the same
 answer_same : (g h : Grammar) → ((l : List ℕ) → units_in g l ≡ units_in h l) → (v : Verdict) → answer g v ≡ answer h v
-answer_same g h same (whole_at p l) = ap (λ (u : ℕ). Accepted (record { tokens = p; rules = length l; units = u })) (same l)
+answer_same g h same (whole_at p l) = ap (λ (u : ℕ). Ok (record { tokens = p; rules = length l; units = u })) (same l)
 answer_same g h same (wrong_at p) = refl
 answer_same g h same (short_at p) = refl
 
@@ -56,18 +55,18 @@ module _ (g : Grammar) (t : Table) where
       subst (λ (f : Found). Tells (on_found f (refused_at n k Undeclared) (ended_by n k g (walk g (automaton g t) n k w))) r stack listing) (sym e) T
 
   -- tokens that are all terminals
-  module _ {kinds values gotos rows : List ℕ} {m : Machine} (D : Drives g t kinds values gotos rows m) (n k : ℕ) (w : List ℕ)
+  module _ {mem : Machine} (D : Drives g t mem) (n k : ℕ) (w : List ℕ)
       (none : stray_from g.terminals 0 w ≡ Found.Nothing) where
-    pub walk_alike : walk g (automaton g t) n k w ≡ memory_walk kinds values gotos rows m.start n k w
+    pub walk_alike : walk g (automaton g t) n k w ≡ memory_walk mem n k w
     walk_alike = walk_is D n k w (λ a i. omega (arith, (all_terminals g.terminals 0 w none a i).1, D.few_terminals))
 
-    pub table_session_lem : {stack listing : List ℕ} {r : Walked} → r ≡ answer (memory_grammar rows) (memory_walk kinds values gotos rows m.start n k w)
-        → listing ≡ padded k (listed (memory_walk kinds values gotos rows m.start n k w)) → stack ≡ replicate n 0
+    pub table_session_lem : {stack listing : List ℕ} {r : Walked} → r ≡ answer (memory_grammar mem.rules) (memory_walk mem n k w)
+        → listing ≡ padded k (listed (memory_walk mem n k w)) → stack ≡ replicate n 0
         → Tells (table_session n k g t w) r stack listing
     unfolding table_session
     table_session_lem {stack} {listing} {r} er el es =
         subst (λ (f : Found). Tells (on_found f (refused_at n k Undeclared) (ended_by n k g (walk g (automaton g t) n k w))) r stack listing) (sym none) (record {
-          reply_is = er ∙ answer_same (memory_grammar rows) g D.units_is (memory_walk kinds values gotos rows m.start n k w) ∙ ap (answer g) (sym walk_alike);
+          reply_is = er ∙ answer_same (memory_grammar mem.rules) g D.units_is (memory_walk mem n k w) ∙ ap (answer g) (sym walk_alike);
           listing_is = el ∙ ap (λ (v : Verdict). padded k (listed v)) (sym walk_alike);
           stack_is = es;
         })

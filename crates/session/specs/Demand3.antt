@@ -1,20 +1,18 @@
 -- Demand 3 for the call that hospitals rely on. What `run_session` answers, reply, counts and both slices, is `session`
 -- (Session.antt), for all bytes and lengths; here is what the demand says of `session`, for any two books to which the checker
 -- replies 0, whoever built the tables, and any list of 0 to 65,535 tokens, each 1 to t.
-use Rattle.std.specs.Prelude.{ℕ, zero, ◌-◌, ◌≤◌, ◌<◌, ◌≡◌, ◌⊎◌, List, ◌++◌, length, replicate}
+use Rattle.std.specs.Prelude.{ℕ, zero, ◌-◌, ◌≤◌, ◌<◌, ◌≡◌, ◌⊎◌, List, ◌++◌, length, replicate, Ok, ◌↔◌}
 use Rattle.language.specs.Grammar.{Grammar, IsTerminal}
 use Rattle.language.specs.Derivation.{Tree, yield, IsTree}
 use Rattle.language.specs.Listing.{listing, units}
 use Rattle.language.specs.Sentence.{In, Sentence}
 use Rattle.leftcorner.specs.Machine.{Ending, Walk, start}
 use Rattle.leftcorner.specs.Table.{Table, automaton}
-use Rattle.std.specs.Prelude.{◌↔◌}
 use Rattle.leftcorner.specs.Claim.{WrongAt, Outgrows}
 use Rattle.reply.specs.Reply.{number_of}
 use Rattle.reply.specs.declared.Kind.TheVariants.{BufferTooSmall, SyntaxError}
 use Rattle.reply.specs.declared.Reply.TheVariants as reply
 use Rattle.checker.specs.Checked.{verdict_of, Accepts}
-use Rattle.walker.specs.declared.Walked.TheVariants.{Accepted}
 use Rattle.walker.specs.Walked.{as_reply}
 use Rattle.session.specs.Session.{Session, refused_at, session}
 
@@ -29,7 +27,7 @@ module _ (g : Grammar) (w : List ℕ) (n k : ℕ) where
   -- "Whole is reply 0 at the token count, with the derivation's number of rules, units and listing, then zeros"
   abbrev pub whole_with : Tree → Session
   whole_with T = record {
-    reply = Accepted (record { tokens = length w; rules = length (listing g T); units = units g T });
+    reply = Ok (record { tokens = length w; rules = length (listing g T); units = units g T });
     listing = listing g T ++ replicate (k - length (listing g T)) 0;
     stack = replicate n 0;
   }

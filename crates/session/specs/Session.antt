@@ -1,6 +1,6 @@
 -- A session: what is answered for two books, a list of tokens, and the lengths of the lent slices. Document 01, 'Replies': "Order:
 -- lengths; grammar lines [..]; then 5, 6; table lines likewise; then 7 to 10; then tokens by 3; then the walk".
-use Rattle.std.specs.Prelude.{ℕ, ◌≡◌, cond, List, ltb, length, replicate}
+use Rattle.std.specs.Prelude.{ℕ, ◌≡◌, cond, List, ltb, length, replicate, Err}
 use Rattle.language.specs.Grammar.{Grammar}
 use Rattle.leftcorner.specs.Table.{Table, automaton}
 use Rattle.leftcorner.specs.Machine.{Verdict, walk}
@@ -12,9 +12,7 @@ use Rattle.grammar.specs.Book.{on_found}
 use Rattle.table.specs.Book.{Reading, whole, rejected}
 use Rattle.checker.specs.Checked.{checked_of}
 use Rattle.stray_tokens.specs.Stray.{stray_from}
-use Rattle.walker.specs.declared.Walked.{Walked}
-use Rattle.walker.specs.declared.Walked.TheVariants.{Refused}
-use Rattle.walker.specs.Walked.{answer, listed}
+use Rattle.walker.specs.Walked.{Walked, answer, listed}
 
 -- the reply, which has the counts, and both slices
 pub record Session : Type 0 where
@@ -26,7 +24,7 @@ pub record Session : Type 0 where
 module _ (n k : ℕ) where
   -- "After a refusal every output slice is zeros and every count 0."
   abbrev pub refused_by : Refusal → Session
-  refused_by why = record { reply = Refused why; listing = replicate k 0; stack = replicate n 0 }
+  refused_by why = record { reply = Err why; listing = replicate k 0; stack = replicate n 0 }
 
   abbrev pub refused_at : Kind → ℕ → Session
   refused_at kind place = refused_by (record { kind = kind; place = place })

@@ -6,18 +6,17 @@ ghost use Rattle.std.specs.Prelude.{◌≡◌, length};
 ghost use Rattle.language.specs.Grammar.{Grammar};
 ghost use Rattle.leftcorner.specs.Table.{Table};
 ghost use Rattle.checker.specs.Checked.{checked_of};
-ghost use Rattle.walk_tables.specs.Memory.{Shaped};
 ghost use Rattle.machine.specs.Machine.{Drives};
 ghost use Rattle.session.specs.Session.{refused_by, table_session, session, Tells};
 ghost use Rattle.session.specs.Read.{ReadIn, over_table, after_read};
 
 use fixpoint::Found;
-use machine::{Machine, MachineReply};
 use reply::{Kind, Refusal, Reply, clear};
-use walker::Walked;
+use walk_tables::Machine;
+use walker::Tally;
 
 // Accepted, with the tokens read, the rules listed and the units among them; or refused.
-pub type SessionReply = Walked;
+pub type SessionReply = Result<Tally, Refusal>;
 
 // Refuses, with zeros in both slices.
 pub fn refuse(why: Refusal, stack: &mut [u8], listing: &mut [u8]) -> SessionReply
@@ -25,22 +24,17 @@ pub fn refuse(why: Refusal, stack: &mut [u8], listing: &mut [u8]) -> SessionRepl
 {
     clear(stack);
     clear(listing);
-    Walked::Refused(why)
+    Err(why)
 }
 
 // Walks the tokens over a machine in memory. A stray token is refused first.
 pub fn walk_machine(
-    kinds: &[u8],
-    values: &[u8],
-    gotos: &[u8],
-    rows: &[u8],
-    machine: Machine,
+    machine: &Machine,
     tokens: &[u8],
     stack: &mut [u8],
     listing: &mut [u8],
 ) -> SessionReply
-    requires { Shaped kinds.now values.now gotos.now rows.now }
-    ensures { (g : Grammar) (t : Table) → Drives g t kinds.now values.now gotos.now rows.now machine
+    ensures { (g : Grammar) (t : Table) → Drives g t machine.now
         → Tells (table_session (length stack.old) (length listing.old) g t tokens.now) result stack.new listing.new }
 {
     let stray = stray_tokens::find_stray(tokens, machine.terminals);
@@ -54,47 +48,24 @@ pub fn walk_machine(
             listing,
         );
     }
-    walker::walk_tokens(
-        kinds,
-        values,
-        gotos,
-        rows,
-        machine.start,
-        tokens,
-        stack,
-        listing,
-    )
+    walker::walk_tokens(machine, tokens, stack, listing)
 }
 
 // By what reading the tokens came to: walks so many of them over a machine in memory, or refuses.
 fn walk_read(
-    kinds: &[u8],
-    values: &[u8],
-    gotos: &[u8],
-    rows: &[u8],
-    machine: Machine,
+    machine: &Machine,
     read: Reply,
     tokens: &[u8],
     stack: &mut [u8],
     listing: &mut [u8],
 ) -> SessionReply
-    requires shaped { Shaped kinds.now values.now gotos.now rows.now }
-    requires read_in { ReadIn read tokens.now }
-    ensures { (g : Grammar) (t : Table) → Drives g t kinds.now values.now gotos.now rows.now machine
+    requires { ReadIn read tokens.now }
+    ensures { (g : Grammar) (t : Table) → Drives g t machine.now
         → Tells (over_table (length stack.old) (length listing.old) g t read tokens.now) result stack.new listing.new }
 {
     match read {
         Reply::Refused(why) => refuse(why, stack, listing),
-        Reply::Accepted(count) => walk_machine(
-            kinds,
-            values,
-            gotos,
-            rows,
-            machine,
-            &tokens[..count],
-            stack,
-            listing,
-        ),
+        Reply::Accepted(count) => walk_machine(machine, &tokens[..count], stack, listing),
     }
 }
 
@@ -110,25 +81,11 @@ pub fn walk_books(
     requires { ReadIn read tokens.now }
     ensures { Tells (after_read (length stack.old) (length listing.old) (checked_of grammar.now tables.now) read tokens.now) result stack.new listing.new }
 {
-    let mut kinds = [0u8; machine::CELLS];
-    let mut values = [0u8; machine::CELLS];
-    let mut gotos = [0u8; machine::CELLS];
-    let mut rows = [0u8; machine::ROWS];
+    let mut machine = Machine::zeros();
     let mut work = [0u8; machine::WORK];
-    let loaded = machine::load_machine(
-        grammar,
-        tables,
-        &mut kinds,
-        &mut values,
-        &mut gotos,
-        &mut rows,
-        &mut work,
-    );
-    match loaded {
-        MachineReply::Refused(why) => refuse(why, stack, listing),
-        MachineReply::Ready(machine) => walk_read(
-            &kinds, &values, &gotos, &rows, machine, read, tokens, stack, listing,
-        ),
+    match machine::load_machine(grammar, tables, &mut machine, &mut work) {
+        Err(why) => refuse(why, stack, listing),
+        Ok(()) => walk_read(&machine, read, tokens, stack, listing),
     }
 }
 

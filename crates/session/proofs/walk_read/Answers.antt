@@ -8,7 +8,7 @@ use Rattle.session.proofs.walk_read.Goals as goal
 pub slice_bounds-walk_machine-end : goal.slice_bounds-walk_machine-end
 slice_bounds-walk_machine-end c =
     let w = c.args.tokens.now in
-    sym (length-take-le _ w (read_within w c.in-Accepted.is c.requires.read_in))
+    sym (length-take-le _ w (read_within w c.in-Accepted.is c.requires))
 
 pub returns-in-Refused : goal.returns-in-Refused
 returns-in-Refused c = λ g t D.
