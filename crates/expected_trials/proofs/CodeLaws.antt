@@ -1,32 +1,31 @@
 -- What the code has found, against the definition.
-use Prim.Native.Nat.{ℕ, zero, suc, ◌+◌, ◌-◌, ◌≤◌, ◌<◌}
+use Prim.Native.Nat.{ℕ, suc, ◌+◌, ◌-◌, ◌≤◌, ◌<◌}
 use native.Mathlib.Omega.{arith}
 use mathlib.Core.Path.{◌≡◌, refl, sym, ap, subst, ◌∙◌}
 use mathlib.Core.Bool.{Bool, cond}
 use mathlib.Core.List.{List, [], ◌∷◌, ◌++◌, append-nil, append_assoc}
 use borrow.Author.Tests.{le-leb, lt-leb}
 use lib.ListN.{length, set, replicate, length-append}
+use Rattle.std.specs.Prelude.{Ok}
 use Rattle.reply.specs.Reply.{padded}
 use Rattle.walker.specs.Walked.{memory_walk}
-use Rattle.machine.specs.declared.Machine.{Machine}
+use Rattle.walk_tables.specs.declared.Machine.{Machine}
 use Rattle.expected_trial.specs.declared.Trial.{Trial}
 use Rattle.expected_trial.specs.declared.Trial.TheVariants.{Fits, Misfit, Outgrown}
 use Rattle.expected_trial.specs.Trial.{as_tokens, trial_of}
-use Rattle.expected_trials.specs.declared.ExpectedReply.{ExpectedReply}
-use Rattle.expected_trials.specs.declared.ExpectedReply.TheVariants.{Listed}
-use Rattle.expected_trials.specs.Trials.{Expected, Tried, lacking, fitting, noted, tried, short_at, listed_at, answered_at, ListTold}
+use Rattle.expected_trials.specs.Trials.{ExpectedReply, Expected, Tried, lacking, fitting, noted, tried, short_at, listed_at, answered_at, ListTold}
 
 -- ---- the trials that the code makes, after tokens u
 
-abbrev pub trials : List ℕ → List ℕ → List ℕ → List ℕ → Machine → ℕ → ℕ → ℕ → List ℕ → ℕ → Trial
-trials kinds values gotos rows m n k p u c = trial_of p (memory_walk kinds values gotos rows m.start n k (u ++ as_tokens c))
+abbrev pub trials : Machine → ℕ → ℕ → ℕ → List ℕ → ℕ → Trial
+trials mem n k p u c = trial_of p (memory_walk mem n k (u ++ as_tokens c))
 
-module _ (kinds values gotos rows : List ℕ) (m : Machine) {n k i j : ℕ} {u v : List ℕ} (p : ℕ) (ns : i ≡ n) (ks : j ≡ k) (us : v ≡ u) where
+module _ (mem : Machine) {n k i j : ℕ} {u v : List ℕ} (p : ℕ) (ns : i ≡ n) (ks : j ≡ k) (us : v ≡ u) where
   -- slices that kept their lengths, and tokens that stand where they stood
-  pub told_is : {x : Trial} (c : ℕ) → x ≡ trials kinds values gotos rows m i j p v c → trials kinds values gotos rows m n k p u c ≡ x
+  pub told_is : {x : Trial} (c : ℕ) → x ≡ trials mem i j p v c → trials mem n k p u c ≡ x
   told_is c e =
-      sym (e ∙ ap (λ (l : ℕ). trials kinds values gotos rows m l j p v c) ns ∙ ap (λ (l : ℕ). trials kinds values gotos rows m n l p v c) ks
-      ∙ ap (λ (l : List ℕ). trials kinds values gotos rows m n k p l c) us)
+      sym (e ∙ ap (λ (l : ℕ). trials mem l j p v c) ns ∙ ap (λ (l : ℕ). trials mem n l p v c) ks
+      ∙ ap (λ (l : List ℕ). trials mem n k p l c) us)
 
 -- ---- trials in a row, with the codes that fit noted so far
 
@@ -55,42 +54,39 @@ note room l c h =
     ap (λ (i : ℕ). set (l ++ replicate i 0) (length l) c) d ∙ set_zero l (room - suc (length l)) c ∙ ap (λ (i : ℕ). (l ++ c ∷ []) ++ replicate i 0) e
 
 module _ (f : ℕ → Trial) (total room p : ℕ) where
-  pub record Noting (codes : List ℕ) (count code left : ℕ) : Type 0 where
+  pub record Noting (codes : List ℕ) (count code : ℕ) : Type 0 where
     pub list : List ℕ
     pub counted : length list ≡ count
     pub within : count ≤ room
     pub held : codes ≡ padded room list
-    pub rest : tried f total 0 ≡ before list (tried f left code)
+    pub rest : tried f total 0 ≡ before list (tried f (total - code) code)
 
-  pub noting_start : {codes : List ℕ} {left : ℕ} → codes ≡ replicate room 0 → left ≡ total → Noting codes 0 0 left
+  pub noting_start : {codes : List ℕ} → codes ≡ replicate room 0 → Noting codes 0 0
   unfolding padded
-  noting_start {left = left} e l = record {
+  noting_start e = record {
     list = [];
     counted = refl;
     within = omega arith;
     held = e ∙ (let z : room ≡ room - 0 = omega arith in ap (λ (i : ℕ). replicate i 0) z);
-    rest = before_none (tried f total 0) ∙ ap (λ (i : ℕ). before [] (tried f i 0)) (sym l);
+    rest = before_none (tried f total 0) ∙ (let z : total ≡ total - 0 = omega arith in ap (λ (i : ℕ). before [] (tried f i 0)) z);
   }
 
-  module _ {codes : List ℕ} {count code left : ℕ} (N : Noting codes count code left) (some : 0 < left) where
+  module _ {codes : List ℕ} {count code : ℕ} (N : Noting codes count code) (some : code < total) where
     -- the next trial
-    stepped : {x : Trial} → f code ≡ x → tried f total 0 ≡ before N.list (noted x code (tried f (left - 1) (code + 1)))
+    stepped : {x : Trial} → f code ≡ x → tried f total 0 ≡ before N.list (noted x code (tried f (total - (code + 1)) (code + 1)))
     unfolding tried
-    stepped {x} e = N.rest ∙ go left some
-      where
-        go : (i : ℕ) → 0 < i → before N.list (tried f i code) ≡ before N.list (noted x code (tried f (i - 1) (code + 1)))
-        go zero h = absurd (omega (arith, h))
-        go (suc i) h =
-            let z : suc code ≡ code + 1 = omega arith in
-            let y : i ≡ suc i - 1 = omega arith in
-            ap (λ (t : Trial). before N.list (noted t code (tried f i (suc code)))) e
-            ∙ ap (λ (c : ℕ). before N.list (noted x code (tried f i c))) z
-            ∙ ap (λ (j : ℕ). before N.list (noted x code (tried f j (code + 1)))) y
+    stepped {x} e =
+        let left : total - code ≡ suc (total - (code + 1)) = omega (arith, some) in
+        let next : suc code ≡ code + 1 = omega arith in
+        N.rest
+        ∙ ap (λ (i : ℕ). before N.list (tried f i code)) left
+        ∙ ap (λ (t : Trial). before N.list (noted t code (tried f (total - (code + 1)) (suc code)))) e
+        ∙ ap (λ (c : ℕ). before N.list (noted x code (tried f (total - (code + 1)) c))) next
 
-    pub noting_misfit : f code ≡ Misfit → Noting codes count (code + 1) (left - 1)
+    pub noting_misfit : f code ≡ Misfit → Noting codes count (code + 1)
     noting_misfit e = record { list = N.list; counted = N.counted; within = N.within; held = N.held; rest = stepped e }
 
-    pub noting_fits : f code ≡ Fits → count < room → Noting (set codes count code) (count + 1) (code + 1) (left - 1)
+    pub noting_fits : f code ≡ Fits → count < room → Noting (set codes count code) (count + 1) (code + 1)
     noting_fits e h =
         let c = N.counted in
         record {
@@ -98,7 +94,7 @@ module _ (f : ℕ → Trial) (total room p : ℕ) where
           counted = omega (arith, c, length-append N.list (code ∷ []));
           within = omega (arith, h);
           held = ap (λ (l : List ℕ). set l count code) N.held ∙ ap (λ (i : ℕ). set (padded room N.list) i code) (sym c) ∙ note room N.list code (omega (arith, c, h));
-          rest = stepped e ∙ before_fits N.list code (tried f (left - 1) (code + 1));
+          rest = stepped e ∙ before_fits N.list code (tried f (total - (code + 1)) (code + 1));
         }
 
     pub noting_outgrown : f code ≡ Outgrown → answered_at room p (tried f total 0) ≡ short_at room p
@@ -106,7 +102,7 @@ module _ (f : ℕ → Trial) (total room p : ℕ) where
 
     -- a list with one code more than there is room
     pub noting_full : f code ≡ Fits → room ≤ count → answered_at room p (tried f total 0) ≡ short_at room p
-    noting_full e h = ap (answered_at room p) (stepped e ∙ before_fits N.list code (tried f (left - 1) (code + 1))) ∙ go (tried f (left - 1) (code + 1))
+    noting_full e h = ap (answered_at room p) (stepped e ∙ before_fits N.list code (tried f (total - (code + 1)) (code + 1))) ∙ go (tried f (total - (code + 1)) (code + 1))
       where
         go : (x : Tried) → answered_at room p (before (N.list ++ code ∷ []) x) ≡ short_at room p
         go lacking = refl
@@ -116,15 +112,20 @@ module _ (f : ℕ → Trial) (total room p : ℕ) where
             let long : room < length ((N.list ++ code ∷ []) ++ r) = omega (arith, a, b, N.counted, h) in
             simp (lt-leb (length ((N.list ++ code ∷ []) ++ r)) room long)
 
-  pub noting_end : {codes : List ℕ} {count code left : ℕ} → Noting codes count code left → left ≡ 0
-      → ListTold (answered_at room p (tried f total 0)) (Listed (record { place = p; codes = count })) codes
+  -- names for the same list and count
+  pub noting_same : {codes codes' : List ℕ} {count count' code : ℕ} → codes' ≡ codes → count' ≡ count → Noting codes count code → Noting codes' count' code
+  noting_same e h N = record { list = N.list; counted = N.counted ∙ sym h; within = omega (arith, h, N.within); held = e ∙ N.held; rest = N.rest }
+
+  pub noting_end : {codes : List ℕ} {count code : ℕ} → Noting codes count code → code ≡ total
+      → ListTold (answered_at room p (tried f total 0)) (Ok (record { place = p; codes = count })) codes
   unfolding tried
-  noting_end {codes} {count} {code} {left} N e =
-      let z : tried f total 0 ≡ fitting N.list = N.rest ∙ ap (λ (i : ℕ). before N.list (tried f i code)) e ∙ ap fitting (append-nil N.list) in
+  noting_end {codes} {count} {code} N e =
+      let none : total - code ≡ 0 = omega (arith, e) in
+      let z : tried f total 0 ≡ fitting N.list = N.rest ∙ ap (λ (i : ℕ). before N.list (tried f i code)) none ∙ ap fitting (append-nil N.list) in
       let x : answered_at room p (tried f total 0) ≡ listed_at room p N.list =
       ap (answered_at room p) z ∙ ap (λ (b : Bool). cond b (listed_at room p N.list) (short_at room p)) (le-leb (length N.list) room (omega (arith, N.counted, N.within))) in
       record {
-        reply_is = ap (λ (i : ℕ). Listed (record { place = p; codes = i })) (sym N.counted) ∙ sym (ap (λ (y : Expected). y.reply) x);
+        reply_is = ap (λ (i : ℕ). Ok (record { place = p; codes = i })) (sym N.counted) ∙ sym (ap (λ (y : Expected). y.reply) x);
         codes_is = N.held ∙ sym (ap (λ (y : Expected). y.codes) x);
       }
 
@@ -133,8 +134,8 @@ pub short_told : (room i p : ℕ) {x : Expected} {r : ExpectedReply} {codes : Li
 short_told room i p {r = r} {codes = codes} e h t = subst (λ (y : Expected). ListTold y r codes) (ap (λ (j : ℕ). short_at j p) e ∙ sym h) t
 
 -- a list, told of tokens that are the same
-pub list_told : (kinds values gotos rows : List ℕ) (m : Machine) (n k p room : ℕ) {u v : List ℕ} {r : ExpectedReply} {codes : List ℕ} → u ≡ v
-    → ListTold (answered_at room p (tried (trials kinds values gotos rows m n k p u) (suc m.terminals) 0)) r codes
-    → ListTold (answered_at room p (tried (trials kinds values gotos rows m n k p v) (suc m.terminals) 0)) r codes
-list_told kinds values gotos rows m n k p room {r = r} {codes = codes} e t =
-    subst (λ (u : List ℕ). ListTold (answered_at room p (tried (trials kinds values gotos rows m n k p u) (suc m.terminals) 0)) r codes) e t
+pub list_told : (mem : Machine) (n k p room : ℕ) {u v : List ℕ} {r : ExpectedReply} {codes : List ℕ} → u ≡ v
+    → ListTold (answered_at room p (tried (trials mem n k p u) (suc mem.terminals) 0)) r codes
+    → ListTold (answered_at room p (tried (trials mem n k p v) (suc mem.terminals) 0)) r codes
+list_told mem n k p room {r = r} {codes = codes} e t =
+    subst (λ (u : List ℕ). ListTold (answered_at room p (tried (trials mem n k p u) (suc mem.terminals) 0)) r codes) e t

@@ -1,12 +1,15 @@
 -- Trials of codes after the first tokens, and the list that they come to. Document 02, S-1.
-use Rattle.std.specs.Prelude.{ℕ, zero, suc, ◌≡◌, cond, List, [], ◌∷◌, leb, length, replicate}
+use Rattle.std.specs.Prelude.{ℕ, zero, suc, ◌≡◌, cond, List, [], ◌∷◌, leb, length, replicate, Result, Ok, Err}
 use Rattle.reply.specs.declared.Kind.TheVariants.{BufferTooSmall}
 use Rattle.reply.specs.declared.Refusal.{Refusal}
 use Rattle.reply.specs.Reply.{padded}
 use Rattle.expected_trial.specs.declared.Trial.{Trial}
 use Rattle.expected_trial.specs.declared.Trial.TheVariants.{Fits, Misfit, Outgrown}
-use Rattle.expected_trials.specs.declared.ExpectedReply.{ExpectedReply}
-use Rattle.expected_trials.specs.declared.ExpectedReply.TheVariants.{Listed, Refused}
+use Rattle.expected_trials.specs.declared.Listed.{Listed}
+
+-- the place and the count of a list, or a refusal
+abbrev pub ExpectedReply : Type 0
+ExpectedReply = Result Listed Refusal
 
 -- the reply, which has the place and the count, and the list slice; stack and listing are zeros after every reply
 pub record Expected : Type 0 where
@@ -35,7 +38,7 @@ tried trial (suc left) c = noted (trial c) c (tried trial left (suc c))
 module _ (room : ℕ) where
   -- "other replies are handed on"; "After a refusal every output slice is zeros and every count 0."
   abbrev pub refused_by : Refusal → Expected
-  refused_by why = record { reply = Refused why; codes = replicate room 0 }
+  refused_by why = record { reply = Err why; codes = replicate room 0 }
 
   -- "A short slip [..]; its place is p for a trial or the list."
   abbrev pub short_at : ℕ → Expected
@@ -43,7 +46,7 @@ module _ (room : ℕ) where
 
   -- "With a list the call's own reply is 0, its place p"; the list is followed by zeros
   abbrev pub listed_at : ℕ → List ℕ → Expected
-  listed_at p l = record { reply = Listed (record { place = p; codes = length l }); codes = padded room l }
+  listed_at p l = record { reply = Ok (record { place = p; codes = length l }); codes = padded room l }
 
   -- "or that the list outgrows its slice"
   abbrev pub answered_at : ℕ → Tried → Expected
