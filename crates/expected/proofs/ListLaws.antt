@@ -4,11 +4,13 @@ use native.Mathlib.Omega.{arith}
 use mathlib.Core.Logic.{◌⊎◌, inl, inr}
 use mathlib.Core.Path.{◌≡◌, refl, sym, ap, subst, ◌∙◌}
 use mathlib.Core.Bool.{Bool, true, false, cond}
-use mathlib.Core.List.{List, [], ◌∷◌, ◌++◌}
+use mathlib.Core.List.{List, [], ◌++◌}
 use borrow.Author.Tests.{lt-ltb, le-ltb}
 use lib.Dec.{eqb}
-use lib.ListN.{length, get_or, take, drop, set, replicate, take-append-drop}
-use lib.Seq.{take-suc, take-suc-set}
+use lib.ListN.{length, take, drop, replicate, take-append-drop}
+use lib.Seq.{length-take-le, take_all}
+use Rattle.std.proofs.lemmas.List.{take-append-le}
+use Rattle.std.specs.Prelude.{Result, Ok, Err}
 use Rattle.language.specs.Grammar.{Grammar}
 use Rattle.language.specs.Sentence.{In}
 use Rattle.language.proofs.Member.{in_left, in_either, in_cons}
@@ -26,13 +28,9 @@ use Rattle.table.specs.Book.{Reading, whole, rejected}
 use Rattle.checker.specs.Checked.{checked_of}
 use Rattle.stray_tokens.specs.Stray.{stray_from}
 use Rattle.walker.specs.declared.Tally.{Tally}
-use Rattle.walker.specs.declared.Walked.{Walked}
-use Rattle.walker.specs.declared.Walked.TheVariants as walked
-use Rattle.walker.specs.Walked.{memory_walk, answer, as_reply}
+use Rattle.walker.specs.Walked.{Walked, memory_walk, answer, as_reply}
 use Rattle.walker.proofs.RunLaws.{memory_place}
-use Rattle.machine.specs.declared.Machine.{Machine}
-use Rattle.machine.specs.declared.MachineReply.{MachineReply}
-use Rattle.machine.specs.declared.MachineReply.TheVariants as reply
+use Rattle.walk_tables.specs.declared.Machine.{Machine}
 use Rattle.machine.specs.Machine.{Drives, MachineIs}
 use Rattle.machine.proofs.DriveLaws.{walk_is}
 use Rattle.session.specs.Session.{Session, refused_at, ended_by, table_session, after_books, session}
@@ -41,26 +39,23 @@ use Rattle.session.proofs.SessionLaws.{ended_wrong, ended_short}
 use Rattle.session.proofs.TableLaws.{all_terminals, walk_alike}
 use Rattle.expected_trial.specs.declared.Trial.{Trial}
 use Rattle.expected_trial.specs.Trial.{as_tokens, trial_of}
-use Rattle.expected_trials.specs.declared.ExpectedReply.{ExpectedReply}
-use Rattle.expected_trials.specs.declared.ExpectedReply.TheVariants.{Refused}
-use Rattle.expected_trials.specs.Trials.{Expected, noted, tried, refused_by, answered_at, ListTold}
+use Rattle.expected_trials.specs.Trials.{ExpectedReply, Expected, noted, tried, refused_by, answered_at, ListTold}
 use Rattle.expected_trials.proofs.CodeLaws.{trials}
 use Rattle.expected.specs.Expected.{EndsAt, on_reply, list_for, expected, Driven, Tells}
 use Rattle.expected.specs.Read.{over_table, after_read}
 use Rattle.expected.proofs.PlaceLaws.{on_ends, on_others}
 
--- one token more is copied
-pub copied_more : (l out : List ℕ) (i : ℕ) → i < length l → i < length out → take i out ≡ take i l → take (i + 1) (set out i (get_or l i 0)) ≡ take (i + 1) l
-copied_more l out i h k e =
-    let z : i + 1 ≡ suc i = omega arith in
-    ap (λ (j : ℕ). take j (set out i (get_or l i 0))) z ∙ take-suc-set out i (get_or l i 0) k ∙ ap (λ (m : List ℕ). m ++ get_or l i 0 ∷ []) e
-    ∙ sym (take-suc l i 0 h) ∙ ap (λ (j : ℕ). take j l) (sym z)
+-- the first tokens, copied to the front
+pub copied_front : (p : ℕ) (w rest : List ℕ) {s : List ℕ} → p ≤ length w → s ≡ take p w → take p (s ++ rest) ≡ take p w
+copied_front p w rest h e =
+    let l : length (take p w) ≡ p = length-take-le p w h in
+    ap (λ (s : List ℕ). take p (s ++ rest)) e ∙ take-append-le p (take p w) rest (omega (arith, l)) ∙ take_all p (take p w) (omega (arith, l))
 
 -- ---- replies 0 and 12
-pub ends_whole : {r : Walked} {tally : Tally} → r ≡ walked.Accepted tally → EndsAt r tally.tokens
+pub ends_whole : {r : Walked} {tally : Tally} → r ≡ Ok tally → EndsAt r tally.tokens
 ends_whole {tally = tally} e = subst (λ (r : Walked). EndsAt r tally.tokens) (sym e) (inl refl, refl)
 
-pub ends_wrong : {r : Walked} {why : Refusal} → r ≡ walked.Refused why → kind_number why.kind ≡ 12 → EndsAt r why.place
+pub ends_wrong : {r : Walked} {why : Refusal} → r ≡ Err why → kind_number why.kind ≡ 12 → EndsAt r why.place
 ends_wrong {why = why} e h = subst (λ (r : Walked). EndsAt r why.place) (sym e) (inr h, refl)
 
 answer_place : (g : Grammar) (v : Verdict) → place_of (as_reply (answer g v)) ≡ end_place v
@@ -94,22 +89,22 @@ module _ (g : Grammar) (t : Table) (n k : ℕ) (w : List ℕ) where
       go (Found.At p) e = strays p (ap by e)
 
   -- a refusal leaves zeros
-  pub refused_is : {r : Walked} {why : Refusal} → r ≡ (table_session n k g t w).reply → r ≡ walked.Refused why → table_session n k g t w ≡ session.refused_by n k why
+  pub refused_is : {r : Walked} {why : Refusal} → r ≡ (table_session n k g t w).reply → r ≡ Err why → table_session n k g t w ≡ session.refused_by n k why
   refused_is {r} {why} s e = go kept
     where
-      from_answer : (v : Verdict) → answer g v ≡ walked.Refused why → ended_by n k g v ≡ session.refused_by n k why
+      from_answer : (v : Verdict) → answer g v ≡ Err why → ended_by n k g v ≡ session.refused_by n k why
       from_answer (whole_at p l) h = clash cc
       from_answer (wrong_at p) h = ended_wrong n k p g ∙ ap (session.refused_by n k) cc
       from_answer (short_at p) h = ended_short n k p g ∙ ap (session.refused_by n k) cc
 
-      reply_is : (table_session n k g t w).reply ≡ walked.Refused why
+      reply_is : (table_session n k g t w).reply ≡ Err why
       reply_is = sym s ∙ e
 
       go : Kept → table_session n k g t w ≡ session.refused_by n k why
       go (walks h none) = h ∙ from_answer (walk g (automaton g t) n k w) (sym (ap (λ (x : Session). x.reply) h) ∙ reply_is)
       go (strays p h) = let z = sym (ap (λ (x : Session). x.reply) h) ∙ reply_is in h ∙ ap (session.refused_by n k) cc
 
-  module _ {kinds values gotos rows : List ℕ} {m : Machine} (D : Drives g t kinds values gotos rows m) {r : Walked} (told : r ≡ (table_session n k g t w).reply)
+  module _ {mem : Machine} (D : Drives g t mem) {r : Walked} (told : r ≡ (table_session n k g t w).reply)
       (p : ℕ) (ends : EndsAt r p) where
     -- it is the walk that ended so
     walked_so : (stray_from g.terminals 0 w ≡ Found.Nothing) × (r ≡ answer g (walk g (automaton g t) n k w))
@@ -127,8 +122,8 @@ module _ (g : Grammar) (t : Table) (n k : ℕ) (w : List ℕ) where
     ends_within =
         let v = walk g (automaton g t) n k w in
         let at : p ≡ end_place v = sym (subst (λ (x : Walked). EndsAt x p) walked_so.1 ends).1 ∙ answer_place g v in
-        let low = memory_place kinds values gotos rows m.start n k w in
-        let same : end_place v ≡ end_place (memory_walk kinds values gotos rows m.start n k w) = ap end_place (walk_alike g t D n k w walked_so.0) in
+        let low = memory_place mem n k w in
+        let same : end_place v ≡ end_place (memory_walk mem n k w) = ap end_place (walk_alike g t D n k w walked_so.0) in
         omega (arith, at, low, same)
 
     -- every token of a trial fits the machine
@@ -148,13 +143,13 @@ module _ (g : Grammar) (t : Table) (n k : ℕ) (w : List ℕ) where
 
     -- the trials of the machine are those of the table
     pub list_is : (room : ℕ) → on_reply room (table_session n k g t w).reply (list_for room n k (whole g t) w)
-        ≡ answered_at room p (tried (trials kinds values gotos rows m n k p (take p w)) (suc m.terminals) 0)
+        ≡ answered_at room p (tried (trials mem n k p (take p w)) (suc mem.terminals) 0)
     unfolding list_for
     list_is room =
         on_ends room (list_for room n k (whole g t) w) (table_session n k g t w).reply p (subst (λ (x : Walked). EndsAt x p) told ends)
-        ∙ ap (answered_at room p) (tried_alike (λ c. trial_of p (walk g (automaton g t) n k (take p w ++ as_tokens c))) (trials kinds values gotos rows m n k p (take p w)) (suc g.terminals) 0
+        ∙ ap (answered_at room p) (tried_alike (λ c. trial_of p (walk g (automaton g t) n k (take p w ++ as_tokens c))) (trials mem n k p (take p w)) (suc g.terminals) 0
         (λ x l. ap (trial_of p) (walk_is D n k (take p w ++ as_tokens x) (trial_low x (omega (arith, l))))))
-        ∙ ap (λ (i : ℕ). answered_at room p (tried (trials kinds values gotos rows m n k p (take p w)) (suc i) 0)) (sym D.terminals_is)
+        ∙ ap (λ (i : ℕ). answered_at room p (tried (trials mem n k p (take p w)) (suc i) 0)) (sym D.terminals_is)
 
 -- ---- answers told of equal answers
 pub tells_as : {n k i j : ℕ} {x y : Expected} {r : ExpectedReply} {stack listing codes : List ℕ} → i ≡ n → j ≡ k → y ≡ x → Tells i j x r stack listing codes
@@ -166,17 +161,17 @@ tells_as {r = r} {codes = codes} ns ks e T = record {
 }
 
 -- the list, told with the lengths that the slices have kept
-pub listed_told : (kinds values gotos rows : List ℕ) (m : Machine) {n k i j : ℕ} (p room : ℕ) (u : List ℕ) {y : Expected} {r : ExpectedReply} {stack listing codes : List ℕ}
-    → i ≡ n → j ≡ k → y ≡ answered_at room p (tried (trials kinds values gotos rows m n k p u) (suc m.terminals) 0)
-    → Tells i j (answered_at room p (tried (trials kinds values gotos rows m i j p u) (suc m.terminals) 0)) r stack listing codes → Tells n k y r stack listing codes
-listed_told kinds values gotos rows m {n} {k} {i} {j} p room u ns ks e T =
+pub listed_told : (mem : Machine) {n k i j : ℕ} (p room : ℕ) (u : List ℕ) {y : Expected} {r : ExpectedReply} {stack listing codes : List ℕ}
+    → i ≡ n → j ≡ k → y ≡ answered_at room p (tried (trials mem n k p u) (suc mem.terminals) 0)
+    → Tells i j (answered_at room p (tried (trials mem i j p u) (suc mem.terminals) 0)) r stack listing codes → Tells n k y r stack listing codes
+listed_told mem {n} {k} {i} {j} p room u ns ks e T =
     tells_as ns ks
-    (e ∙ sym (ap (λ (l : ℕ). answered_at room p (tried (trials kinds values gotos rows m l j p u) (suc m.terminals) 0)) ns
-    ∙ ap (λ (l : ℕ). answered_at room p (tried (trials kinds values gotos rows m n l p u) (suc m.terminals) 0)) ks)) T
+    (e ∙ sym (ap (λ (l : ℕ). answered_at room p (tried (trials mem l j p u) (suc mem.terminals) 0)) ns
+    ∙ ap (λ (l : ℕ). answered_at room p (tried (trials mem n l p u) (suc mem.terminals) 0)) ks)) T
 
 -- another reply, handed on
 pub others_told : (n k room : ℕ) {x : Session} {why : Refusal} {stack listing codes : List ℕ} (list : ℕ → Expected) {r : Walked} → session.Tells x r stack listing
-    → x ≡ session.refused_by n k why → (kind_number why.kind ≡ 12 → ⊥) → codes ≡ replicate room 0 → Tells n k (on_reply room x.reply list) (Refused why) stack listing codes
+    → x ≡ session.refused_by n k why → (kind_number why.kind ≡ 12 → ⊥) → codes ≡ replicate room 0 → Tells n k (on_reply room x.reply list) (Err why) stack listing codes
 others_told n k room {x} {why} list T e other zeros =
     tells_as refl refl (ap (λ (y : Session). on_reply room y.reply list) e ∙ on_others room list why other) (record {
       told = record { reply_is = refl; codes_is = zeros };
@@ -201,27 +196,21 @@ cond_both : {A : Type 0} (b : Bool) (x : A) → cond b x x ≡ x
 cond_both true x = refl
 cond_both false x = refl
 
-module _ (kinds values gotos rows : List ℕ) {r : MachineReply} where
-  pub driven : (x : Reading) {m : Machine} → MachineIs x r kinds values gotos rows → r ≡ reply.Ready m → Driven kinds values gotos rows m
-  driven (whole g t) {m} i e =
-      let f = i.1 in
-      let q : i.0 ≡ m = cc in
-      (g, t, subst (λ (z : Machine). Drives g t kinds values gotos rows z) q i.2)
+module _ (mem : Machine) {r : Result (Unit {0}) Refusal} where
+  pub driven : (x : Reading) {u : Unit {0}} → MachineIs x r mem → r ≡ Ok u → Driven mem
+  driven (whole g t) i e = (g, t, i.1)
   driven (rejected y) i e = clash cc
 
   module _ (n k room : ℕ) (v : Reply) (w : List ℕ) {a : ExpectedReply} {stack listing codes : List ℕ} where
-    pub books_refused : (x : Reading) {why : Refusal} → MachineIs x r kinds values gotos rows → r ≡ reply.Refused why → Tells n k (refused_by room why) a stack listing codes
+    pub books_refused : (x : Reading) {why : Refusal} → MachineIs x r mem → r ≡ Err why → Tells n k (refused_by room why) a stack listing codes
         → Tells n k (after_read n k room x v w) a stack listing codes
-    books_refused (whole g t) i e T = let f = i.1 in clash cc
+    books_refused (whole g t) i e T = let f = i.0 in clash cc
     books_refused (rejected y) {why} i e T = tells_as refl refl (let q : why ≡ y = cc in ap (refused_by room) (sym q)) T
 
-    pub books_listed : (x : Reading) {m : Machine} → MachineIs x r kinds values gotos rows → r ≡ reply.Ready m
-        → ((g : Grammar) (t : Table) → Drives g t kinds values gotos rows m → Tells n k (over_table n k room g t v w) a stack listing codes)
+    pub books_listed : (x : Reading) {u : Unit {0}} → MachineIs x r mem → r ≡ Ok u
+        → ((g : Grammar) (t : Table) → Drives g t mem → Tells n k (over_table n k room g t v w) a stack listing codes)
         → Tells n k (after_read n k room x v w) a stack listing codes
-    books_listed (whole g t) {m} i e T =
-        let f = i.1 in
-        let q : i.0 ≡ m = cc in
-        T g t (subst (λ (z : Machine). Drives g t kinds values gotos rows z) q i.2)
+    books_listed (whole g t) i e T = T g t i.1
     books_listed (rejected y) i e T = clash cc
 
 -- the first tokens of a slice

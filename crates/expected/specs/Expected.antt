@@ -1,5 +1,5 @@
 -- What could have come: the answer for two books, a list of tokens, and the lengths of the lent slices. Document 02, S-1.
-use Rattle.std.specs.Prelude.{ℕ, suc, ◌≡◌, ◌⊎◌, cond, List, ◌++◌, eqb, take, replicate}
+use Rattle.std.specs.Prelude.{ℕ, suc, ◌≡◌, ◌⊎◌, cond, List, ◌++◌, eqb, take, replicate, Ok, Err}
 use Rattle.language.specs.Grammar.{Grammar}
 use Rattle.leftcorner.specs.Machine.{walk}
 use Rattle.leftcorner.specs.Table.{Table, automaton}
@@ -8,16 +8,13 @@ use Rattle.reply.specs.declared.Reply.{Reply}
 use Rattle.reply.specs.declared.Reply.TheVariants as reply
 use Rattle.table.specs.Book.{Reading, whole, rejected}
 use Rattle.checker.specs.Checked.{checked_of}
-use Rattle.walker.specs.declared.Walked.{Walked}
-use Rattle.walker.specs.declared.Walked.TheVariants as walked
+use Rattle.walker.specs.Walked.{Walked}
 use Rattle.walker.specs.Walked as walker
-use Rattle.machine.specs.declared.Machine.{Machine}
+use Rattle.walk_tables.specs.declared.Machine.{Machine}
 use Rattle.machine.specs.Machine.{Drives}
 use Rattle.session.specs.Session.{session}
 use Rattle.expected_trial.specs.Trial.{as_tokens, trial_of}
-use Rattle.expected_trials.specs.declared.ExpectedReply.{ExpectedReply}
-use Rattle.expected_trials.specs.declared.ExpectedReply.TheVariants.{Listed, Refused}
-use Rattle.expected_trials.specs.Trials.{Expected, tried, refused_by, answered_at, ListTold}
+use Rattle.expected_trials.specs.Trials.{ExpectedReply, Expected, tried, refused_by, answered_at, ListTold}
 
 -- "tokens whose reply is 0 or 12 at place p"
 abbrev pub EndsAt : Walked → ℕ → Type 0
@@ -27,8 +24,8 @@ EndsAt r p = ((number_of (walker.as_reply r) ≡ 0) ⊎ (number_of (walker.as_re
 module _ (room : ℕ) where
   -- a list where the session's reply is such; another is handed on
   abbrev pub on_reply : Walked → (ℕ → Expected) → Expected
-  on_reply (walked.Accepted tally) list = list tally.tokens
-  on_reply (walked.Refused why) list = cond (eqb (kind_number why.kind) 12) (list why.place) (refused_by room why)
+  on_reply (Ok tally) list = list tally.tokens
+  on_reply (Err why) list = cond (eqb (kind_number why.kind) 12) (list why.place) (refused_by room why)
 
   -- the codes 0 to t, tried after the first p tokens; books that are refused have no reply 0 or 12
   unfoldable pub list_for : ℕ → ℕ → Reading → List ℕ → ℕ → Expected
@@ -41,13 +38,13 @@ expected gs s w n k room = on_reply room (session gs s w n k).reply (list_for ro
 
 -- the number and the place of an answer are a reply's
 abbrev pub as_reply : ExpectedReply → Reply
-as_reply (Listed l) = reply.Accepted l.place
-as_reply (Refused why) = reply.Refused why
+as_reply (Ok l) = reply.Accepted l.place
+as_reply (Err why) = reply.Refused why
 
 -- "every count 0" after a refusal
 abbrev pub code_count : ExpectedReply → ℕ
-code_count (Listed l) = l.codes
-code_count (Refused why) = 0
+code_count (Ok l) = l.codes
+code_count (Err why) = 0
 
 -- "The listing is zeros after." So is the stack.
 pub record Tells (n k : ℕ) (x : Expected) (r : ExpectedReply) (stack listing codes : List ℕ) : Type 0 where
@@ -56,5 +53,5 @@ pub record Tells (n k : ℕ) (x : Expected) (r : ExpectedReply) (stack listing c
   pub listing_is : listing ≡ replicate k 0
 
 -- memory makes the steps of some table
-abbrev pub Driven : List ℕ → List ℕ → List ℕ → List ℕ → Machine → Type 0
-Driven kinds values gotos rows m = (g : Grammar) × (t : Table) × Drives g t kinds values gotos rows m
+abbrev pub Driven : Machine → Type 0
+Driven mem = (g : Grammar) × (t : Table) × Drives g t mem

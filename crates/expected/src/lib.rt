@@ -6,7 +6,6 @@ ghost use Rattle.std.specs.Prelude.{◌≡◌, ◌++◌, suc, ◌≤◌, ◌<◌
 ghost use Rattle.language.specs.Grammar.{Grammar};
 ghost use Rattle.leftcorner.specs.Table.{Table};
 ghost use Rattle.checker.specs.Checked.{checked_of};
-ghost use Rattle.walk_tables.specs.Memory.{Shaped};
 ghost use Rattle.walker.specs.Walked.{memory_walk};
 ghost use Rattle.machine.specs.Machine.{Drives};
 ghost use Rattle.table.specs.Book.{whole};
@@ -18,17 +17,16 @@ ghost use Rattle.expected.specs.Expected.{on_reply, list_for, expected, as_reply
 ghost use Rattle.expected.specs.Read.{over_table, after_read};
 
 use expected_trials::ExpectedReply;
-use machine::{Machine, MachineReply};
 use reply::{Kind, Refusal, Reply, clear};
-use walker::Walked;
+use walk_tables::Machine;
 
 // The answer without its count.
 pub fn as_reply(answer: ExpectedReply) -> Reply
     ensures { result ≡ as_reply answer }
 {
     match answer {
-        ExpectedReply::Listed(listed) => Reply::Accepted(listed.place),
-        ExpectedReply::Refused(why) => Reply::Refused(why),
+        Ok(listed) => Reply::Accepted(listed.place),
+        Err(why) => Reply::Refused(why),
     }
 }
 
@@ -36,31 +34,12 @@ pub fn as_reply(answer: ExpectedReply) -> Reply
 pub fn code_count(answer: ExpectedReply) -> usize
     ensures { result ≡ code_count answer }
 {
-    match answer {
-        ExpectedReply::Listed(listed) => listed.codes,
-        ExpectedReply::Refused(_) => 0,
-    }
-}
-
-// Copies the first tokens.
-fn copy_front(tokens: &[u8], count: usize, out: &mut [u8])
-    requires { (count ≤ length tokens.now) × (count ≤ length out.old) }
-    ensures { take count out.new ≡ take count tokens.now }
-{
-    let mut i = 0;
-    while i < count {
-        out[i] = tokens[i];
-        i += 1;
-    }
+    answer.map_or(0, |listed| listed.codes)
 }
 
 // Lists the codes that could come after the first tokens. `trial` is lent for the tokens that are tried, and left free.
 fn list_at(
-    kinds: &[u8],
-    values: &[u8],
-    gotos: &[u8],
-    rows: &[u8],
-    machine: Machine,
+    machine: &Machine,
     tokens: &[u8],
     place: usize,
     trial: &mut [u8],
@@ -68,54 +47,36 @@ fn list_at(
     listing: &mut [u8],
     codes: &mut [u8],
 ) -> ExpectedReply
-    requires shaped { Shaped kinds.now values.now gotos.now rows.now }
-    requires place_in_bounds { (place ≤ length tokens.now) × (place < length trial.old) × (machine.terminals ≤ 63) × (codes.old ≡ replicate (length codes.old) 0) }
-    ensures { Tells (length stack.old) (length listing.old) (answered_at (length codes.old) place (tried (λ c. trial_of place (memory_walk kinds.now values.now gotos.now rows.now machine.start (length stack.old) (length listing.old) (take place tokens.now ++ as_tokens c))) (suc machine.terminals) 0)) result stack.new listing.new codes.new }
+    requires { (place ≤ length tokens.now) × (place < length trial.old) × (machine.now.terminals ≤ 63) × (codes.old ≡ replicate (length codes.old) 0) }
+    ensures { Tells (length stack.old) (length listing.old) (answered_at (length codes.old) place (tried (λ c. trial_of place (memory_walk machine.now (length stack.old) (length listing.old) (take place tokens.now ++ as_tokens c))) (suc machine.now.terminals) 0)) result stack.new listing.new codes.new }
 {
-    copy_front(tokens, place, trial);
-    let answer = expected_trials::try_codes(
-        kinds, values, gotos, rows, machine, trial, place, stack, listing, codes,
-    );
+    trial[..place].copy_from_slice(&tokens[..place]);
+    let answer = expected_trials::try_codes(machine, trial, place, stack, listing, codes);
     expected_trial::clear_walks(stack, listing);
     answer
 }
 
 // Walks the tokens over a machine in memory, and lists what could have come where the reply is 0 or 12.
 fn list_machine(
-    kinds: &[u8],
-    values: &[u8],
-    gotos: &[u8],
-    rows: &[u8],
-    machine: Machine,
+    machine: &Machine,
     tokens: &[u8],
     trial: &mut [u8],
     stack: &mut [u8],
     listing: &mut [u8],
     codes: &mut [u8],
 ) -> ExpectedReply
-    requires shaped { Shaped kinds.now values.now gotos.now rows.now }
-    requires driven { Driven kinds.now values.now gotos.now rows.now machine }
+    requires driven { Driven machine.now }
     requires tokens_in_bounds { (length tokens.now < length trial.old) × (codes.old ≡ replicate (length codes.old) 0) }
-    ensures { (g : Grammar) (t : Table) → Drives g t kinds.now values.now gotos.now rows.now machine
+    ensures { (g : Grammar) (t : Table) → Drives g t machine.now
         → Tells (length stack.old) (length listing.old) (on_reply (length codes.old) (table_session (length stack.old) (length listing.old) g t tokens.now).reply (list_for (length codes.old) (length stack.old) (length listing.old) (whole g t) tokens.now)) result stack.new listing.new codes.new }
 {
-    let walked = session::walk_machine(kinds, values, gotos, rows, machine, tokens, stack, listing);
-    match walked {
-        Walked::Accepted(tally) => {
-            let place = tally.tokens;
-            list_at(
-                kinds, values, gotos, rows, machine, tokens, place, trial, stack, listing, codes,
-            )
-        }
-        Walked::Refused(why) => {
-            let kind = why.kind;
-            if reply::kind_number(kind) != 12 {
-                return ExpectedReply::Refused(why);
+    match session::walk_machine(machine, tokens, stack, listing) {
+        Ok(tally) => list_at(machine, tokens, tally.tokens, trial, stack, listing, codes),
+        Err(why) => {
+            if reply::kind_number(why.kind) != 12 {
+                return Err(why);
             }
-            let place = why.place;
-            list_at(
-                kinds, values, gotos, rows, machine, tokens, place, trial, stack, listing, codes,
-            )
+            list_at(machine, tokens, why.place, trial, stack, listing, codes)
         }
     }
 }
@@ -126,16 +87,12 @@ pub fn refuse(why: Refusal, stack: &mut [u8], listing: &mut [u8], codes: &mut [u
 {
     expected_trial::clear_walks(stack, listing);
     clear(codes);
-    ExpectedReply::Refused(why)
+    Err(why)
 }
 
 // By what reading the tokens came to: walks so many of them over a machine in memory, and lists what could have come; or refuses.
 fn list_read(
-    kinds: &[u8],
-    values: &[u8],
-    gotos: &[u8],
-    rows: &[u8],
-    machine: Machine,
+    machine: &Machine,
     read: Reply,
     tokens: &[u8],
     trial: &mut [u8],
@@ -143,29 +100,17 @@ fn list_read(
     listing: &mut [u8],
     codes: &mut [u8],
 ) -> ExpectedReply
-    requires shaped { Shaped kinds.now values.now gotos.now rows.now }
-    requires driven { Driven kinds.now values.now gotos.now rows.now machine }
+    requires driven { Driven machine.now }
     requires read_in { ReadIn read tokens.now }
     requires tokens_in_bounds { length tokens.now < length trial.old }
-    ensures { (g : Grammar) (t : Table) → Drives g t kinds.now values.now gotos.now rows.now machine
+    ensures { (g : Grammar) (t : Table) → Drives g t machine.now
         → Tells (length stack.old) (length listing.old) (over_table (length stack.old) (length listing.old) (length codes.old) g t read tokens.now) result stack.new listing.new codes.new }
 {
     match read {
         Reply::Refused(why) => refuse(why, stack, listing, codes),
         Reply::Accepted(count) => {
             clear(codes);
-            list_machine(
-                kinds,
-                values,
-                gotos,
-                rows,
-                machine,
-                &tokens[..count],
-                trial,
-                stack,
-                listing,
-                codes,
-            )
+            list_machine(machine, &tokens[..count], trial, stack, listing, codes)
         }
     }
 }
@@ -185,25 +130,11 @@ pub fn list_books(
     requires tokens_len_bound { length tokens.now ≤ 65535 }
     ensures { Tells (length stack.old) (length listing.old) (after_read (length stack.old) (length listing.old) (length codes.old) (checked_of grammar.now tables.now) read tokens.now) result stack.new listing.new codes.new }
 {
-    let mut kinds = [0u8; machine::CELLS];
-    let mut values = [0u8; machine::CELLS];
-    let mut gotos = [0u8; machine::CELLS];
-    let mut rows = [0u8; machine::ROWS];
+    let mut machine = Machine::zeros();
     let mut work = [0u8; machine::WORK];
-    let loaded = machine::load_machine(
-        grammar,
-        tables,
-        &mut kinds,
-        &mut values,
-        &mut gotos,
-        &mut rows,
-        &mut work,
-    );
-    match loaded {
-        MachineReply::Refused(why) => refuse(why, stack, listing, codes),
-        MachineReply::Ready(machine) => list_read(
-            &kinds, &values, &gotos, &rows, machine, read, tokens, &mut work, stack, listing, codes,
-        ),
+    match machine::load_machine(grammar, tables, &mut machine, &mut work) {
+        Err(why) => refuse(why, stack, listing, codes),
+        Ok(()) => list_read(&machine, read, tokens, &mut work, stack, listing, codes),
     }
 }
 

@@ -18,7 +18,7 @@ list_machine-requires c =
     let w = c.args.tokens.now in
     let low = read_within w c.in-Accepted.is c.requires.read_in in
     let shorter = length-take-le _ w low in
-    record { shaped = c.requires.shaped; driven = c.requires.driven; tokens_in_bounds = (omega (arith, low, shorter, c.requires.tokens_in_bounds), c.clear.ensures ∙ ap (λ (i : ℕ). replicate i 0) (sym c.clear.auto.s)) }
+    record { driven = c.requires.driven; tokens_in_bounds = (omega (arith, low, shorter, c.requires.tokens_in_bounds), c.clear.ensures ∙ ap (λ (i : ℕ). replicate i 0) (sym c.clear.auto.s)) }
 
 pub returns-in-Refused : goal.returns-in-Refused
 returns-in-Refused c = λ g t D.
