@@ -5,11 +5,9 @@ use mathlib.Core.Bool.{Bool, true, false, cond}
 use mathlib.Core.List.{List}
 use mir.Val.{bool_byte}
 use Rattle.reply.specs.declared.Reply.{Reply}
-use Rattle.walker.specs.declared.Walked.{Walked}
-use Rattle.walker.specs.Walked.{as_reply, rule_count, unit_count}
+use Rattle.walker.specs.Walked.{Walked, as_reply, rule_count, unit_count}
 use Rattle.session.specs.Session.{Session}
-use Rattle.expected_trials.specs.declared.ExpectedReply.{ExpectedReply}
-use Rattle.expected_trials.specs.Trials.{Expected}
+use Rattle.expected_trials.specs.Trials.{ExpectedReply, Expected}
 use Rattle.expected.specs.Expected.{code_count}
 use Rattle.expected.specs.Expected as expected
 use Rattle.generator.specs.declared.GeneratorReply.{GeneratorReply}

@@ -1,17 +1,15 @@
 -- S-1 of document 02, "What could have come", for the call `list_expected`, which answers what `expected` says (expected/specs/Expected.antt),
 -- for all bytes and lengths: for any two books to which the checker replies 0, any list of 0 to 65,535 tokens, each 1 to t, and any slices.
-use Rattle.std.specs.Prelude.{ℕ, zero, suc, ◌≤◌, ◌<◌, ◌≡◌, ◌⊎◌, List, [], ◌∷◌, ◌++◌, length, take}
+use Rattle.std.specs.Prelude.{ℕ, zero, suc, ◌≤◌, ◌<◌, ◌≡◌, ◌⊎◌, List, [], ◌∷◌, ◌++◌, length, take, Err, ◌↔◌}
 use Rattle.language.specs.Grammar.{Grammar, IsTerminal}
 use Rattle.language.specs.Rising.{RisingFrom}
 use Rattle.language.specs.Sentence.{In, Sentence, BeginsSentence}
 use Rattle.leftcorner.specs.Table.{Table, automaton}
-use Rattle.std.specs.Prelude.{◌↔◌}
 use Rattle.leftcorner.specs.Claim.{Outgrows}
 use Rattle.reply.specs.Reply.{kind_number}
 use Rattle.reply.specs.declared.Refusal.{Refusal}
 use Rattle.reply.specs.declared.Reply.TheVariants as reply
 use Rattle.checker.specs.Checked.{verdict_of, Accepts}
-use Rattle.walker.specs.declared.Walked.TheVariants.{Refused}
 use Rattle.session.specs.Session.{session}
 use Rattle.expected_trial.specs.Trial.{as_tokens}
 use Rattle.expected_trials.specs.Trials.{refused_by, short_at, listed_at}
@@ -52,7 +50,7 @@ module _ (gs s : List ℕ) (g : Grammar) (t : Table) (w : List ℕ) where
 
 -- "other replies are handed on", whatever the books and tokens
 abbrev pub HandsOn : Type 0
-HandsOn = (gs s w : List ℕ) (n k room : ℕ) (why : Refusal) → (session gs s w n k).reply ≡ Refused why → (kind_number why.kind ≡ 12 → ⊥)
+HandsOn = (gs s w : List ℕ) (n k room : ℕ) (why : Refusal) → (session gs s w n k).reply ≡ Err why → (kind_number why.kind ≡ 12 → ⊥)
     → expected gs s w n k room ≡ refused_by room why
 
 -- "So for all accepted tables."

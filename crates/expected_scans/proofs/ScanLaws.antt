@@ -18,8 +18,7 @@ use Rattle.checker.specs.Checked.{checked_of}
 use Rattle.scan_session.specs.ScanSession.{first_refusal}
 use Rattle.scan_session.proofs.TerminalLaws.{terminals_in_lem}
 use Rattle.scan_session.proofs.ScanLaws.{scans_read}
-use Rattle.expected_trials.specs.declared.ExpectedReply.{ExpectedReply}
-use Rattle.expected_trials.specs.Trials.{Expected, refused_by}
+use Rattle.expected_trials.specs.Trials.{ExpectedReply, Expected, refused_by}
 use Rattle.expected.specs.Expected.{Tells}
 use Rattle.expected.specs.Read.{after_read}
 use Rattle.expected.proofs.ListLaws.{tells_as, not_many, books_read}

@@ -17,7 +17,7 @@ use Rattle.lettered_scans.specs.Lettered.{lettered, too_long, terminals_in}
 use Rattle.lettered_scans.proofs.LetteredLaws.{lettered_few}
 use Rattle.table.specs.Book.{Reading, whole, rejected}
 use Rattle.checker.specs.Checked.{checked_of}
-use Rattle.walker.specs.declared.Walked.{Walked}
+use Rattle.walker.specs.Walked.{Walked}
 use Rattle.session.specs.Session.{refused_by, refused_at, Tells}
 use Rattle.session.specs.Read.{ReadIn, after_read}
 use Rattle.session.proofs.BookLaws.{too_long_lem, not_long, not_many, books_read}

@@ -1,9 +1,8 @@
 -- Document 01, 'Sessions and books to try': "Starred ones are proved". One table, and one theorem about the definitions: each table book is the one
 -- that the builder writes for its grammar, the checker accepts it, and each session over these books answers what is told.
-use Rattle.std.specs.Prelude.{ℕ, ◌-◌, ◌≡◌, List, [], ◌∷◌, ◌++◌, length, replicate}
+use Rattle.std.specs.Prelude.{ℕ, ◌-◌, ◌≡◌, List, [], ◌∷◌, ◌++◌, length, replicate, Ok, Err}
 use Rattle.reply.specs.declared.Kind.TheVariants.{SyntaxError}
 use Rattle.fixpoint.specs.Each.{Each}
-use Rattle.walker.specs.declared.Walked.TheVariants.{Accepted, Refused}
 use Rattle.session.specs.Session.{Session, session}
 use Rattle.worked_examples.specs.Books.{book, Books, g1, g1_cut, d}
 use Rattle.worked_examples.specs.Built.{Built}
@@ -50,12 +49,12 @@ tokens_of (wrong w place) = w
 -- lent 20 places of stack and of listing
 abbrev pub answer_of : Told → Session
 answer_of (lists w l units) = record {
-  reply = Accepted (record { tokens = length w; rules = length l; units = units });
+  reply = Ok (record { tokens = length w; rules = length l; units = units });
   listing = l ++ replicate (20 - length l) 0;
   stack = replicate 20 0;
 }
 answer_of (wrong w place) = record {
-  reply = Refused (record { kind = SyntaxError; place = place });
+  reply = Err (record { kind = SyntaxError; place = place });
   listing = replicate 20 0;
   stack = replicate 20 0;
 }
