@@ -34,9 +34,8 @@ pub fn put_token(tokens: &mut [u8], x: usize, at: Point) -> Step
     }
     tokens[place] = x as u8;
     Step::Fits(Point {
-        state: at.state,
         tokens: place + 1,
-        rules: at.rules,
+        ..at
     })
 }
 
@@ -55,9 +54,8 @@ pub fn put_rule(listing: &mut [u8], i: usize, k: usize, mark: usize, at: Point) 
     }
     listing[place] = i as u8;
     Step::Fits(Point {
-        state: at.state,
-        tokens: at.tokens,
         rules: place + 1,
+        ..at
     })
 }
 
@@ -65,18 +63,12 @@ pub fn put_rule(listing: &mut [u8], i: usize, k: usize, mark: usize, at: Point) 
 pub fn one_less(depth: usize) -> usize
     ensures { result ≡ depth - 1 }
 {
-    if depth == 0 {
-        return 0;
-    }
-    depth - 1
+    depth.saturating_sub(1)
 }
 
 // The lesser of a slice's length and TOKENS.
 pub fn capped(n: usize) -> usize
     ensures { (result ≤ n) × (result ≤ 65535) × ((result ≡ n) ⊎ (result ≡ 65535)) }
 {
-    if n <= TOKENS {
-        return n;
-    }
-    TOKENS
+    n.min(TOKENS)
 }
