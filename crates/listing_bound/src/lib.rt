@@ -25,12 +25,10 @@ fn has_empty(items: &[u8], rules: usize) -> bool
     requires { (Shaped items.now rules) × (rules ≤ 127) }
     ensures { (g : Grammar) → Holds items.now rules g → result ≡ has_empty g.rules }
 {
-    let mut i: usize = 1;
-    while i <= rules {
+    for i in 1..rules + 1 {
         if items::length_of(items, rules, i) == 0 {
             return true;
         }
-        i += 1;
     }
     false
 }
@@ -40,10 +38,7 @@ fn most_rules(n: usize, k: usize) -> usize
     requires { (n ≤ 64) × (k ≤ 65535) }
     ensures { result ≡ n * (2 * k - 1) }
 {
-    if k == 0 {
-        return 0;
-    }
-    n * (2 * k - 1)
+    n * (2 * k).saturating_sub(1)
 }
 
 // The answer for the grammar in memory.
@@ -52,9 +47,10 @@ fn bound_rules(items: &[u8], heading: Heading, scans: usize) -> ListingBound
     ensures { (g : Grammar) → HoldsGrammar items.now heading g → result ≡ of_grammar g scans }
 {
     if has_empty(items, heading.rules) {
-        return ListingBound::Unbounded;
+        ListingBound::Unbounded
+    } else {
+        ListingBound::Rules(most_rules(heading.nonterminals, scans))
     }
-    ListingBound::Rules(most_rules(heading.nonterminals, scans))
 }
 
 // How many rules the listing of a sentence of so many scans can have, whatever tables are accepted for the grammar.
@@ -68,8 +64,7 @@ pub fn bound_listing(grammar: &[u8], scans: usize) -> ListingBound
         });
     }
     let mut items = [0u8; grammar::TABLE];
-    let read = grammar::read_grammar(grammar, &mut items);
-    match read {
+    match grammar::read_grammar(grammar, &mut items) {
         GrammarReply::Refused(why) => ListingBound::Refused(why),
         GrammarReply::Read(heading) => bound_rules(&items, heading, scans),
     }
@@ -80,8 +75,7 @@ pub fn as_reply(answer: ListingBound) -> Reply
     ensures { result ≡ as_reply answer }
 {
     match answer {
-        ListingBound::Rules(_) => Reply::Accepted(0),
-        ListingBound::Unbounded => Reply::Accepted(0),
+        ListingBound::Rules(_) | ListingBound::Unbounded => Reply::Accepted(0),
         ListingBound::Refused(why) => Reply::Refused(why),
     }
 }
@@ -90,11 +84,7 @@ pub fn as_reply(answer: ListingBound) -> Reply
 pub fn is_unbounded(answer: ListingBound) -> bool
     ensures { result ≡ is_unbounded answer }
 {
-    match answer {
-        ListingBound::Rules(_) => false,
-        ListingBound::Unbounded => true,
-        ListingBound::Refused(_) => false,
-    }
+    matches!(answer, ListingBound::Unbounded)
 }
 
 // The bound, 0 where there is none and after a refusal.
@@ -103,7 +93,6 @@ pub fn rule_count(answer: ListingBound) -> usize
 {
     match answer {
         ListingBound::Rules(count) => count,
-        ListingBound::Unbounded => 0,
-        ListingBound::Refused(_) => 0,
+        ListingBound::Unbounded | ListingBound::Refused(_) => 0,
     }
 }

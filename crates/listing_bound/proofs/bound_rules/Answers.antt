@@ -16,8 +16,8 @@ returns-then-has_empty c =
 pub most_rules-requires : goal.most_rules-requires
 most_rules-requires c = ((ready_ranges c.requires.0.ready).0.1, c.requires.1)
 
-pub returns : goal.returns
-returns c =
+pub returns-else-has_empty : goal.returns-else-has_empty
+returns-else-has_empty c =
     let k = c.args.scans in
     λ g h.
     ap Rules (c.most_rules.ensures ∙ ap (λ (n : ℕ). n * (2 * k - 1)) (sym (nonterminals_is h)))

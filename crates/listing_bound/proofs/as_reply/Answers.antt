@@ -1,5 +1,0 @@
--- `listing_bound::as_reply` meets its contract. Assumes nothing.
-use Rattle.listing_bound.proofs.as_reply.Goals as goal
-
-pub returns-in-Refused : goal.returns-in-Refused
-returns-in-Refused c = simp c.in-Refused.is
