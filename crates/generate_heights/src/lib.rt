@@ -20,14 +20,11 @@ fn all_lower(items: &[u8], rules: usize, heights: &[u8], i: usize, high: u8) -> 
     requires in_bounds { (128 ≤ length heights.now) × (i ≤ rules) }
     ensures { result ≡ lower_in items.now heights.now high i }
 {
-    let n = items::length_of(items, rules, i);
-    let mut k: usize = 0;
-    while k < n {
+    for k in 0..items::length_of(items, rules, i) {
         let x = items::symbol_of(items, rules, i, k);
         if high <= heights[x] {
             return false;
         }
-        k += 1;
     }
     true
 }
@@ -37,15 +34,8 @@ fn start_heights(terminals: usize, heights: &mut [u8])
     requires { 128 ≤ length heights.old }
     ensures { Started terminals 128 heights.new }
 {
-    let mut x: usize = 0;
-    while x < HEIGHTS {
-        if x <= terminals {
-            heights[x] = 0;
-            x += 1;
-            continue;
-        }
-        heights[x] = UNSET;
-        x += 1;
+    for x in 0..HEIGHTS {
+        heights[x] = if x <= terminals { 0 } else { UNSET };
     }
 }
 
@@ -58,20 +48,12 @@ fn add_heights(items: &[u8], rules: usize, h: u8, heights: &mut [u8]) -> bool
     ensures reached { (g : Grammar) → Source items.now rules g → Reached g (h - 1) heights.old → Reached g h heights.new }
 {
     let mut added = false;
-    let mut i: usize = 1;
-    while i <= rules {
+    for i in 1..rules + 1 {
         let x = items::left_of(items, rules, i);
-        if heights[x] != UNSET {
-            i += 1;
-            continue;
+        if heights[x] == UNSET && all_lower(items, rules, heights, i, h) {
+            heights[x] = h;
+            added = true;
         }
-        if !all_lower(items, rules, heights, i, h) {
-            i += 1;
-            continue;
-        }
-        heights[x] = h;
-        added = true;
-        i += 1;
     }
     added
 }
@@ -90,12 +72,10 @@ pub fn find_heights(
     ensures { (g : Grammar) → Source items.now rules g → g.terminals ≡ terminals → g.nonterminals ≡ nonterminals → HoldsHeights g heights.new }
 {
     start_heights(terminals, heights);
-    let mut h: usize = 1;
-    while h <= nonterminals {
+    for h in 1..nonterminals + 1 {
         if !add_heights(items, rules, h as u8, heights) {
             return;
         }
-        h += 1;
     }
 }
 
@@ -107,16 +87,10 @@ pub fn shortest_rule(items: &[u8], rules: usize, heights: &[u8], x: usize) -> us
     ensures value { (g : Grammar) → Source items.now rules g → HoldsHeights g heights.now → IsNonterminal g x → result ≡ shortest g x }
 {
     let high = heights[x];
-    let mut rule: usize = 1;
-    while rule <= rules {
-        if items::left_of(items, rules, rule) != x {
-            rule += 1;
-            continue;
-        }
-        if all_lower(items, rules, heights, rule, high) {
+    for rule in 1..rules + 1 {
+        if items::left_of(items, rules, rule) == x && all_lower(items, rules, heights, rule, high) {
             return rule;
         }
-        rule += 1;
     }
     0
 }

@@ -1,69 +1,54 @@
-use Prim.Native.Nat.{ℕ, suc, ◌-◌, ◌≤◌}
-use mathlib.Core.Path.{◌≡◌, refl, sym, ◌∙◌}
+use Prim.Native.Nat.{ℕ, suc, ◌+◌, ◌-◌, ◌≤◌}
+use mathlib.Core.Bool.{true≢false}
+use mathlib.Core.List.{List}
+use mathlib.Core.Path.{◌≡◌, refl, sym, subst, ◌∙◌}
 use native.Mathlib.Omega.{arith}
-use lib.ListN.{length-set}
 use native.Mathlib.Numerals.{add-one}
-use Rattle.generate_loads.proofs.RuleLaws.{clash}
-use Rattle.generate_heights.proofs.RoundLaws.{round_start, round_known, round_high, round_add, round_end}
+use Rattle.generate_heights.proofs.RoundLaws.{Round, round_start, round_known, round_high, round_add, round_end}
 use Rattle.generate_heights.proofs.add_heights.Goals as goal
+use Rattle.generate_heights.proofs.add_heights.Goals.{then-heights-x+then-all_lower, else-heights-x, else-heights-x-via-then-heights-x+else-all_lower, else-heights-x-via-else-heights-x}
 
 back : (h : ℕ) → 1 ≤ h → h ≡ suc (h - 1)
 back h l = omega arith
 
 pub loop-i-init : goal.loop-i-init
 loop-i-init c = (
-  omega arith,
-  omega arith,
-  refl,
-  c.requires.in_bounds,
-  λ g e f.
-      round_start c.args.items.now c.args.rules g e (c.args.h - 1) c.args.h (back c.args.h c.requires.le_h.0) c.requires.le_h.1 c.args.heights.now f,
+  λ g e f. round_start c.args.items.now c.args.rules g e (c.args.h - 1) c.args.h (back c.args.h c.requires.le_h.0) c.requires.le_h.1 c.args.heights.now f,
   λ _. refl,
 )
 
-pub loop-i-preserved-then-heights-x : goal.loop-i-preserved-then-heights-x
-loop-i-preserved-then-heights-x c = (
-  omega arith,
-  omega arith,
-  c.loop-i.invariant.2,
-  c.loop-i.invariant.3,
-  λ g e f.
-      round_known c.args.items.now c.args.rules g e (c.args.h - 1) c.args.h (back c.args.h c.requires.le_h.0) c.requires.le_h.1 c.loop-i.heights c.loop-i.i (c.loop-i.invariant.4 g e f)
-      c.loop-i.invariant.0 c.loop-i-test.true (add-one c.loop-i.i) c.left_of-x.ensures.0 c.if-heights-x.true,
-  c.loop-i.invariant.5,
-)
-
-pub loop-i-preserved-then-not-all_lower : goal.loop-i-preserved-then-not-all_lower
-loop-i-preserved-then-not-all_lower c = (
-  omega arith,
-  omega arith,
-  c.loop-i.invariant.2,
-  c.loop-i.invariant.3,
-  λ g e f.
-      round_high c.args.items.now c.args.rules g e (c.args.h - 1) c.args.h (back c.args.h c.requires.le_h.0) c.requires.le_h.1 c.loop-i.heights c.loop-i.i (c.loop-i.invariant.4 g e f)
-      c.loop-i.invariant.0 c.loop-i-test.true (add-one c.loop-i.i) (sym c.all_lower.ensures ∙ c.if-not-all_lower.true),
-  c.loop-i.invariant.5,
-)
-
 pub loop-i-preserved : goal.loop-i-preserved
-loop-i-preserved c = (
-  omega arith,
-  omega arith,
-  length-set c.loop-i.heights c.left_of-x.result c.args.h ∙ c.loop-i.invariant.2,
-  c.loop-i.invariant.3,
-  λ g e f.
-      round_add c.args.items.now c.args.rules g e (c.args.h - 1) c.args.h (back c.args.h c.requires.le_h.0) c.requires.le_h.1 c.loop-i.heights c.loop-i.i (c.loop-i.invariant.4 g e f)
-      c.loop-i.invariant.0 c.loop-i-test.true (add-one c.loop-i.i)
-      c.left_of-x.ensures.0 (omega (arith, c.left_of-x.ensures.1, c.loop-i.invariant.2, c.loop-i.invariant.3)) c.if-heights-x.false
-      (sym c.all_lower.ensures ∙ c.if-not-all_lower.false),
-  λ e. clash refl e,
-)
+loop-i-preserved c =
+    let items = c.args.items.now in
+    let h = c.args.h in
+    let high = back h c.requires.le_h.0 in
+    let i = c.loop-i.i in (
+      λ g e f.
+          elim c.if-heights-x.branch [
+            | then-heights-x+then-all_lower w ↦
+                subst (λ (m : List ℕ). Round g (h - 1) h (i + 1) m) (sym w.heights-is)
+                (round_add items c.args.rules g e (h - 1) h high c.requires.le_h.1 c.loop-i.heights i (c.loop-i.invariant.0 g e f) c.loop-i.auto.i (omega arith) (add-one i)
+                c.left_of-x.ensures.0 (omega (arith, c.left_of-x.ensures.1)) w.if-heights-x.true (sym w.all_lower.ensures ∙ w.if-all_lower.true))
+            | else-heights-x w ↦
+                subst (λ (m : List ℕ). Round g (h - 1) h (i + 1) m) (sym w.heights-is)
+                (elim w.else-heights-x.branch [
+                  | else-heights-x-via-then-heights-x+else-all_lower v ↦
+                      round_high items c.args.rules g e (h - 1) h high c.requires.le_h.1 c.loop-i.heights i (c.loop-i.invariant.0 g e f) c.loop-i.auto.i (omega arith) (add-one i)
+                      (sym v.all_lower.ensures ∙ v.if-all_lower.false)
+                  | else-heights-x-via-else-heights-x v ↦
+                      round_known items c.args.rules g e (h - 1) h high c.requires.le_h.1 c.loop-i.heights i (c.loop-i.invariant.0 g e f) c.loop-i.auto.i (omega arith) (add-one i)
+                      c.left_of-x.ensures.0 v.if-heights-x.false
+                ])
+          ],
+      λ q.
+          elim c.if-heights-x.branch [
+            | then-heights-x+then-all_lower w ↦ absurd (true≢false (sym w.added-is ∙ q))
+            | else-heights-x w ↦ w.heights-is ∙ c.loop-i.invariant.1 (sym w.added-is ∙ q)
+          ],
+    )
 
-pub returns : goal.returns
-returns c =
-    record {
-      heights_unchanged = c.loop-i.invariant.5;
-      reached = λ g e f.
-          round_end c.args.items.now c.args.rules g e (c.args.h - 1) c.args.h (back c.args.h c.requires.le_h.0) c.requires.le_h.1 c.loop-i.heights c.loop-i.i (c.loop-i.invariant.4 g e f)
-          c.loop-i-test.false;
-    }
+pub returns-clause-reached : goal.returns-clause-reached
+returns-clause-reached c =
+    λ g e f.
+    round_end c.args.items.now c.args.rules g e (c.args.h - 1) c.args.h (back c.args.h c.requires.le_h.0) c.requires.le_h.1 c.loop-i.heights c.loop-i.i (c.loop-i.invariant.0 g e f)
+    (omega arith)

@@ -1,7 +1,6 @@
 -- The rules passed have given their left sides this height, where these had none.
-use Prim.Native.Nat.{◌+◌, ◌-◌, ◌≤◌}
+use Prim.Native.Nat.{◌-◌}
 use mathlib.Core.Path.{◌≡◌}
-use lib.ListN.{length}
 use mathlib.Core.Bool.{false}
 use Rattle.language.specs.Grammar.{Grammar}
 use Rattle.generate_heights.specs.Heights.{Source, Reached}
@@ -10,8 +9,5 @@ use Rattle.generate_heights.proofs.add_heights.Given as goal
 
 abbrev pub invariant-loop-i : goal.invariant-loop-i
 invariant-loop-i l =
-    (1 ≤ l.i) × (l.i ≤ l.rules + 1) × (length l.heights ≡ length l.initial.heights) × (128 ≤ length l.initial.heights)
-    × ((g : Grammar) → Source l.items l.rules g → Reached g (l.h - 1) l.initial.heights → Round g (l.h - 1) l.h l.i l.heights) × (l.added ≡ false → l.heights ≡ l.initial.heights)
-
-abbrev pub decreases-loop-i : goal.decreases-loop-i
-decreases-loop-i l = l.rules + 1 - l.i
+    ((g : Grammar) → Source l.items l.rules g → Reached g (l.h - 1) l.initial.heights → Round g (l.h - 1) l.h l.i l.heights)
+    × (l.added ≡ false → l.heights ≡ l.initial.heights)

@@ -1,5 +1,4 @@
 -- The first rule of x with lower symbols is the first of those that are left, and it is the shortest.
-use Prim.Native.Nat.{◌+◌, ◌-◌, ◌≤◌}
 use mathlib.Core.Path.{◌≡◌}
 use Rattle.generate_loads.specs.Load.{first}
 use Rattle.generate_heights.specs.Heights.{lower_in}
@@ -9,7 +8,4 @@ use Rattle.generate_heights.proofs.shortest_rule.Given as goal
 
 abbrev pub invariant-loop-rule : goal.invariant-loop-rule
 invariant-loop-rule l =
-    (1 ≤ l.rule) × (l.rule ≤ l.rules + 1) × (first (lower_in l.items l.heights l.high) (rows_of l.items l.x 1 l.rules) ≡ first (lower_in l.items l.heights l.high) (rest l.items l.x l.rules l.rule))
-
-abbrev pub decreases-loop-rule : goal.decreases-loop-rule
-decreases-loop-rule l = l.rules + 1 - l.rule
+    first (lower_in l.items l.heights l.high) (rows_of l.items l.x 1 l.rules) ≡ first (lower_in l.items l.heights l.high) (rest l.items l.x l.rules l.rule)
