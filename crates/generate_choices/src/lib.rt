@@ -47,12 +47,6 @@ fn next_state(state: u32) -> u32
     std::num::wrapping_add_u32(wrapping_mul_u32(1103515245, state), 12345)
 }
 
-fn wide(b: u8) -> usize
-    ensures { (result ≡ b) × (result < 256) }
-{
-    b as usize
-}
-
 // The draw of a state, below `count`.
 fn draw(state: u32, count: usize) -> usize
     requires { (1 ≤ count) × (count < 256) }
@@ -69,15 +63,11 @@ fn list_rules(items: &[u8], rules: usize, x: usize, at: usize, choices: &mut [u8
     ensures choices_after { choices.new ≡ sets choices.old (512 + at) (rows_of items.now x 1 rules) }
 {
     let mut next = at;
-    let mut i: usize = 1;
-    while i <= rules {
-        if items::left_of(items, rules, i) != x {
-            i += 1;
-            continue;
+    for i in 1..rules + 1 {
+        if items::left_of(items, rules, i) == x {
+            choices[RULES + next] = i as u8;
+            next += 1;
         }
-        choices[RULES + next] = i as u8;
-        next += 1;
-        i += 1;
     }
     next
 }
@@ -105,10 +95,8 @@ fn list_choices(items: &[u8], nonterminals: usize, rules: usize, choices: &mut [
     ensures { (g : Grammar) → Source items.now rules g → HoldsHeights g choices.old → g.nonterminals ≡ nonterminals → HoldsChoices g choices.new }
 {
     let mut at: usize = 0;
-    let mut x: usize = 64;
-    while x < 64 + nonterminals {
+    for x in 64..64 + nonterminals {
         at = store_choices(items, rules, x, at, choices);
-        x += 1;
     }
 }
 
@@ -134,16 +122,17 @@ pub fn choose(choices: &[u8], x: usize, depth: usize, state: u32) -> Chosen
     requires { Choosable choices.now x }
     ensures { (g : Grammar) → HoldsChoices g choices.now → IsNonterminal g x → (result.rule ≡ (choice g depth x state).rule) × (result.state ≡ (choice g depth x state).state) }
 {
-    let count = wide(choices[COUNTS + x]);
     if depth == 0 {
-        let shortest = wide(choices[SHORTEST + x]);
         return Chosen {
-            rule: shortest,
+            rule: choices[SHORTEST + x] as usize,
             state,
         };
     }
     let next = next_state(state);
-    let drawn = draw(next, count);
-    let rule = wide(choices[RULES + wide(choices[STARTS + x]) + drawn]);
-    Chosen { rule, state: next }
+    let start = choices[STARTS + x] as usize;
+    let drawn = draw(next, choices[COUNTS + x] as usize);
+    Chosen {
+        rule: choices[RULES + start + drawn] as usize,
+        state: next,
+    }
 }

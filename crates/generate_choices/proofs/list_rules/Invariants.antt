@@ -1,5 +1,5 @@
 -- What is still to be listed, listed behind what is, makes the whole.
-use Rattle.std.proofs.Common.{◌≡◌, ◌+◌, ◌-◌, ◌≤◌, length}
+use Rattle.std.proofs.Common.{◌≡◌, ◌+◌, length}
 use lib.Seq.{sets}
 use Rattle.generate_heights.specs.Rows.{rows_of}
 use Rattle.generate_heights.proofs.RowLaws.{rest}
@@ -7,8 +7,5 @@ use Rattle.generate_choices.proofs.list_rules.Given as goal
 
 abbrev pub invariant-loop-i : goal.invariant-loop-i
 invariant-loop-i l =
-    (1 ≤ l.i) × (l.i ≤ l.rules + 1) × (length l.choices ≡ length l.initial.choices) × (l.next + length (rest l.items l.x l.rules l.i) ≡ l.at + length (rows_of l.items l.x 1 l.rules))
+    (l.next + length (rest l.items l.x l.rules l.i) ≡ l.at + length (rows_of l.items l.x 1 l.rules))
     × (sets l.choices (512 + l.next) (rest l.items l.x l.rules l.i) ≡ sets l.initial.choices (512 + l.at) (rows_of l.items l.x 1 l.rules))
-
-abbrev pub decreases-loop-i : goal.decreases-loop-i
-decreases-loop-i l = l.rules + 1 - l.i
