@@ -49,19 +49,16 @@ fn expand(
     if x < 64 {
         return put_token(tokens, x, from);
     }
-    let state = from.state;
-    let chosen = choose(choices, x, depth, state);
+    let chosen = choose(choices, x, depth, from.state);
     let i = chosen.rule;
     let n = items::length_of(items, rules, i);
     let mark = items::mark_of(items, rules, i);
     let below = one_less(depth);
     let mut at = Point {
         state: chosen.state,
-        tokens: from.tokens,
-        rules: from.rules,
+        ..from
     };
-    let mut k: usize = 0;
-    while k < n {
+    for k in 0..n {
         let Step::Fits(marked) = put_rule(listing, i, k, mark, at) else {
             return Step::Full;
         };
@@ -71,7 +68,6 @@ fn expand(
             return Step::Full;
         };
         at = next;
-        k += 1;
     }
     put_rule(listing, i, n, mark, at)
 }
@@ -145,8 +141,7 @@ pub fn make_load(
         return refuse(Kind::LimitExceeded, 0);
     }
     let mut items = [0u8; grammar::TABLE];
-    let read = grammar::read_grammar(grammar, &mut items);
-    match read {
+    match grammar::read_grammar(grammar, &mut items) {
         GrammarReply::Refused(why) => GeneratorReply::Refused(why),
         GrammarReply::Read(heading) => write_load(&items, heading, seed, depth, tokens, listing),
     }

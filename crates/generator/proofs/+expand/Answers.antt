@@ -40,7 +40,7 @@ mark_of-mark-requires t c =
 
 pub loop-k-init : goal.loop-k-init
 loop-k-init t c =
-    (omega arith, refl, refl, c.requires.inside.0, c.requires.inside.1, λ g h H n. sofar_none g c.requires.inside)
+    (c.requires.inside.0, c.requires.inside.1, λ g h H n. sofar_none g c.requires.inside)
 
 pub put_rule-requires : goal.put_rule-requires
 put_rule-requires t c =
@@ -48,15 +48,7 @@ put_rule-requires t c =
     let n = nonterminal W.holds_choices.formed c.args.x c.if-x-lt64.false W.symbol in
     let q = c.choose-chosen.ensures W.grammar W.holds_choices n in
     let R = row_of W.holds W.holds_choices c.args.depth c.args.x c.args.from.state n q.0 in
-    record { i_bound = R.few; rules_in_bounds = c.loop-k.invariant.4 }
-
-pub shape_of-tokens-in_default : goal.shape_of-tokens-in_default
-shape_of-tokens-in_default t c =
-    c.loop-k.invariant.1
-
-pub shape_of-listing-in_default : goal.shape_of-listing-in_default
-shape_of-listing-in_default t c =
-    c.put_rule.auto.listing ∙ c.loop-k.invariant.2
+    record { i_bound = R.few; rules_in_bounds = c.loop-k.invariant.1 }
 
 pub returns-in_default : goal.returns-in_default
 returns-in_default t c =
@@ -68,7 +60,7 @@ returns-in_default t c =
           let q = c.choose-chosen.ensures g H n in
           let R = row_of h H c.args.depth c.args.x c.args.from.state n q.0 in
           node_written c.args.depth c.one_less-below.result c.args.x i _ c.args.from H n c.one_less-below.ensures q refl refl
-          (full_mark g R.is _ (omega (arith, c.loop-k.invariant.0, c.length_of-n.ensures.0, R.length_is)) (c.loop-k.invariant.5 g h H n) x);
+          (full_mark g R.is _ (omega (arith, c.loop-k.auto.k-end, c.length_of-n.ensures.0, R.length_is)) (c.loop-k.invariant.2 g h H n) x);
     }
 
 pub symbol_of-y-requires : goal.symbol_of-y-requires
@@ -99,17 +91,9 @@ expand-requires t c =
           holds_choices = W.holds_choices;
           symbol = subst (IsSymbol W.grammar) (sym y-is) (R.declared c.loop-k.k lt);
         },
-        writes_stays (rule_writes c.loop-k.tokens (Step.Fits _) x c.loop-k.invariant.3),
+        writes_stays (rule_writes c.loop-k.tokens (Step.Fits _) x c.loop-k.invariant.0),
       ),
     )
-
-pub shape_of-tokens-in_default-expand : goal.shape_of-tokens-in_default-expand
-shape_of-tokens-in_default-expand t c =
-    c.expand.auto.tokens ∙ c.loop-k.invariant.1
-
-pub shape_of-listing-in_default-expand : goal.shape_of-listing-in_default-expand
-shape_of-listing-in_default-expand t c =
-    c.expand.auto.listing ∙ (c.put_rule.auto.listing ∙ c.loop-k.invariant.2)
 
 pub returns-in_default-expand : goal.returns-in_default-expand
 returns-in_default-expand t c =
@@ -122,7 +106,7 @@ returns-in_default-expand t c =
           let R = row_of h H c.args.depth c.args.x c.args.from.state n q.0 in
           let lt : c.loop-k.k < length (right_of g i) = omega (arith, c.loop-k-test.true, c.length_of-n.ensures.0, R.length_is) in
           let y-is = c.symbol_of-y.ensures.0 ∙ R.symbol_is c.loop-k.k lt in
-          let m = sofar_marked g (omega arith) (c.loop-k.invariant.5 g h H n) x in
+          let m = sofar_marked g (omega arith) (c.loop-k.invariant.2 g h H n) x in
           let v = writes_as c.in_default-expand.is (c.expand.ensures.expands g h H (subst (IsSymbol g) (sym y-is) (R.declared c.loop-k.k lt))) in
           node_written c.args.depth c.one_less-below.result c.args.x i _ c.args.from H n c.one_less-below.ensures q refl refl
           (full_child g R.is _ c.symbol_of-y.result lt y-is m v);
@@ -133,9 +117,6 @@ loop-k-preserved t c =
     let i = c.choose-chosen.result.rule in
     let x = subst (λ (z : Step). PutsRule (at_mark i c.loop-k.k c.mark_of-mark.result) c.loop-k.at c.loop-k.listing c.put_rule.new.listing z) c.in-Fits.is c.put_rule.ensures in
     let in_both = subst (λ (z : Step). StaysIn c.expand.new.tokens c.expand.new.listing z) c.in-Fits-expand.is c.expand.ensures.stays_in in (
-      omega (arith, c.loop-k-test.true),
-      c.expand.auto.tokens ∙ c.loop-k.invariant.1,
-      c.expand.auto.listing ∙ (c.put_rule.auto.listing ∙ c.loop-k.invariant.2),
       in_both.0,
       in_both.1,
       λ g h H n.
@@ -143,7 +124,7 @@ loop-k-preserved t c =
           let R = row_of h H c.args.depth c.args.x c.args.from.state n q.0 in
           let lt : c.loop-k.k < length (right_of g i) = omega (arith, c.loop-k-test.true, c.length_of-n.ensures.0, R.length_is) in
           let y-is = c.symbol_of-y.ensures.0 ∙ R.symbol_is c.loop-k.k lt in
-          let m = sofar_marked g (omega arith) (c.loop-k.invariant.5 g h H n) x in
+          let m = sofar_marked g (omega arith) (c.loop-k.invariant.2 g h H n) x in
           let v = writes_as c.in-Fits-expand.is (c.expand.ensures.expands g h H (subst (IsSymbol g) (sym y-is) (R.declared c.loop-k.k lt))) in
           sofar_grown g c.symbol_of-y.result lt y-is (add-one c.loop-k.k) m v,
     )
@@ -154,26 +135,18 @@ put_rule-requires-2 t c =
     let n = nonterminal W.holds_choices.formed c.args.x c.if-x-lt64.false W.symbol in
     let q = c.choose-chosen.ensures W.grammar W.holds_choices n in
     let R = row_of W.holds W.holds_choices c.args.depth c.args.x c.args.from.state n q.0 in
-    record { i_bound = R.few; rules_in_bounds = c.loop-k.invariant.4 }
-
-pub shape_of-tokens : goal.shape_of-tokens
-shape_of-tokens t c =
-    c.loop-k.invariant.1
-
-pub shape_of-listing : goal.shape_of-listing
-shape_of-listing t c =
-    c.put_rule-2.auto.listing ∙ c.loop-k.invariant.2
+    record { i_bound = R.few; rules_in_bounds = c.loop-k.invariant.1 }
 
 pub returns : goal.returns
 returns t c =
     let i = c.choose-chosen.result.rule in
-    let w = rule_writes c.loop-k.tokens c.put_rule-2.result c.put_rule-2.ensures c.loop-k.invariant.3 in record {
+    let w = rule_writes c.loop-k.tokens c.put_rule-2.result c.put_rule-2.ensures c.loop-k.invariant.0 in record {
       stays_in = writes_stays w;
       expands = λ g h H d.
           let n = nonterminal H.formed c.args.x c.if-x-lt64.false d in
           let q = c.choose-chosen.ensures g H n in
           let R = row_of h H c.args.depth c.args.x c.args.from.state n q.0 in
           node_written c.args.depth c.one_less-below.result c.args.x i _ c.args.from H n c.one_less-below.ensures q refl refl
-          (sofar_end g R.is c.length_of-n.result c.put_rule-2.result c.loop-k.invariant.0 c.loop-k-test.false (c.length_of-n.ensures.0 ∙ R.length_is) (c.mark_of-mark.ensures.0 ∙ R.mark_is)
-          (omega (arith, c.mark_of-mark.ensures.0, R.mark_in, c.length_of-n.ensures.0, R.length_is)) (c.loop-k.invariant.5 g h H n) c.put_rule-2.ensures);
+          (sofar_end g R.is c.length_of-n.result c.put_rule-2.result c.loop-k.auto.k-end c.loop-k-test.false (c.length_of-n.ensures.0 ∙ R.length_is) (c.mark_of-mark.ensures.0 ∙ R.mark_is)
+          (omega (arith, c.mark_of-mark.ensures.0, R.mark_in, c.length_of-n.ensures.0, R.length_is)) (c.loop-k.invariant.2 g h H n) c.put_rule-2.ensures);
     }

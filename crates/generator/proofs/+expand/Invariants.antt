@@ -1,7 +1,6 @@
 -- The proof of the cycle of calls {expand}. The measure is the depth, then the height: where depth is left a child has less of it, and where
 -- none is left the chosen rule's symbols are lower. The loop has written the subtrees of the first k symbols, and the rule where its mark is below k.
-use Prim.Native.Nat.{◌+◌, ◌-◌, ◌*◌, ◌≤◌}
-use mathlib.Core.Path.{◌≡◌}
+use Prim.Native.Nat.{◌+◌, ◌*◌, ◌≤◌}
 use lib.ListN.{length}
 use Rattle.language.specs.Grammar.{Grammar, IsNonterminal}
 use Rattle.items.specs.Layout.{Holds}
@@ -15,9 +14,6 @@ decreases-expand l = l.depth * 256 + height_at l.choices.now l.x
 
 abbrev pub invariant-loop-k : goal.invariant-loop-k
 invariant-loop-k l =
-    (l.k ≤ l.n) × (length l.tokens ≡ length l.initial.tokens) × (length l.listing ≡ length l.initial.listing) × (l.at.tokens ≤ length l.tokens) × (l.at.rules ≤ length l.listing)
+    (l.at.tokens ≤ length l.tokens) × (l.at.rules ≤ length l.listing)
     × ((g : Grammar) → Holds l.items l.rules g → HoldsChoices g l.choices → IsNonterminal g l.x
     → Sofar g (grown g l.below) (right_of g l.i) l.i l.mark l.k l.k l.initial.at l.initial.tokens l.initial.listing l.tokens l.listing l.at)
-
-abbrev pub decreases-loop-k : goal.decreases-loop-k
-decreases-loop-k l = l.n - l.k

@@ -19,7 +19,7 @@ returns-then-depth-gt15 c =
 
 pub write_load-requires : goal.write_load-requires
 write_load-requires c =
-    let R = read_as c.args.grammar.now 8192 long c.read_grammar-read.ensures.answered c.read_grammar-read.auto.items c.read_grammar-read.ensures.stored c.in-Read.is in
+    let R = read_as c.args.grammar.now 8192 long c.read_grammar.ensures.answered c.read_grammar.auto.items c.read_grammar.ensures.stored c.in-Read.is in
     let tokens = zeros_again (length c.args.tokens.now) c.clear.ensures in
     let listing = zeros_again (length c.args.listing.now) c.clear-2.ensures in
     record { holds_grammar = (R.grammar, R.holds, (accepted_reduced c.args.grammar.now R.grammar R.book_is).productive); tokens_value = (tokens, listing) }
@@ -28,12 +28,12 @@ pub returns-in-Refused : goal.returns-in-Refused
 returns-in-Refused c =
     tells_as
     (generated_book c.args.grammar.now c.args.seed c.args.depth (length c.args.tokens.now) (length c.args.listing.now) c.if-depth-gt15.false
-    (read_refused c.args.grammar.now 8192 long c.read_grammar-read.ensures.answered c.in-Refused.is))
+    (read_refused c.args.grammar.now 8192 long c.read_grammar.ensures.answered c.in-Refused.is))
     (record { reply_is = refl; tokens_are = c.clear.ensures; listing_is = c.clear-2.ensures })
 
 pub returns-in-Read : goal.returns-in-Read
 returns-in-Read c =
-    let R = read_as c.args.grammar.now 8192 long c.read_grammar-read.ensures.answered c.read_grammar-read.auto.items c.read_grammar-read.ensures.stored c.in-Read.is in
+    let R = read_as c.args.grammar.now 8192 long c.read_grammar.ensures.answered c.read_grammar.auto.items c.read_grammar.ensures.stored c.in-Read.is in
     let wrote = c.write_load.ensures R.grammar R.holds (accepted_reduced c.args.grammar.now R.grammar R.book_is).productive in
     tells_as (generated_book c.args.grammar.now c.args.seed c.args.depth (length c.args.tokens.now) (length c.args.listing.now) c.if-depth-gt15.false R.book_is)
     (rw (c.clear.auto.s, c.clear-2.auto.s) at wrote)
