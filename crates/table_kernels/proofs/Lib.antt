@@ -1,4 +1,5 @@
-pub mod MemoryLaws
 pub mod CapLaws
+pub mod JudgeLaws
+pub mod MemoryLaws
 pub mod NextLaws
 pub mod ReadLaws
