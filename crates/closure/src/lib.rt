@@ -136,6 +136,7 @@ fn add_kernel(
     ensures adds_2 { Adds (KernelFollows items.now totals.codes nullable.now first.now kernels.now lookaheads.now totals.lines q) follow.old follow.new }
 {
     let mut p = kernel_lines::last_line(kernels, links, totals.lines, q);
+    // Stays a while: it follows the links of the state, and counts nothing.
     while 0 < p {
         let l = p - 1;
         let i = kernel_lines::item_of(kernels, totals.lines, totals.items, l);

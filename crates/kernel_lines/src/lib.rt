@@ -96,6 +96,7 @@ pub fn find_line(
     ensures { Finds kernels.now lines q i k result }
 {
     let mut p = last_line(kernels, links, lines, q);
+    // Stays a while: it follows the links of the state, and counts nothing.
     while 0 < p {
         let l = p - 1;
         if is_of(kernels, lines, items, l, i, k) {

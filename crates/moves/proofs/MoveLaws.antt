@@ -6,7 +6,7 @@ use mathlib.Core.List.{List}
 use native.Mathlib.Omega.{arith}
 use borrow.Author.Tests.{lt-ltb, le-ltb, eq-eqb, ne_eqb}
 use lib.ListN.{get_or, length, set, length-set}
-use Rattle.items.specs.Layout.{left_at, length_at, mark_at, symbol_at}
+use Rattle.items.specs.Layout.{length_at, mark_at, symbol_at}
 use Rattle.fixpoint.specs.Flags.{On}
 use Rattle.fixpoint.proofs.CountLaws.{on_set, only_set, keep_set}
 use Rattle.memory.specs.Memory.{state_at, item_at, dot_at}
@@ -72,17 +72,6 @@ module _ (items kernels present : List ℕ) (rules lines : ℕ) where
   pub moved_to : {q X i j n m : ℕ} → i ≡ j → n ≡ m → MovedAt items kernels present rules lines q X i n → MovedAt items kernels present rules lines q X j m
   moved_to {q} {X} {i} {j} {n} {m} e f h =
       subst (λ (a : ℕ). MovedAt items kernels present rules lines q X a m) e (subst (λ (b : ℕ). MovedAt items kernels present rules lines q X i b) f h)
-
--- ---- a rule that the closure adds
-pub absent_low : {items present : List ℕ} {i left : ℕ} → left ≡ left_at items i → left < 64 → Present items present i → ⊥
-absent_low e l p = omega (arith, p.nonterminal)
-
-pub absent_off : {items present : List ℕ} {i left : ℕ} → left ≡ left_at items i → get_or present (left - 64) 0 ≡ 0 → Present items present i → ⊥
-absent_off {present = present} e z p = p.flagged.nonzero (subst (λ (x : ℕ). get_or present (x - 64) 0 ≡ 0) e z)
-
-pub present_on : {items present : List ℕ} {i left : ℕ} → left ≡ left_at items i → 64 ≤ left → (get_or present (left - 64) 0 ≡ 0 → ⊥) → Present items present i
-present_on {present = present} e l f =
-    record { nonterminal = omega arith; flagged = record { nonzero = λ z. f (subst (λ (x : ℕ). get_or present (x - 64) 0 ≡ 0) (sym e) z) } }
 
 -- ---- flags
 module _ {items kernels present : List ℕ} {rules lines q : ℕ} where

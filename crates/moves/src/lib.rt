@@ -154,6 +154,7 @@ fn flag_lines(
     ensures by_index { (l : ℕ) → l < lines → state_at kernels.now l ≡ q → On moves.new (symbol_after items.now (item_at kernels.now l) (dot_at kernels.now l)) }
 {
     let mut p = kernel_lines::last_line(kernels, links, lines, q);
+    // Stays a while: it follows the links of the state, and counts nothing.
     while 0 < p {
         let l = p - 1;
         let i = kernel_lines::item_of(kernels, lines, count, l);
