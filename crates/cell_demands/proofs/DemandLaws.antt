@@ -11,10 +11,6 @@ module _ {D : ℕ → ℕ → Type 0} where
   pub asking_none : (s o : List ℕ) → Asking D s o s o
   asking_none s o = record { long = refl; others_long = refl; kept = λ c v d. d; only = λ c v d. inl d; others_kept = λ c on. on; others_only = λ c v d. inl d }
 
-  -- nothing is wanted
-  pub asks_none : (s o : List ℕ) → ((c v : ℕ) → D c v → ⊥) → Asks D s o s o
-  asks_none s o f = record { asking = asking_none s o; met = λ c v d. absurd (f c v d) }
-
   pub met_kept : {s o s' o' : List ℕ} {c v : ℕ} → Asking D s o s' o' → Met s o c v → Met s' o' c v
   met_kept {c = c} {v = v} a (inl d) = inl (a.kept c v d)
   met_kept {c = c} a (inr on) = inr (a.others_kept c on)

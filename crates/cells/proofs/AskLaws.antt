@@ -1,11 +1,11 @@
 -- What an item asks of cells, and what a line and a rule ask, from what is asked of codes.
-use Prim.Native.Nat.{ℕ, ◌+◌, ◌*◌, ◌-◌, ◌≤◌, ◌<◌}
-use mathlib.Core.Path.{◌≡◌, sym, ap, subst, subst₂, ◌∙◌}
+use Prim.Native.Nat.{ℕ, ◌+◌, ◌*◌, ◌-◌, ◌<◌}
+use mathlib.Core.Path.{◌≡◌, sym, subst, subst₂}
 use mathlib.Core.Logic.{◌⊎◌, inl, inr}
 use mathlib.Core.List.{List}
 use native.Mathlib.Omega.{arith}
-use lib.ListN.{length, replicate, length-replicate}
-use Rattle.items.specs.Layout.{left_at, length_at, mark_at}
+use lib.ListN.{replicate}
+use Rattle.items.specs.Layout.{left_at, mark_at}
 use Rattle.fixpoint.specs.Flags.{On}
 use Rattle.fixpoint.proofs.PassLaws.{all_off}
 use Rattle.memory.specs.Memory.{state_at, item_at, dot_at}
@@ -14,7 +14,7 @@ use Rattle.analysis.specs.Adds.{Adds}
 use Rattle.item_first.specs.Rows.{FirstsAt}
 use Rattle.item_first.proofs.FirstLaws.{at_zero}
 use Rattle.cell_demands.specs.Demands.{Asks, CodeAsks}
-use Rattle.cell_demands.proofs.DemandLaws.{asks_none, asks_map}
+use Rattle.cell_demands.proofs.DemandLaws.{asks_map}
 use Rattle.cells.specs.Demands.{ItemAsks, announces, pops, LinesAsk, RuleAsks}
 
 -- ---- an item
@@ -36,29 +36,6 @@ module _ {items nul fst from : List ℕ} {rules codes i k start : ℕ} where
       of_item c v (announces e f is) = record { above = omega arith; below = first_low codes nul fst f.low f.first; on = subst (On row) (sym (at_zero c)) (r.every c f); is = is }
       of_item c v (pops n hi len low on is) = absurd (n m)
 
-  module _ (unmarked : mark_at items i ≡ k → ⊥) where
-    pub rule_asks : (s o : List ℕ) → i ≤ rules → Asks (ItemAsks items nul fst from rules codes i k start) s o s o
-    rule_asks s o l = asks_none s o none
-      where
-        none : (c v : ℕ) → ItemAsks items nul fst from rules codes i k start c v → ⊥
-        none c v (announces e f is) = unmarked e
-        none c v (pops n hi len low on is) = omega (arith, hi, l)
-
-    pub unfinished_asks : (s o : List ℕ) → (length_at items i ≡ k → ⊥) → Asks (ItemAsks items nul fst from rules codes i k start) s o s o
-    unfinished_asks s o f = asks_none s o none
-      where
-        none : (c v : ℕ) → ItemAsks items nul fst from rules codes i k start c v → ⊥
-        none c v (announces e w is) = unmarked e
-        none c v (pops n hi len low on is) = f len
-
-    pub pop_asks : {s₀ o₀ s o : List ℕ} → rules < i → length_at items i ≡ k → Asks (CodeAsks from start 0 codes (768 + k)) s₀ o₀ s o
-        → Asks (ItemAsks items nul fst from rules codes i k start) s₀ o₀ s o
-    pop_asks hi len a = asks_map (λ c v w. pops unmarked hi len w.below w.on w.is) of_item a
-      where
-        of_item : (c v : ℕ) → ItemAsks items nul fst from rules codes i k start c v → CodeAsks from start 0 codes (768 + k) c v
-        of_item c v (announces e f is) = absurd (unmarked e)
-        of_item c v (pops n h l low on is) = record { above = omega arith; below = low; on = on; is = is }
-
 -- ---- a kernel line
 
 -- what line l asks
@@ -79,6 +56,3 @@ pub rule_row : {items nul fst follow : List ℕ} {rules codes i left : ℕ} {s o
     → Asks (ItemAsks items nul fst follow rules codes i 0 ((left - 64) * 64)) s o s' o' → Asks (RuleAsks items nul fst follow rules codes i) s o s' o'
 rule_row {items} {nul} {fst} {follow} {rules} {codes} {i} {s = s} {o = o} {s' = s'} {o' = o'} e a =
     subst (λ (n : ℕ). Asks (ItemAsks items nul fst follow rules codes i 0 ((n - 64) * 64)) s o s' o') e a
-
-pub zero_length : {s : List ℕ} → s ≡ replicate 64 0 → length s ≡ 64
-zero_length e = ap length e ∙ length-replicate {A = ℕ} 64 0

@@ -88,6 +88,7 @@ fn ask_lines(
     ensures { Asks (LinesAsk items.now nullable.now first.now kernels.now lookaheads.now totals.rules totals.lines totals.codes q) asked.old others.old asked.new others.new }
 {
     let mut p = kernel_lines::last_line(kernels, links, totals.lines, q);
+    // Stays a while: it follows the links of the state, and counts nothing.
     while 0 < p {
         let l = p - 1;
         let i = kernel_lines::item_of(kernels, totals.lines, totals.items, l);
