@@ -279,8 +279,8 @@ fn add_kernel(
     // Stays a `while`: each line's link names the next one, so there is no range or slice to go over.
     while 0 < next {
         let l = next - 1;
-        let i = kernel_lines::item_of(kernels, totals.lines, totals.items, l);
-        let k = kernel_lines::dot_of(kernels, totals.lines, totals.items, l);
+        let item = kernel_lines::item_of(kernels, totals.lines, totals.items, l);
+        let dot = kernel_lines::dot_of(kernels, totals.lines, totals.items, l);
         let start = l * CODES;
         add_item(
             items,
@@ -296,11 +296,7 @@ fn add_kernel(
             lookaheads,
             totals,
             p,
-            DottedItem {
-                item: i,
-                dot: k,
-                start,
-            },
+            DottedItem { item, dot, start },
             asked,
         );
         next = kernel_lines::line_before(kernels, links, totals.lines, l);

@@ -10,7 +10,7 @@ loop-next-init c = lines_start _ c.last_line-next.ensures.0
 pub loop-next-preserved : goal.loop-next-preserved
 loop-next-preserved c =
     lines_more c.loop-next.invariant (λ e. omega (arith, e))
-    (line_item (c.loop-next.next - 1) c.item_of-i.ensures.0 c.dot_of-k.ensures.0 c.add_item.ensures)
+    (line_item (c.loop-next.next - 1) c.item_of-item.ensures.0 c.dot_of-dot.ensures.0 c.add_item.ensures)
     c.line_before-next.ensures.0
 
 pub returns : goal.returns
