@@ -1,5 +1,5 @@
 -- The pass over the states, and what it finds in the end.
-use Prim.Native.Nat.{ℕ, suc, ◌+◌, ◌*◌, ◌-◌, ◌≤◌, ◌<◌}
+use Prim.Native.Nat.{ℕ, suc, ◌+◌, ◌-◌, ◌≤◌, ◌<◌}
 use native.Mathlib.Omega.{arith}
 use mathlib.Core.Path.{◌≡◌, sym, subst}
 use mathlib.Core.Bool.{Bool}
@@ -24,9 +24,6 @@ use Rattle.check_memory.specs.Given.{Given}
 use Rattle.check_memory.proofs.FaultLaws.{found_more, narrow_fault}
 use Rattle.check_memory.proofs.VerdictLaws.{found_verdict}
 
-pub low_state : {q n : ℕ} → q ≤ n → n ≤ 255 → q < 256
-low_state a b = omega (arith, a, b)
-
 module _ (g : Grammar) (t : Table) (F : List ℕ → ℕ → ℕ → Type 0) {kernels : List ℕ} {lines codes : ℕ} where
   pub found_noted : {q items agree cells x y z : ℕ} {a b c : Bool} {included₀ included : List ℕ} → 1 ≤ q → x ≡ noted items a q → y ≡ noted agree b q → z ≡ noted cells c q
       → Found g t F kernels lines codes q items agree cells included₀ → StateChecked g t F kernels lines codes q a b c included₀ included → Found g t F kernels lines codes (q + 1) x y z included
@@ -38,15 +35,8 @@ module _ (g : Grammar) (t : Table) (F : List ℕ → ℕ → ℕ → Type 0) {ke
   pub found_end : {q n x y z : ℕ} {included : List ℕ} → q ≤ n + 1 → n < q → Found g t F kernels lines codes q x y z included → Found g t F kernels lines codes (n + 1) x y z included
   found_end {q} {n} {x} {y} {z} {included} a b f = subst (λ (m : ℕ). Found g t F kernels lines codes m x y z included) (let e : q ≡ n + 1 = omega (arith, a, b) in e) f
 
--- room for the flags of all lines
-pub lines_room : {lines n : ℕ} → lines ≤ 1023 → n ≡ 65536 → lines * 64 ≤ n
-lines_room a e = omega (arith, a, e)
-
 pub few_codes_of : {n : ℕ} → n ≤ 63 → n + 1 ≤ 64
 few_codes_of a = omega (arith, a)
-
-pub two_of : {n : ℕ} → 256 ≤ n → 2 ≤ n
-two_of a = omega (arith, a)
 
 -- fewer items
 pub shaped_less : {m : List ℕ} {rules count : ℕ} → rules ≤ count → Shaped m count → Shaped m rules
