@@ -10,7 +10,7 @@ use Rattle.language.specs.Sentence.{In}
 use Rattle.leftcorner.specs.Table.{EntryLine, E, Table, entry_at}
 use Rattle.leftcorner.specs.Construction.{entry_item, EntryAt, KernelAt, LookaheadsMeet}
 use Rattle.fixpoint.specs.Flags.{On}
-use Rattle.fixpoint.proofs.PassLaws.{no_gap, from_more}
+use Rattle.fixpoint.proofs.PassLaws.{from_more}
 use Rattle.memory.specs.Memory.{state_at, item_at, dot_at}
 use Rattle.memory.specs.Held.{HoldsTable}
 use Rattle.memory.proofs.RangeLaws.{entry_at_lem}
@@ -48,10 +48,6 @@ module _ {kernels lookaheads asked : List ℕ} {lines codes q source : ℕ} wher
           let b : c ≡ d = cc in
           let s : p ≡ source = cc in
           (s, subst₂ (MissingLine kernels lookaheads lines codes q) a b here, subst₂ (λ (x y : ℕ). On asked (x * 64 + y)) a b on)
-
-  pub missing_none : ((l : ℕ) → l < lines → state_at kernels l ≡ q → (c : ℕ) → c < codes → On asked (l * 64 + c) → On lookaheads (l * 64 + c))
-      → MissingIn kernels lookaheads asked lines codes q source MissingCode.Nothing
-  missing_none h = record { code = λ l c p z. not_code (sym z); none = λ z. record { each = λ l b e. record { covered = h l b e } } }
 
 -- ---- what is named
 pub missing_at : {kernels lookaheads asked : List ℕ} {lines few q source many : ℕ} → few ≤ many → (r : MissingCode) → MissingIn kernels lookaheads asked lines few q source r
@@ -133,8 +129,5 @@ module _ (g : Grammar) (t : Table) {items entries kernels lookaheads kinds value
 
 -- ---- state by state
 module _ (g : Grammar) (t : Table) (F : List ℕ → ℕ → ℕ → Type 0) {q : ℕ} where
-  pub below_none : LookaheadsBelow g t F 1 q
-  below_none = record { from = λ p a b. absurd (no_gap a b) }
-
   pub below_more : {n : ℕ} → LookaheadsBelow g t F n q → LookaheadsFrom g t F n q → LookaheadsBelow g t F (n + 1) q
   below_more {n} L here = record { from = from_more (λ (p : ℕ). LookaheadsFrom g t F p q) 1 n L.from here }
