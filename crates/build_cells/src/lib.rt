@@ -22,14 +22,10 @@ fn fill_cell(kinds: &mut [u8], values: &mut [u8], x: usize, demand: usize)
     requires { (x < length kinds.old) × (x < length values.old) }
     ensures { FillsCell demand x kinds.old values.old kinds.new values.new }
 {
-    if demand < ANNOUNCE {
-        return;
+    if ANNOUNCE <= demand && demand < POP + VALUES {
+        kinds[x] = (demand / VALUES) as u8;
+        values[x] = (demand % VALUES) as u8;
     }
-    if POP + VALUES <= demand {
-        return;
-    }
-    kinds[x] = (demand / VALUES) as u8;
-    values[x] = (demand % VALUES) as u8;
 }
 
 // Fills the cells of q.
@@ -37,10 +33,8 @@ fn fill_state(asked: &[usize], q: usize, kinds: &mut [u8], values: &mut [u8])
     requires { (length asked.now ≡ 64) × (q < 256) × (16384 ≤ length kinds.old) × (16384 ≤ length values.old) }
     ensures { FillsState asked.now q 64 kinds.old values.old kinds.new values.new }
 {
-    let mut c = 0;
-    while c < CODES {
-        fill_cell(kinds, values, q * CODES + c, asked[c]);
-        c += 1;
+    for (c, &demand) in asked.iter().enumerate() {
+        fill_cell(kinds, values, q * CODES + c, demand);
     }
 }
 
@@ -132,13 +126,13 @@ fn complete_state(
         → Decides (Agree g q) result × (result ≡ true → StateFilled g q kinds.old values.old kinds.new values.new) }
 {
     let mut asked = [0usize; CODES];
-    if !ask_state(
+    let agree = ask_state(
         items, kernels, links, lookaheads, nullable, first, starts, through, totals, q, &mut asked,
-    ) {
-        return false;
+    );
+    if agree {
+        fill_state(&asked, q, kinds, values);
     }
-    fill_state(&asked, q, kinds, values);
-    true
+    agree
 }
 
 // Adds announces and pops to the cells of all states, which hold the moves. Answers the lowest state whose items ask two different actions
@@ -162,15 +156,13 @@ pub fn fill_cells(
     ensures filled { (g : Grammar) (entries gotos : List ℕ) → HoldsLines g items.now entries kernels.now lookaheads.now nullable.now first.now totals.rules totals.entries totals.lines totals.states totals.codes → HoldsMoves g kinds.old values.old gotos
         → Filled g kinds.new values.new gotos result }
 {
-    let mut q = 1;
-    while q <= totals.states {
+    for q in 1..totals.states + 1 {
         if !complete_state(
             items, kernels, links, lookaheads, nullable, first, starts, through, totals, q, kinds,
             values,
         ) {
             return q;
         }
-        q += 1;
     }
     0
 }
