@@ -31,10 +31,8 @@ fn number_entries(strings: usize, entries: &mut [u8])
     requires { (strings ≤ 127) × (length entries.old ≡ 256) }
     ensures { Numbered entries.new strings }
 {
-    let mut k = 0;
-    while k <= strings {
+    for k in 0..strings + 1 {
         entries[k] = k as u8;
-        k += 1;
     }
 }
 
