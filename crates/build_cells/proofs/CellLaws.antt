@@ -34,7 +34,9 @@ use Rattle.build_states.specs.Lookaheads.{terminal_codes}
 use Rattle.build_states.proofs.CodeLaws.{first_in, codes_low}
 use Rattle.build_cells.specs.Fill.{Stored, StoredAt, KeptAt, FillsState}
 use Rattle.build_cells.specs.Cells.{items_of, cell_of, AskedOf, Agree, ShiftAt, HoldsLines, CellIs, StateFilled, Filling}
-use Rattle.build_cells.proofs.FillLaws.{kept_same, kept_then}
+
+kept_then : {k₀ v₀ k₁ v₁ k v : List ℕ} {x : ℕ} → KeptAt k₀ v₀ k₁ v₁ x → KeptAt k₁ v₁ k v x → KeptAt k₀ v₀ k v x
+kept_then a b = record { kind = b.kind ∙ a.kind; value = b.value ∙ a.value }
 
 pop_low : (n : ℕ) → pop_value n ≤ 255
 pop_low n = go (leb 1 n) (leb n 255) refl
@@ -130,13 +132,6 @@ module _ {g : Grammar} {m entries kernels lookaheads nul fst : List ℕ} {rules 
   state_filled {q} K f = record { here = λ c l h. cell_stored q c l K (f.here c l) h; other = f.other }
 
   -- ---- all states
-
-  pub filling_none : (kinds values : List ℕ) → Filling g 1 kinds values kinds values
-  filling_none kinds values = record {
-    agree = λ p a l. absurd (omega (arith, a, l));
-    done = λ p c a l. absurd (omega (arith, a, l));
-    rest = λ y _. kept_same y;
-  }
 
   moved_cell : {k₁ v₁ k v : List ℕ} {p c : ℕ} {o : Option Action} → KeptAt k₁ v₁ k v (p * 64 + c) → CellIs g k₁ v₁ p c o → CellIs g k v p c o
   moved_cell w a = record { kind = w.kind ∙ a.kind; value = w.value ∙ a.value }

@@ -1,4 +1,3 @@
-pub mod FillLaws
 pub mod HeldLaws
 pub mod CellLaws
 pub mod TableLaws

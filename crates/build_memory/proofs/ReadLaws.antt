@@ -11,8 +11,6 @@ use Rattle.grammar.specs.Book.{accepted, grammar_of}
 use Rattle.grammar.proofs.GrammarLaws.{accepted_reduced}
 use Rattle.grammar.proofs.ReadLaws.{ReadAs}
 use Rattle.build_states.specs.Strings.{entry_strings}
-use Rattle.build_states.specs.States.{states}
-use Rattle.build_states.proofs.Discovery.{Fits}
 use Rattle.build_book.proofs.BookLaws.{Within}
 use Rattle.build_entries.specs.Memory.{RulesOnly, Listed}
 use Rattle.build_entries.proofs.HoldsLaws.{entries_shaped, entries_held}
@@ -60,7 +58,3 @@ too_large {g = g} e f = record { grammar = g; book_is = e; past_limits = f }
 -- too many entries
 pub listed_many : {g : Grammar} {size : ℕ} {items : List ℕ} {strings : ℕ} → Listed g size items strings → 127 < strings → Within g → ⊥
 listed_many L l w = let z = w.few_entries in let y = L.count_is in omega (arith, l, y, z)
-
--- too many states or kernel lines
-pub too_many_states : {g : Grammar} → (Fits (states g) → ⊥) → Within g → ⊥
-too_many_states f w = f (record { states = w.few_states; lines = w.few_lines })

@@ -1,12 +1,11 @@
 -- Memory once the states are known, as each later stage asks for it.
 use Prim.Native.Nat.{ℕ, zero, suc, ◌+◌, ◌*◌, ◌-◌, ◌≤◌, ◌<◌}
-use native.Mathlib.Decide.{ℕ_discrete, dec_le}
+use native.Mathlib.Decide.{dec_le}
 use native.Mathlib.Omega.{arith}
 use mathlib.Core.Path.{◌≡◌, refl, sym, ap, subst, ◌∙◌}
 use mathlib.Core.Bool.{Bool, true, false}
 use mathlib.Core.List.{List, []}
-use lib.ListN.{length, get_or, set}
-use lib.Seq.{get_or-set_same, get_or-set_other}
+use lib.ListN.{length, get_or}
 use Rattle.language.specs.Grammar.{Grammar}
 use Rattle.language.specs.Sentence.{In}
 use Rattle.language.proofs.GrammarLaws.{in_string, in_index}
@@ -34,14 +33,6 @@ use Rattle.build_lookaheads.proofs.TableLaws.{entries_fit}
 use Rattle.build_moves.specs.Held.{HoldsGrammar, holds_grammar}
 use Rattle.build_memory.specs.Stages.{Entered, Stated, Numbered}
 use Rattle.build_memory.proofs.PlaceLaws.{Place, place_of, place_low}
-
--- entry k's state was stored
-pub number_more : (entries : List ℕ) {k : ℕ} → k < length entries → ((j : ℕ) → j < k → get_or entries j 0 ≡ j) → (j : ℕ) → j < k + 1 → get_or (set entries k k) j 0 ≡ j
-number_more entries {k} room below j l = go (ℕ_discrete j k)
-  where
-    go : Dec (j ≡ k) → get_or (set entries k k) j 0 ≡ j
-    go (yes e) = rw e (get_or-set_same entries k k 0 room)
-    go (no n) = get_or-set_other entries k j k 0 n ∙ below j (omega (arith, l, n))
 
 pub kind_one : (v : ℕ) → 1 ≤ v → shift_kind v ≡ 1
 kind_one zero l = absurd (omega (arith, l))
