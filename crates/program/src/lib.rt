@@ -1,14 +1,16 @@
-// What the programs share: the files that arguments name, and standard output, which is written in blocks.
+// What the programs share: the files and numbers that arguments name, what is said on standard error of those that won't do, and
+// standard output, which is written in blocks.
 // Inner: for the programs.
 #![tactic(auto)]
 
 ghost use Rattle.std.specs.Counts.{IsPrefixLen};
-ghost use Rattle.std.specs.Prelude.{◌≡◌, ◌≤◌, ◌<◌, length};
+ghost use Rattle.std.specs.Prelude.{◌≡◌, ◌≤◌, ◌<◌, IfOk, IfSome, length, vec_len};
 
+use std::alloc::AllocError;
 use std::env::{Env, FillError};
 use std::fs::File;
-use std::io;
-use std::io::Read;
+use std::io::{Read, Write};
+use std::{io, mem};
 
 // The bytes of a block of output.
 const BLOCK: usize = 4096;
@@ -19,189 +21,128 @@ const NAME: usize = 4096;
 // The error of an argument of more bytes, ENAMETOOLONG.
 const TOO_LONG: i32 = 36;
 
-// An output: a block of it, of which the first `waiting` bytes wait to be written. One of which a write failed takes nothing more, so
-// that what was written has no gap.
-#[derive(Drop)]
-pub struct Printer {
-    rt: HostRuntime,
-    block: [u8; BLOCK],
-    waiting: usize,
-    failed: bool,
-}
-
-// A file's bytes at the start of a buffer: how many there are, and whether reading failed.
-#[derive(Clone, Copy)]
-pub struct Input {
-    pub size: usize,
-    pub failed: bool,
-}
-
-// What a file is that could not be read.
-const NOT_READ: Input = Input {
-    size: 0,
-    failed: true,
-};
-
 // The bytes of a file that are read: one more than the most that a file may have.
 pub const FILE: usize = 65537;
 
 // The states, and the rules, that a walk or a load may come to.
 pub const LENT: usize = 1048576;
 
-// A slice of so many bytes, all alike.
-pub fn lend(byte: u8) -> [u8; LENT]
-    ensures { 1048576 ≡ length result }
-{
-    [byte; LENT]
-}
-
 // The least number of more than 32 bits, which stands for every greater one too.
 const BEYOND: u64 = 4294967296;
 
-// The digits that a word begins with: the number that they are, at most BEYOND, and how many there are.
-#[derive(Clone, Copy)]
-struct Digits {
-    value: u64,
-    count: usize,
+// Why a program stops. An argument goes by what it is for; the bytes of a path need not be text.
+#[derive(Debug, Drop)]
+pub enum Error<'a> {
+    Missing(&'a str),
+    NameTooLong(&'a str),
+    NoNumber(&'a str),
+    TooGreat(&'a str),
+    Unreadable(Vec<u8>, io::Error),
+    Output(io::Error),
+    OutOfMemory,
 }
 
-// The number that a word is, at most BEYOND, and whether it is none.
-#[derive(Clone, Copy)]
-pub struct Word {
-    pub value: u64,
-    pub failed: bool,
+// Of output alone: what fails of a file has its path beside it.
+impl From<io::Error> for Error<'_> {
+    fn from(error: io::Error) -> Self {
+        Error::Output(error)
+    }
 }
 
-// What a word is that is no number.
-const NO_NUMBER: Word = Word {
-    value: 0,
-    failed: true,
-};
-
-// Says on standard error what is wrong. Where that cannot be written, nothing says so.
-fn tell(rt: HostRuntime, what: &[u8], why: &[u8], usage: &[u8]) {
-    let _ = rt.stderr().write_all(what);
-    let _ = rt.stderr().write_all(why);
-    let _ = rt.stderr().write_all(usage);
+impl From<AllocError> for Error<'_> {
+    fn from(_error: AllocError) -> Self {
+        Error::OutOfMemory
+    }
 }
 
-// Says on standard error what failed and why, as the system words it, without the error's number.
-fn tell_error(rt: HostRuntime, what: &[u8], error: io::Error) {
-    tell(rt, what, b": ", b"");
-    let _ = match error.to_string(rt.alloc()) {
-        Ok(text) => rt.eprintln(text.split(" (os error ").next().unwrap_or("")),
-        Err(_) => rt.eprintln("out of memory"),
+impl Error<'_> {
+    // Says on standard error what is wrong and, unless it is the output or the memory, how the program is used. Where that cannot be
+    // written, nothing says so.
+    pub fn tell(self, rt: HostRuntime, usage: &str) {
+        let _ = self.print(rt, usage);
+    }
+
+    fn print(self, rt: HostRuntime, usage: &str) -> io::Result<()> {
+        match self {
+            Error::Missing(what) => eprintln!(rt; "{what} is missing")?,
+            Error::NoNumber(what) => eprintln!(rt; "{what} is no number")?,
+            Error::TooGreat(what) => eprintln!(rt; "{what} is above 4294967295")?,
+            Error::NameTooLong(what) => {
+                print_reason(rt, what.as_bytes(), io::Error::from_raw_os_error(TOO_LONG))?
+            }
+            Error::Unreadable(path, error) => print_reason(rt, &path, error)?,
+            Error::Output(error) => return print_reason(rt, b"standard output", error),
+            Error::OutOfMemory => return eprintln!(rt; "out of memory"),
+        }
+        eprint!(rt; "{usage}")
+    }
+}
+
+// What failed and why, as the system words it, without the error's number.
+fn print_reason(rt: HostRuntime, what: &[u8], error: io::Error) -> io::Result<()> {
+    Write::write_all(&mut rt.stderr(), what)?;
+    let Ok(text) = error.to_string(rt.alloc()) else {
+        return eprintln!(rt; ": out of memory");
     };
+    let reason = text.split(" (os error ").next().unwrap_or("");
+    eprintln!(rt; ": {reason}")
 }
 
-// Says on standard error that an argument is missing, and how the program is used.
-pub fn tell_missing(rt: HostRuntime, what: &[u8], usage: &[u8]) {
-    tell(rt, what, b" is missing\n", usage);
-}
-
-// Whether reading failed: where it did, the next read fails too.
-fn fails(file: &mut File) -> io::Result<()> {
-    file.read(&mut [0u8; 1])?;
+// Puts what the file at `path` has, FILE bytes at most, into `bytes`; where reading fails, what was read. The library opens those files
+// alone whose names are UTF-8.
+fn read_path(rt: HostRuntime, path: &[u8], bytes: &mut Vec<u8>) -> io::Result<()>
+    ensures { vec_len bytes.new ≤ 65537 }
+{
+    bytes.clear();
+    let Ok(path) = std::str::from_utf8(path) else {
+        return Err(io::Error::new(io::ErrorKind::InvalidInput, "not UTF-8"));
+    };
+    let outcome = File::open(&rt, path)?.take(FILE as u64).read_to_end(bytes);
+    // `take` lets no more through, which no clause of it says.
+    bytes.truncate(FILE);
+    outcome?;
     Ok(())
 }
 
-// Reads a file until `buf` is full or the file ends. Where that fails, a line on standard error names it and says why.
-fn read_open(rt: HostRuntime, mut file: File, path: &[u8], buf: &mut [u8]) -> Input
-    ensures { IsPrefixLen result.size buf.new }
+// The same of the file that argument i names.
+pub fn read_into<'a>(
+    rt: HostRuntime,
+    i: usize,
+    what: &'a str,
+    bytes: &mut Vec<u8>,
+) -> Result<(), Error<'a>>
+    ensures { vec_len bytes.new ≤ 65537 }
 {
-    let mut size = 0;
-    while size < buf.len() {
-        match file.read(&mut buf[size..]) {
-            Ok(0) => break,
-            Ok(n) => size += n,
-            Err(_) => break,
-        }
+    bytes.clear();
+    let mut name = [0u8; NAME];
+    let path = match rt.arg(i, &mut name) {
+        Ok(n) => &name[..n],
+        Err(FillError::NotPresent) => return Err(Error::Missing(what)),
+        Err(FillError::TooLong) => return Err(Error::NameTooLong(what)),
+    };
+    if let Err(error) = read_path(rt, path, bytes) {
+        return Err(Error::Unreadable(path.to_vec(rt.alloc())?, error));
     }
-    if size == buf.len() {
-        return Input {
-            size,
-            failed: false,
-        };
-    }
-    if let Err(e) = fails(&mut file) {
-        tell_error(rt, path, e);
-        return Input { size, failed: true };
-    }
-    Input {
-        size,
-        failed: false,
-    }
+    Ok(())
 }
 
-// Opens the file at `path`. The library opens those alone whose names are UTF-8.
-fn open(rt: HostRuntime, path: &[u8]) -> io::Result<File> {
-    match std::str::from_utf8(path) {
-        Ok(path) => File::open(&rt, path),
-        Err(_) => Err(io::Error::new(io::ErrorKind::InvalidInput, "not UTF-8")),
-    }
-}
-
-// Reads the file at `path`. Where that fails, a line on standard error names it and says why.
-fn read_path(rt: HostRuntime, path: &[u8], buf: &mut [u8]) -> Input
-    ensures { IsPrefixLen result.size buf.new }
+// The bytes of the file that argument i names, as `read_into` has them.
+pub fn read(rt: HostRuntime, i: usize, what: &str) -> Result<Vec<u8>, Error<'_>>
+    ensures { IfOk result (λ bytes. vec_len bytes ≤ 65537) }
 {
-    match open(rt, path) {
-        Ok(file) => read_open(rt, file, path, buf),
-        Err(e) => {
-            tell_error(rt, path, e);
-            NOT_READ
-        }
-    }
+    let mut bytes = Vec::new(rt.alloc());
+    read_into(rt, i, what, &mut bytes)?;
+    Ok(bytes)
 }
 
-// Argument i, a path, at the start of a buffer. Where it is missing or too long, standard error says so, and how the program is
-// used.
-fn read_name(rt: HostRuntime, i: usize, what: &[u8], usage: &[u8], name: &mut [u8]) -> Input
-    ensures { IsPrefixLen result.size name.new }
+// The same for an argument that may be left out.
+pub fn read_optional(rt: HostRuntime, i: usize, what: &str) -> Result<Option<Vec<u8>>, Error<'_>>
+    ensures { IfOk result (λ read. IfSome read (λ bytes. vec_len bytes ≤ 65537)) }
 {
-    match rt.arg(i, name) {
-        Ok(size) => Input {
-            size,
-            failed: false,
-        },
-        Err(FillError::NotPresent) => {
-            tell_missing(rt, what, usage);
-            NOT_READ
-        }
-        Err(FillError::TooLong) => {
-            tell_error(rt, what, io::Error::from_raw_os_error(TOO_LONG));
-            tell(rt, usage, b"", b"");
-            NOT_READ
-        }
+    if !has_argument(rt, i) {
+        return Ok(None);
     }
-}
-
-// Reads the file that argument i names. Where that fails, standard error names the file, or `what` where there is no such
-// argument, and says how the program is used.
-pub fn read_argument(rt: HostRuntime, i: usize, what: &[u8], usage: &[u8], buf: &mut [u8]) -> Input
-    ensures { IsPrefixLen result.size buf.new }
-{
-    let mut path = [0u8; NAME];
-    let name = read_name(rt, i, what, usage, &mut path);
-    if name.failed {
-        return NOT_READ;
-    }
-    let n = name.size;
-    let input = read_path(rt, &path[..n], buf);
-    if input.failed {
-        tell(rt, usage, b"", b"");
-    }
-    input
-}
-
-// How many arguments there are, the program's name too.
-pub fn argument_count(rt: HostRuntime) -> usize {
-    for i in 0..usize::MAX {
-        if !has_argument(rt, i) {
-            return i;
-        }
-    }
-    usize::MAX
+    Ok(Some(read(rt, i, what)?))
 }
 
 // Whether there is an argument i.
@@ -209,110 +150,76 @@ pub fn has_argument(rt: HostRuntime, i: usize) -> bool {
     !matches!(rt.arg(i, &mut [0u8; 1]), Err(FillError::NotPresent))
 }
 
-// The same for an argument that may be left out: there is nothing to read then.
-pub fn read_optional(rt: HostRuntime, i: usize, what: &[u8], usage: &[u8], buf: &mut [u8]) -> Input
-    ensures { IsPrefixLen result.size buf.new }
-{
-    if has_argument(rt, i) {
-        return read_argument(rt, i, what, usage, buf);
-    }
-    Input {
-        size: 0,
-        failed: false,
-    }
+// How many arguments there are, the program's name too.
+pub fn argument_count(rt: HostRuntime) -> usize {
+    (0..usize::MAX).take_while(|i| has_argument(rt, *i)).count()
 }
 
-fn wide(b: u8) -> usize
-    ensures { result < 256 }
+// The number that a word of decimal digits is, at most BEYOND; leading zeros play no part. None for a word of other bytes or of none.
+fn number_of(word: &[u8]) -> Option<u64>
+    ensures { IfSome result (λ n. n ≤ 4294967296) }
 {
-    b as usize
-}
-
-// A number of which v is read, with one digit more.
-fn add_digit(v: u64, digit: usize) -> u64
-    requires { (v ≤ 4294967296) × (digit < 256) }
-    ensures { result ≤ 4294967296 }
-{
-    let w = v * 10 + digit as u64;
-    if w < BEYOND {
-        return w;
+    if word.is_empty() {
+        return None;
     }
-    BEYOND
-}
-
-// The digits that a word begins with.
-fn read_digits(word: &[u8]) -> Digits
-    ensures { result.value ≤ 4294967296 }
-{
-    let mut value = 0;
-    let mut i = 0;
-    while i < word.len() {
-        let b = wide(word[i]);
-        if b < 48 {
-            return Digits { value, count: i };
-        }
-        if 57 < b {
-            return Digits { value, count: i };
-        }
-        value = add_digit(value, b - 48);
-        i += 1;
+    let mut value = 0u64;
+    for b in word {
+        let b'0'..=b'9' = *b else {
+            return None;
+        };
+        value = (value * 10 + (*b - b'0') as u64).min(BEYOND);
     }
-    Digits { value, count: i }
+    Some(value)
 }
 
-// The number that argument i begins with, as `Digits` has it; 0 where there is none.
+// The number that argument i begins with, as `number_of` has it; 0 where there is none.
 pub fn argument_number(rt: HostRuntime, i: usize) -> u64
     ensures { result ≤ 4294967296 }
 {
     let mut word = [0u8; NAME];
-    match rt.arg(i, &mut word) {
-        Ok(n) => read_digits(&word[..n]).value,
-        Err(_) => 0,
-    }
+    let n = rt.arg(i, &mut word).unwrap_or(0);
+    let word = &word[..n];
+    let end = word
+        .iter()
+        .position(|b| !b.is_ascii_digit())
+        .unwrap_or(word.len());
+    number_of(&word[..end]).unwrap_or(0)
 }
 
-// The number that a word is, as `Digits` has it, unless it has other bytes or none.
-fn number_of(word: &[u8]) -> Word {
-    let digits = read_digits(word);
-    if digits.count == 0 {
-        return NO_NUMBER;
-    }
-    if digits.count != word.len() {
-        return NO_NUMBER;
-    }
-    Word {
-        value: digits.value,
-        failed: false,
-    }
-}
-
-// The number that argument i is; leading zeros play no part. Where it is none, standard error says so, and how the program is used.
-pub fn read_number(rt: HostRuntime, i: usize, what: &[u8], usage: &[u8]) -> Word {
+// The number that argument i is, as `number_of` has it.
+pub fn read_number(rt: HostRuntime, i: usize, what: &str) -> Result<u64, Error<'_>>
+    ensures { IfOk result (λ n. n ≤ 4294967296) }
+{
     let mut word = [0u8; NAME];
-    let number = match rt.arg(i, &mut word) {
-        Ok(n) => number_of(&word[..n]),
-        Err(FillError::TooLong) => NO_NUMBER,
-        Err(FillError::NotPresent) => {
-            tell_missing(rt, what, usage);
-            return NO_NUMBER;
-        }
-    };
-    if number.failed {
-        tell(rt, what, b" is no number\n", usage);
+    match rt.arg(i, &mut word) {
+        Ok(n) => number_of(&word[..n]).ok_or(Error::NoNumber(what)),
+        Err(FillError::TooLong) => Err(Error::NoNumber(what)),
+        Err(FillError::NotPresent) => Err(Error::Missing(what)),
     }
-    number
 }
 
 // The same for a number of 32 bits: a greater one is refused as well.
-pub fn read_u32(rt: HostRuntime, i: usize, what: &[u8], usage: &[u8]) -> Word
-    ensures { result.value < 4294967296 }
+pub fn read_u32(rt: HostRuntime, i: usize, what: &str) -> Result<u32, Error<'_>> {
+    let number = read_number(rt, i, what)?;
+    u32::try_from(number).map_err(|_| Error::TooGreat(what))
+}
+
+// So many bytes, all alike, as a walk or a load is lent.
+pub fn lend(byte: u8) -> [u8; LENT]
+    ensures { 1048576 ≡ length result }
 {
-    let number = read_number(rt, i, what, usage);
-    if number.value < BEYOND {
-        return number;
-    }
-    tell(rt, what, b" is above 4294967295\n", usage);
-    NO_NUMBER
+    [byte; LENT]
+}
+
+// Standard output, in blocks: the first `waiting` bytes of `block` wait to be written. One of which a failed write was told takes nothing
+// more, so that what was written has no gap. Every program that prints ends with a `flush`.
+#[derive(Drop)]
+pub struct Printer {
+    rt: HostRuntime,
+    block: [u8; BLOCK],
+    waiting: usize,
+    failed: bool,
+    ghost within: { waiting ≤ 4096 },
 }
 
 // An output of which nothing waits.
@@ -325,118 +232,128 @@ pub fn output(rt: HostRuntime) -> Printer {
     }
 }
 
-// Writes what waits. Every program that prints ends with this. Where it fails, standard error says so.
-pub fn flush(out: &mut Printer) {
-    let n = out.waiting.min(BLOCK);
-    out.waiting = 0;
-    if out.failed {
-        return;
+impl Write for Printer {
+    fn write(&mut self, bytes: &[u8]) -> io::Result<usize> {
+        if self.waiting == BLOCK {
+            self.flush()?;
+        }
+        let n = bytes.len().min(BLOCK - self.waiting);
+        self.block[self.waiting..self.waiting + n].copy_from_slice(&bytes[..n]);
+        self.waiting += n;
+        Ok(n)
     }
-    if let Err(e) = out.rt.write_all(&out.block[..n]) {
-        tell_error(out.rt, b"standard output", e);
+
+    fn flush(&mut self) -> io::Result<()> {
+        let n = mem::take(&mut self.waiting);
+        if self.failed {
+            return Ok(());
+        }
+        Print::write_all(&self.rt, &self.block[..n])
+    }
+}
+
+// What follows serves callers that hand on no result: an error is told where it comes up, and they go on.
+
+// A file's bytes at the start of a buffer: how many there are, and whether reading failed.
+#[derive(Clone, Copy)]
+pub struct Input {
+    pub size: usize,
+    pub failed: bool,
+}
+
+fn as_text(bytes: &[u8]) -> &str {
+    std::str::from_utf8(bytes).unwrap_or("")
+}
+
+// Says on standard error that an argument is missing, and how the program is used.
+pub fn tell_missing(rt: HostRuntime, what: &[u8], usage: &[u8]) {
+    Error::Missing(as_text(what)).tell(rt, as_text(usage));
+}
+
+// Reads the file that argument i names, as far as `buf` goes.
+pub fn read_argument(rt: HostRuntime, i: usize, what: &[u8], usage: &[u8], buf: &mut [u8]) -> Input
+    ensures { IsPrefixLen result.size buf.new }
+{
+    let mut bytes = Vec::new(rt.alloc());
+    let read = read_into(rt, i, as_text(what), &mut bytes);
+    let failed = read.is_err();
+    if let Err(error) = read {
+        error.tell(rt, as_text(usage));
+    }
+    let size = bytes.len().min(buf.len());
+    buf[..size].copy_from_slice(&bytes[..size]);
+    Input { size, failed }
+}
+
+fn told(out: &mut Printer, printed: io::Result<()>) {
+    if let Err(error) = printed {
         out.failed = true;
+        Error::Output(error).tell(out.rt, "");
     }
+}
+
+// Writes what waits.
+pub fn flush(out: &mut Printer) {
+    let printed = out.flush();
+    told(out, printed);
 }
 
 // Prints a byte.
 pub fn print_byte(out: &mut Printer, b: u8) {
-    if BLOCK <= out.waiting {
-        flush(out);
-    }
-    if out.waiting < BLOCK {
-        out.block[out.waiting] = b;
-        out.waiting += 1;
-    }
+    let printed = out.write_all(&[b]);
+    told(out, printed);
 }
 
 // Prints what stands before the first 0.
 pub fn print_text(out: &mut Printer, text: &[u8]) {
-    let mut i = 0;
-    while i < text.len() {
-        if text[i] == 0 {
-            return;
-        }
-        print_byte(out, text[i]);
-        i += 1;
-    }
-}
-
-fn print_decimal(out: &mut Printer, n: u64) {
-    if 9 < n {
-        print_decimal(out, n / 10);
-    }
-    print_byte(out, b'0' + (n % 10) as u8);
-}
-
-// Prints argument i.
-pub fn print_argument(out: &mut Printer, i: usize) {
-    let mut word = [0u8; NAME];
-    let _ = out.rt.arg(i, &mut word);
-    print_text(out, &word);
-}
-
-// Prints a number and an LF.
-pub fn print_number(out: &mut Printer, n: u64) {
-    print_decimal(out, n);
-    print_byte(out, b'\n');
-}
-
-// Prints a number and a comma.
-pub fn print_field(out: &mut Printer, n: u64) {
-    print_decimal(out, n);
-    print_byte(out, b',');
+    let end = text.iter().position(|b| *b == 0).unwrap_or(text.len());
+    let printed = out.write_all(&text[..end]);
+    told(out, printed);
 }
 
 // Prints `a,b` and an LF.
 pub fn print_pair(out: &mut Printer, a: u64, b: u64) {
-    print_field(out, a);
-    print_number(out, b);
-}
-
-// Prints each byte that is not 0 as a number on a line: what stands in a slice before its zeros.
-pub fn print_bytes(out: &mut Printer, bytes: &[u8]) {
-    let mut i = 0;
-    while i < bytes.len() {
-        if bytes[i] != 0 {
-            print_number(out, wide(bytes[i]) as u64);
-        }
-        i += 1;
-    }
-}
-
-// Prints each of the first n bytes as a number on a line, zeros too, and each after them that is not 0.
-pub fn print_list(out: &mut Printer, bytes: &[u8], n: usize) {
-    let mut i = 0;
-    while i < bytes.len() {
-        if i < n {
-            print_number(out, wide(bytes[i]) as u64);
-        } else if bytes[i] != 0 {
-            print_number(out, wide(bytes[i]) as u64);
-        }
-        i += 1;
-    }
-}
-
-// Prints `a,b,c,d` and an LF.
-pub fn print_figures(out: &mut Printer, a: u64, b: u64, c: u64, d: u64) {
-    print_field(out, a);
-    print_field(out, b);
-    print_pair(out, c, d);
-}
-
-// Prints `a,b,c` and an LF, or `a,b,-` where there is no c.
-pub fn print_or_none(out: &mut Printer, a: u64, b: u64, c: u64, none: bool) {
-    print_field(out, a);
-    print_field(out, b);
-    if none {
-        print_text(out, b"-\n");
-        return;
-    }
-    print_number(out, c);
+    let printed = writeln!(out, "{a},{b}");
+    told(out, printed);
 }
 
 // Prints a text and a number.
 pub fn print_count(out: &mut Printer, text: &[u8], n: usize) {
     print_text(out, text);
-    print_decimal(out, n as u64);
+    let printed = write!(out, "{n}");
+    told(out, printed);
+}
+
+#[cfg(test)]
+mod tests {
+    use super::*;
+    use std::test::Fail;
+
+    // Argument 0 names the test's own program.
+    #[test]
+    fn reads_a_file(rt: HostRuntime) -> Result<(), Fail> {
+        let bytes = read(rt, 0, "PROGRAM")?;
+        assert!(rt; bytes.starts_with(b"\x7fELF"));
+        assert_eq!(rt; read_optional(rt, 0, "PROGRAM")?, Some(bytes));
+        Ok(())
+    }
+
+    #[test]
+    fn reads_no_file(rt: HostRuntime) -> Result<(), Fail> {
+        assert!(rt; matches!(read(rt, 1000, "PROGRAM"), Err(Error::Missing("PROGRAM"))));
+        assert_eq!(rt; read_optional(rt, 1000, "PROGRAM")?, None);
+        Ok(())
+    }
+
+    #[test]
+    fn reads_numbers(rt: HostRuntime) {
+        assert_eq!(rt; number_of(b"0"), Some(0));
+        assert_eq!(rt; number_of(b"007"), Some(7));
+        assert_eq!(rt; number_of(b"4294967295"), Some(4294967295));
+        assert_eq!(rt; number_of(b"4294967296"), Some(BEYOND));
+        assert_eq!(rt; number_of(b"99999999999999999999999"), Some(BEYOND));
+        assert_eq!(rt; number_of(b""), None);
+        assert_eq!(rt; number_of(b"+1"), None);
+        assert_eq!(rt; number_of(b"1,"), None);
+    }
 }
