@@ -1,38 +1,30 @@
 // build_tables GRAMMAR: builds the table book of a grammar book and prints it, or the refusal's number and place.
 #![tactic(auto)]
 
+use program::Error;
 use reply::Reply;
+use std::io::Write;
 
-fn show(rt: HostRuntime, grammar: &[u8]) {
-    let mut book = [0u8; 65536];
-    let mut out = program::output(rt);
-    let built = builder::build_tables(grammar, &mut book);
-    let n = built.length;
+// The most bytes that a table book has.
+const BOOK: usize = 65536;
+
+fn run(rt: HostRuntime) -> Result<(), Error<'static>> {
+    let grammar = program::read(rt, 1, "GRAMMAR")?;
+    let mut book = vec![in rt.alloc(); 0u8; BOOK]?;
+    let built = builder::build_tables(&grammar, &mut book);
     let reply = built.reply;
+    book.truncate(built.length);
+    let mut out = program::output(rt);
     match reply {
-        Reply::Accepted(_) => program::print_text(&mut out, &book[..n]),
-        Reply::Refused(_) => program::print_pair(
-            &mut out,
-            reply::number(reply),
-            reply::place(reply) as u64,
-        ),
+        Reply::Accepted(_) => out.write_all(&book)?,
+        Reply::Refused(_) => writeln!(out, "{},{}", reply::number(reply), reply::place(reply))?,
     }
-    program::flush(&mut out);
+    out.flush()?;
+    Ok(())
 }
 
 fn main(rt: HostRuntime) {
-    // One byte more than a book may have.
-    let mut grammar = [0u8; program::FILE];
-    let input = program::read_argument(
-        rt,
-        1,
-        b"GRAMMAR",
-        b"usage: build_tables GRAMMAR\n",
-        &mut grammar,
-    );
-    if input.failed {
-        return;
+    if let Err(error) = run(rt) {
+        error.tell(rt, "usage: build_tables GRAMMAR\n");
     }
-    let n = input.size;
-    show(rt, &grammar[..n]);
 }
