@@ -2,39 +2,35 @@
 // the reply's number and place, how many tokens and rules there are, then each token on a line, then each rule on a line.
 #![tactic(auto)]
 
-fn show(rt: HostRuntime, grammar: &[u8], seed: u32, depth: usize) {
+use program::Error;
+use std::io::Write;
+
+fn run(rt: HostRuntime) -> Result<(), Error<'static>> {
+    let grammar = program::read(rt, 1, "GRAMMAR")?;
+    let seed = program::read_u32(rt, 2, "SEED")?;
+    let depth = program::read_number(rt, 3, "DEPTH")?;
     let mut tokens = [0u8; generate_steps::TOKENS];
     let mut listing = program::lend(0);
-    let mut out = program::output(rt);
-    let answer = generator::make_load(grammar, seed, depth, &mut tokens, &mut listing);
+    let answer = generator::make_load(&grammar, seed, depth as usize, &mut tokens, &mut listing);
     let reply = generator::as_reply(answer);
-    program::print_figures(
-        &mut out,
+    let mut out = program::output(rt);
+    writeln!(
+        out,
+        "{},{},{},{}",
         reply::number(reply),
-        reply::place(reply) as u64,
-        generator::token_count(answer) as u64,
-        generator::rule_count(answer) as u64,
-    );
-    program::print_bytes(&mut out, &tokens);
-    program::print_bytes(&mut out, &listing);
-    program::flush(&mut out);
+        reply::place(reply),
+        generator::token_count(answer),
+        generator::rule_count(answer),
+    )?;
+    for code in tokens.iter().chain(&listing).filter(|code| **code != 0) {
+        writeln!(out, "{code}")?;
+    }
+    out.flush()?;
+    Ok(())
 }
 
 fn main(rt: HostRuntime) {
-    let usage = b"usage: make_load GRAMMAR SEED DEPTH\n";
-    let mut grammar = [0u8; program::FILE];
-    let book = program::read_argument(rt, 1, b"GRAMMAR", usage, &mut grammar);
-    if book.failed {
-        return;
+    if let Err(error) = run(rt) {
+        error.tell(rt, "usage: make_load GRAMMAR SEED DEPTH\n");
     }
-    let seed = program::read_u32(rt, 2, b"SEED", usage);
-    if seed.failed {
-        return;
-    }
-    let depth = program::read_number(rt, 3, b"DEPTH", usage);
-    if depth.failed {
-        return;
-    }
-    let n = book.size;
-    show(rt, &grammar[..n], seed.value as u32, depth.value as usize);
 }
