@@ -3,87 +3,46 @@
 // each listed rule on a line.
 #![tactic(auto)]
 
-use session::SessionReply;
+use program::Error;
+use std::io::Write;
 
-fn walk(
-    lettered: bool,
-    grammar: &[u8],
-    tables: &[u8],
-    letters: &[u8],
-    scans: &[u8],
-    stack: &mut [u8],
-    listing: &mut [u8],
-) -> SessionReply {
-    if lettered {
-        return scan_session::run_lettered(grammar, tables, letters, scans, stack, listing);
-    }
-    scan_session::run_scans(grammar, tables, scans, stack, listing)
-}
-
-fn show(
-    rt: HostRuntime,
-    lettered: bool,
-    grammar: &[u8],
-    tables: &[u8],
-    letters: &[u8],
-    scans: &[u8],
-) {
+fn run(rt: HostRuntime) -> Result<(), Error<'static>> {
+    let grammar = program::read(rt, 1, "GRAMMAR")?;
+    let tables = program::read(rt, 2, "TABLES")?;
+    let scans = program::read(rt, 3, "SCANS")?;
+    let letters = program::read_optional(rt, 4, "LETTERS")?;
     let mut stack = program::lend(0);
     let mut listing = program::lend(0);
-    let mut out = program::output(rt);
-    let answer = walk(
-        lettered,
-        grammar,
-        tables,
-        letters,
-        scans,
-        &mut stack,
-        &mut listing,
-    );
+    let answer = match letters {
+        Some(letters) => scan_session::run_lettered(
+            &grammar,
+            &tables,
+            &letters,
+            &scans,
+            &mut stack,
+            &mut listing,
+        ),
+        None => scan_session::run_scans(&grammar, &tables, &scans, &mut stack, &mut listing),
+    };
     let reply = walker::as_reply(answer);
-    program::print_figures(
-        &mut out,
+    let mut out = program::output(rt);
+    writeln!(
+        out,
+        "{},{},{},{}",
         reply::number(reply),
-        reply::place(reply) as u64,
-        walker::rule_count(answer) as u64,
-        walker::unit_count(answer) as u64,
-    );
-    program::print_bytes(&mut out, &listing);
-    program::flush(&mut out);
+        reply::place(reply),
+        walker::rule_count(answer),
+        walker::unit_count(answer),
+    )?;
+    for rule in listing.iter().filter(|rule| **rule != 0) {
+        writeln!(out, "{rule}")?;
+    }
+    out.flush()?;
+    Ok(())
 }
 
 fn main(rt: HostRuntime) {
-    let usage = b"usage: run_session GRAMMAR TABLES SCANS [LETTERS]\n";
-    let mut grammar = [0u8; program::FILE];
-    let first = program::read_argument(rt, 1, b"GRAMMAR", usage, &mut grammar);
-    if first.failed {
-        return;
+    if let Err(error) = run(rt) {
+        error.tell(rt, "usage: run_session GRAMMAR TABLES SCANS [LETTERS]\n");
     }
-    let mut tables = [0u8; program::FILE];
-    let second = program::read_argument(rt, 2, b"TABLES", usage, &mut tables);
-    if second.failed {
-        return;
-    }
-    let mut scans = [0u8; program::FILE];
-    let third = program::read_argument(rt, 3, b"SCANS", usage, &mut scans);
-    if third.failed {
-        return;
-    }
-    let mut letters = [0u8; program::FILE];
-    let fourth = program::read_optional(rt, 4, b"LETTERS", usage, &mut letters);
-    if fourth.failed {
-        return;
-    }
-    let n = first.size;
-    let m = second.size;
-    let k = third.size;
-    let l = fourth.size;
-    show(
-        rt,
-        program::has_argument(rt, 4),
-        &grammar[..n],
-        &tables[..m],
-        &letters[..l],
-        &scans[..k],
-    );
 }
