@@ -2,7 +2,6 @@
 use Prim.Native.Nat.{◌≤◌}
 use mathlib.Core.Path.{ap}
 use native.Mathlib.Omega.{arith}
-use borrow.Author.Rules.{rules}
 use Rattle.grammar_header.specs.declared.Heading.{Heading}
 use Rattle.grammar.proofs.ReadLaws.{read_as}
 use Rattle.grammar.proofs.ReducedLaws.{ready_shaped}

@@ -5,7 +5,6 @@ use lib.ListN.{length, replicate, length-replicate}
 use Rattle.table.specs.Memory.{Slices, slices, SlicesRoom}
 use Rattle.table.proofs.IntoLaws.{has_room_lem}
 use Rattle.checker.proofs.LoadLaws.{books_read, read_sized, read_low}
-use borrow.Author.Rules.{rules}
 use Rattle.explain_tables.proofs.show.Goals as goal
 
 abbrev fresh : Slices
