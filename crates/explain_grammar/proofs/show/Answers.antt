@@ -19,9 +19,4 @@ explain_conflicts-requires c =
     let m = memory_small h.1 in record {
       table_room = memory_sized h.1 (let z = length-replicate {A = ℕ} 256 0 in omega (arith, z));
       terminals_bound = (m.0, m.1, omega (arith, h.0));
-      cells = record {
-        kinds_room = let z = h.1.rooms.kinds_room in omega (arith, z);
-        values_room = let z = h.1.rooms.values_room in omega (arith, z);
-        gotos_room = let z = h.1.rooms.gotos_room in omega (arith, z);
-      };
     }

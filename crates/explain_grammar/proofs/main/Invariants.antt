@@ -1,9 +1,0 @@
--- The loop ends.
-use Prim.Native.Nat.{◌-◌}
-use Rattle.explain_grammar.proofs.main.Given as goal
-
-abbrev pub invariant-loop-i : goal.invariant-loop-i
-invariant-loop-i l = Unit {0}
-
-abbrev pub decreases-loop-i : goal.decreases-loop-i
-decreases-loop-i l = l.count - l.i
