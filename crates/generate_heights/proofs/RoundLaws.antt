@@ -1,5 +1,5 @@
 -- A round of heights, rule by rule. One list is enough: what the round itself sets is not lower than its number.
-use Prim.Native.Nat.{ℕ, suc, ◌+◌, ◌≤◌, ◌<◌}
+use Prim.Native.Nat.{ℕ, suc, ◌≤◌, ◌<◌}
 use mathlib.Core.Path.{◌≡◌, refl, sym, ap, subst, ◌∙◌}
 use mathlib.Core.Logic.{◌⊎◌, inl, inr}
 use mathlib.Core.Bool.{Bool, true, false, cond}
@@ -9,7 +9,6 @@ use native.Mathlib.Omega.{arith}
 use native.Mathlib.Decide.{ℕ_discrete, dec_le}
 use lib.ListN.{length, get_or, set}
 use lib.Seq.{get_or-set_same, get_or-set_other}
-use lib.Dec.{leb}
 use borrow.Author.Tests.{lt-ltb, le-ltb, le-leb, lt-leb}
 use Rattle.language.specs.Grammar.{Grammar, Rule, right, rule_at}
 use Rattle.language.specs.Sentence.{In}
@@ -200,10 +199,3 @@ heights_stable items rules g e p heights a b = record { height_is = λ X d. a.he
     all_within : (X : ℕ) → IsSymbol g X → derives_within g p X ≡ true
     all_within X (inl t) = within_terminal g p X (terminal_is g X t)
     all_within X (inr n) = closed g e.formed p stable X (e.productive X n)
-
-pub started_more : (t k : ℕ) (heights : List ℕ) (v : ℕ) → Started t k heights → k < length heights → v ≡ cond (leb k t) 0 255 → Started t (k + 1) (set heights k v)
-started_more t k heights v s b e x l = go (ℕ_discrete x k)
-  where
-    go : Dec (x ≡ k) → get_or (set heights k v) x 0 ≡ cond (leb x t) 0 255
-    go (yes q) = rw q (get_or-set_same heights k v 0 b ∙ e)
-    go (no q) = get_or-set_other heights k x v 0 q ∙ s x (omega arith)

@@ -1,10 +1,10 @@
 -- A list copied to the start of another, element by element.
-use Prim.Native.Nat.{ℕ, suc, ◌+◌, ◌≤◌, ◌<◌}
+use Prim.Native.Nat.{ℕ, suc, ◌+◌, ◌<◌}
 use mathlib.Core.Path.{◌≡◌, sym, ap, ◌∙◌}
 use mathlib.Core.List.{List}
 use native.Mathlib.Omega.{arith}
 use lib.ListN.{length, get_or, set, take}
-use lib.Seq.{sets, take-suc, take_all, length-take-le}
+use lib.Seq.{sets, take-suc, length-take-le}
 use Rattle.items.proofs.StoreLaws.{sets_snoc}
 
 pub copy_more : (l a : List ℕ) (i : ℕ) → i < length a → set (sets l 0 (take i a)) i (get_or a i 0) ≡ sets l 0 (take (i + 1) a)
@@ -13,6 +13,3 @@ copy_more l a i h =
     ap (λ (k : ℕ). set (sets l 0 (take i a)) k (get_or a i 0)) (sym n)
     ∙ (sets_snoc l (take i a) 0 (get_or a i 0)
     ∙ ap (sets l 0) (sym (take-suc a i 0 h) ∙ ap (λ (k : ℕ). take k a) (let e : suc i ≡ i + 1 = omega arith in e)))
-
-pub copied : (l a : List ℕ) (i : ℕ) → length a ≤ i → sets l 0 (take i a) ≡ sets l 0 a
-copied l a i h = ap (sets l 0) (take_all i a h)

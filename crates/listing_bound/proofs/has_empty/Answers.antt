@@ -1,4 +1,4 @@
-use mathlib.Core.Path.{sym, ◌∙◌}
+use mathlib.Core.Path.{sym}
 use native.Mathlib.Omega.{arith}
 use Rattle.listing_bound.proofs.EmptyLaws.{row_empty, rows_filled}
 use Rattle.listing_bound.proofs.has_empty.Goals as goal
