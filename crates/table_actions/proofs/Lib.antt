@@ -1,4 +1,5 @@
 pub mod CapLaws
 pub mod CellLaws
+pub mod JudgeLaws
 pub mod MemoryLaws
 pub mod NextLaws
