@@ -1,8 +1,7 @@
 // explain_grammar GRAMMAR..: builds the tables of each grammar book, prints the reply's number and place, and tells in words why there are none.
 #![tactic(auto)]
 
-ghost use Rattle.std.specs.Prelude.{◌≡◌, ◌+◌, ◌<◌, ◌≤◌, length};
-ghost use Rattle.moves.specs.Moves.{Cells};
+ghost use Rattle.std.specs.Prelude.{◌+◌, ◌≤◌};
 ghost use Rattle.check_memory.specs.Given.{TableRoom};
 ghost use Rattle.build_writer.specs.MemoryTable as writer;
 

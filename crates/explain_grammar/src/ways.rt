@@ -1,5 +1,5 @@
 // How the states of a table are reached.
-ghost use Rattle.std.specs.Prelude.{◌+◌, ◌<◌, ◌≤◌, IfSome};
+ghost use Rattle.std.specs.Prelude.{◌<◌, ◌≤◌, IfSome};
 ghost use Rattle.moves.specs.Moves.{Cells};
 
 use std::fmt;

@@ -1,6 +1,4 @@
 // What is wrong with the figures and marks of a line whose form is right.
-ghost use Rattle.std.specs.Prelude.{◌≤◌, length};
-
 use crate::form::Family;
 use crate::line::{BookLine, Part, Quoted, field_at, read_part};
 use std::fmt;

@@ -1,6 +1,4 @@
 // The form of a line: its letter, how many fields it has, and of which kinds they are.
-ghost use Rattle.std.specs.Prelude.{◌≤◌, length};
-
 use crate::line::{BookLine, Part, Quoted, field_at, read_part, split_field};
 use std::fmt;
 use text::Cursor;

@@ -2,7 +2,7 @@
 // Inner: for the programs that explain.
 #![tactic(auto)]
 
-ghost use Rattle.std.specs.Prelude.{◌≡◌, ◌<◌, ◌≤◌, length};
+ghost use Rattle.std.specs.Prelude.{◌≤◌, length};
 ghost use Rattle.items.specs.Layout.{Shaped};
 
 mod figures;

@@ -1,6 +1,4 @@
 // Why a book is refused, in words.
-ghost use Rattle.std.specs.Prelude.{◌≤◌};
-
 use crate::figures::FigureFault;
 use crate::form::FormFault;
 use crate::line::Excerpt;

@@ -1,5 +1,5 @@
 // What the items of a state ask of its cells.
-ghost use Rattle.std.specs.Prelude.{◌≡◌, ◌*◌, ◌<◌, ◌≤◌, length};
+ghost use Rattle.std.specs.Prelude.{◌<◌, ◌≤◌};
 
 use crate::given::{Row, State};
 use crate::words::{Action, Item};

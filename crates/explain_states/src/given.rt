@@ -1,5 +1,5 @@
 // A table in memory, with what the check computes of it and of a state.
-ghost use Rattle.std.specs.Prelude.{◌≡◌, ◌+◌, ◌*◌, ◌<◌, ◌≤◌, length};
+ghost use Rattle.std.specs.Prelude.{◌≡◌, ◌+◌, ◌<◌, ◌≤◌, length};
 ghost use Rattle.moves.specs.Moves.{Readable};
 ghost use Rattle.item_first.specs.Rows.{FirstRoom};
 ghost use Rattle.check_memory.specs.Given.{TableRoom};

@@ -2,8 +2,7 @@
 // Inner: for the programs that explain.
 #![tactic(auto)]
 
-ghost use Rattle.std.specs.Prelude.{◌≡◌, ◌+◌, ◌<◌, ◌≤◌, length};
-ghost use Rattle.items.specs.Layout.{Shaped};
+ghost use Rattle.std.specs.Prelude.{◌≡◌, ◌+◌, ◌<◌, ◌≤◌};
 ghost use Rattle.check_memory.specs.Given.{TableRoom, Computed};
 
 mod demands;
