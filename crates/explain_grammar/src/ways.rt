@@ -48,6 +48,7 @@ impl<'a> Moves<'a> {
         let mut first = 255;
         let mut s = q;
         states[255] = q as u8;
+        // Stays a `while`: each state is found from the one after it, so no range gives the steps.
         while entries < s {
             let Some(p) = self.state_before(s) else {
                 break;
