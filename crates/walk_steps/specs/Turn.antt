@@ -66,10 +66,15 @@ Pops stack symbols p t =
     (g : Grammar) (m : Automaton) (n k : ℕ) (tokens listing : List ℕ) → Stands g n k tokens stack listing p
     → Turned g m n k tokens stack listing p (pop_to (drop (suc symbols) (tops stack p.height)) p.code) stack listing t
 
+-- a machine's gotos and rules, with any cells and any start
+abbrev pub with_cells : Machine → List ℕ → List ℕ → ℕ → Machine
+with_cells mem kinds values start =
+    record { kinds = kinds; values = values; gotos = mem.gotos; rules = mem.rules; start = start; terminals = mem.terminals }
+
 abbrev pub Announces : Machine → List ℕ → List ℕ → ℕ → Position → Turn → List ℕ → List ℕ → Type 0
 Announces mem stack listing r p t stack' listing' =
-    (n k : ℕ) (tokens : List ℕ) → Stands (memory_grammar mem.rules) n k tokens stack listing p
-    → Turned (memory_grammar mem.rules) (memory_automaton mem) n k tokens stack listing p
-    (tell (memory_grammar mem.rules) (memory_automaton mem) (rule_at (memory_grammar mem.rules) r) r
+    (kinds values : List ℕ) (start n k : ℕ) (tokens : List ℕ) → Stands (memory_grammar mem.rules) n k tokens stack listing p
+    → Turned (memory_grammar mem.rules) (memory_automaton (with_cells mem kinds values start)) n k tokens stack listing p
+    (tell (memory_grammar mem.rules) (memory_automaton (with_cells mem kinds values start)) (rule_at (memory_grammar mem.rules) r) r
     (group_entries mem.rules r (figure_of mem.rules r 3)) (tops stack p.height))
     stack' listing' t

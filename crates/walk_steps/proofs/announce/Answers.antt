@@ -6,6 +6,7 @@ use native.Mathlib.Omega.{arith}
 use lib.ListN.{take, drop, length-append, length-drop}
 use lib.Seq.{length-take-le}
 use Rattle.walk_tables.specs.Memory.{figure_of, memory_grammar, memory_automaton}
+use Rattle.walk_steps.specs.Turn.{with_cells}
 use Rattle.walk_stack.specs.Stack.{tops, rule_over}
 use Rattle.walk_stack.proofs.StackLaws.{tops-length, rule_length}
 use Rattle.walk_steps.proofs.MoveLaws.{move_announce}
@@ -15,16 +16,16 @@ use Rattle.walk_steps.proofs.announce.Goals as goal
 
 pub returns-then-p-pops : goal.returns-then-p-pops
 returns-then-p-pops c = let a = c.args in
-    let mem = a.machine.now in
-    λ n k tokens s.
+    λ kinds values start n k tokens s.
+    let mem = with_cells a.machine.now kinds values start in
     ends_wrong (memory_grammar mem.rules) (memory_automaton mem) n k tokens a.stack.now a.listing.now a.p
     (told_wrong mem a.rule (positive _ c.if-rule-eq0.false) (omega (arith, c.ranges.rule)) _
     (omega (arith, tops-length a.stack.now a.p.height, c.if-p-pops.true, c.figure-pops.ensures)))
 
 pub returns-then-listing-p : goal.returns-then-listing-p
 returns-then-listing-p c = let a = c.args in
-    let mem = a.machine.now in
-    λ n k tokens s.
+    λ kinds values start n k tokens s.
+    let mem = with_cells a.machine.now kinds values start in
     ends_short (memory_grammar mem.rules) (memory_automaton mem) n k tokens a.stack.now a.listing.now a.p
     (told_on mem a.rule (positive _ c.if-rule-eq0.false) (omega (arith, c.ranges.rule)) _
     (omega (arith, tops-length a.stack.now a.p.height, c.if-p-pops.false, c.figure-pops.ensures)))
@@ -39,9 +40,9 @@ returns-then-listing-p c = let a = c.args in
 
 pub returns-then-stack-base : goal.returns-then-stack-base
 returns-then-stack-base c = let a = c.args in
-    let mem = a.machine.now in
     let S = tops a.stack.now a.p.height in
-    λ n k tokens s.
+    λ kinds values start n k tokens s.
+    let mem = with_cells a.machine.now kinds values start in
     ends_short (memory_grammar mem.rules) (memory_automaton mem) n k tokens a.stack.now a.listing.now a.p
     (told_on mem a.rule (positive _ c.if-rule-eq0.false) (omega (arith, c.ranges.rule)) _
     (omega (arith, tops-length a.stack.now a.p.height, c.if-p-pops.false, c.figure-pops.ensures)))
@@ -60,10 +61,10 @@ returns-then-stack-base c = let a = c.args in
 
 pub returns : goal.returns
 returns c = let a = c.args in
-    let mem = a.machine.now in
     let base = c.uncovered-base in
     let pushed = c.push_rule-top in
-    λ n k tokens s.
+    λ kinds values start n k tokens s.
+    let mem = with_cells a.machine.now kinds values start in
     move_announce mem n k tokens a.stack.now a.listing.now a.p a.rule c.figure-pops.result
     c.figure-groups.result (c.figure-unit.result % 2) pushed.result.height pushed.result.state pushed.new.stack s
     (positive _ c.if-rule-eq0.false) (omega (arith, c.ranges.rule))

@@ -28,7 +28,7 @@ pub returns-in-Announce : goal.returns-in-Announce
 returns-in-Announce c = let a = c.args in
     turned_by a.machine.now _ _ _ _ _ _ (Announce c.in-Announce.rule) c.announce.new.stack c.announce.new.listing c.announce.result c.requires
     (sym c.in-Announce.is ∙ c.cell.ensures)
-    (c.announce.ensures (length a.stack.now) (length a.listing.now) a.tokens.now c.requires)
+    (c.announce.ensures a.machine.now.kinds a.machine.now.values a.machine.now.start (length a.stack.now) (length a.listing.now) a.tokens.now c.requires)
 
 pub returns-in-Pop : goal.returns-in-Pop
 returns-in-Pop c = let a = c.args in
