@@ -1,5 +1,5 @@
 // The inner loop of the session walker, over a machine in memory.
-// Inner: for `session` and `expected`. `Walked`, `as_reply`, `rule_count` and `unit_count` are for whoever calls a door.
+// Inner: for `session` and `expected_trial`. `Walked`, `as_reply`, `rule_count` and `unit_count` are for whoever calls a door.
 #![tactic(auto)]
 
 ghost use Rattle.std.specs.Prelude.{◌≡◌, length, replicate};
