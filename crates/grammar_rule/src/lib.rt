@@ -183,18 +183,18 @@ fn read_parts(s: &[u8], first: Cursor, t: usize, n: usize, m: &mut [u8], base: u
         undeclared: false,
     };
     while !c.ended {
-        match read_field(s, c) {
-            Field::Mark(b, d) => {
-                p = add_mark(p, b);
-                c = d;
-            }
-            Field::Number(v, d) => {
-                store_symbol(m, base, p.count, p.stage, v);
-                p = add_symbol(t, n, p, v);
-                c = d;
-            }
-            _ => return Parts::Broken,
+        let field = read_field(s, c);
+        if let Field::Mark(b, d) = field {
+            p = add_mark(p, b);
+            c = d;
+            continue;
         }
+        let Field::Number(v, d) = field else {
+            return Parts::Broken;
+        };
+        store_symbol(m, base, p.count, p.stage, v);
+        p = add_symbol(t, n, p, v);
+        c = d;
     }
     Parts::Complete(p, c.at)
 }
