@@ -50,12 +50,13 @@ module _ {m : List ℕ} {i : ℕ} {γ : List ℕ} (row : EntryIn m i γ) where
       zero_plus j = omega arith
 
 -- the numbers after the first, as a part of all and of the first `count`
-pub after_first : (numbers : List ℕ) (count : ℕ) → 1 ≤ count → take (count - 1) (drop 1 numbers) ≡ drop 1 (take count numbers)
-after_first numbers count l = sym (ap (λ (n : ℕ). drop 1 (take n numbers)) (let z : count ≡ 1 + (count - 1) = omega arith in z) ∙ drop-take 1 (count - 1) numbers)
+pub after_first : (numbers : List ℕ) (count : ℕ) → take (count - 1) (drop 1 numbers) ≡ drop 1 (take count numbers)
+after_first numbers zero = refl
+after_first numbers (suc c) = sym (ap (λ (n : ℕ). drop 1 (take n numbers)) (let z : suc c ≡ 1 + (suc c - 1) = omega arith in z) ∙ drop-take 1 (suc c - 1) numbers)
 
 -- the symbols as a part of the line's numbers
-pub numbers_part : {ns : List ℕ} {count : ℕ} {numbers : List ℕ} → Numbers ns count numbers → 1 ≤ count → count ≤ length numbers → take (count - 1) (drop 1 numbers) ≡ drop 1 ns
-numbers_part {ns} {count} {numbers} h a l = after_first numbers count a ∙ ap (drop 1) (numbers_take h l)
+pub numbers_part : {ns : List ℕ} {count : ℕ} {numbers : List ℕ} → Numbers ns count numbers → count ≤ length numbers → take (count - 1) (drop 1 numbers) ≡ drop 1 ns
+numbers_part {ns} {count} {numbers} h l = after_first numbers count ∙ ap (drop 1) (numbers_take h l)
 
 -- no entry before entry k has the string
 abbrev pub Unfound : List EntryLine → List ℕ → ℕ → Type 0

@@ -18,4 +18,4 @@ returns-then-len-count c =
     let len = c.length_of-len.ensures in
     λ γ ns row h.
     c.is_part.ensures γ (row_part row len.0 len.1)
-    ∙ ap (same_string γ) (numbers_part h c.requires.le_count.0 (omega (arith, c.if-len-count.true, len.1, c.requires.le_count.1)))
+    ∙ ap (same_string γ) (numbers_part h (omega (arith, c.if-len-count.true, len.1, c.requires.le_count.1)))

@@ -37,4 +37,4 @@ returns c =
     ∙ (ap (λ (m : List ℕ). set (set m (a.base + 2) 255) (a.base + 3) 0) c.put-3.ensures
     ∙ (ap (λ (m : List ℕ). set (set (set m (a.base + 1) (length σ)) (a.base + 2) 255) (a.base + 3) 0) c.put-2.ensures
     ∙ (stored_end a.items.now a.base σ c.loop-k.k c.loop-k-test.false c.loop-k.invariant
-    ∙ ap (λ (α : List ℕ). sets a.items.now a.base (entry_row α)) (after_first a.numbers.now a.count c.requires.le_count.0)))))
+    ∙ ap (λ (α : List ℕ). sets a.items.now a.base (entry_row α)) (after_first a.numbers.now a.count)))))

@@ -19,4 +19,4 @@ pub returns : goal.returns
 returns c =
     λ g ns h e.
     c.first_use.ensures g h.formed h.holds
-    ∙ ap (first_use g.rules) (numbers_part e (omega arith) (omega (arith, c.requires.rules_le.2)))
+    ∙ ap (first_use g.rules) (numbers_part e (omega (arith, c.requires.rules_le.2)))
