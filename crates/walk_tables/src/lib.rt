@@ -22,9 +22,16 @@ pub enum Cell {
     Empty,
 }
 
+// A step that the walk is to make: the cell, and the code that it was looked up for.
+#[derive(Clone, Copy)]
+pub struct Step {
+    pub cell: Cell,
+    pub code: u8,
+}
+
 // All that a walk has to know: the kinds and values of the cells and the gotos at state * 64 + code, a rule's row at rule * 32,
 // the state of the goal's entry, and the number of terminals.
-#[derive(Drop)]
+#[derive(Clone, Copy)]
 pub struct Machine {
     pub kinds: [u8; CELLS],
     pub values: [u8; CELLS],
@@ -64,6 +71,16 @@ impl Machine {
             2 => Cell::Announce(value),
             3 => Cell::Pop(value),
             _ => Cell::Empty,
+        }
+    }
+
+    // The step of a state on a code.
+    pub fn step_at(&self, state: u8, code: u8) -> Step
+        ensures { (result.cell ≡ cell_at self.now.kinds self.now.values state code) × (result.code ≡ code) }
+    {
+        Step {
+            cell: self.cell(state, code),
+            code,
         }
     }
 

@@ -35,7 +35,8 @@ fn advance(
     requires { Stands (memory_grammar machine.now.rules) (length stack.old) (length listing.old) tokens.now stack.old listing.old p }
     ensures { Advances machine.now tokens.now stack.old listing.old p result stack.new listing.new }
 {
-    match machine.cell(p.top, p.code) {
+    let step = machine.step_at(p.top, p.code);
+    match step.cell {
         Cell::Shift(next) => walk_steps::shift(tokens, stack, next, p),
         Cell::Announce(rule) => walk_steps::announce(machine, stack, listing, rule, p),
         Cell::Pop(symbols) => walk_steps::pop(stack, symbols, p),

@@ -19,28 +19,28 @@ loop-next-init c = let a = c.args in
 
 pub loop-next-smaller : goal.loop-next-smaller
 loop-next-smaller c = let x = c.advance in
-    (moved c.args.machine.now _ _ _ _ _ x.new.stack x.new.listing _ x.result c.loop-next.invariant.0 x.ensures c.in-On.is).less
+    (moved c.args.machine.now _ _ _ _ _ x.new.stack x.new.listing _ x.result c.loop-next.invariant.0 (x.ensures c.args.machine.now.start) c.in-On.is).less
 
 pub loop-next-preserved : goal.loop-next-preserved
 loop-next-preserved c = let x = c.advance in (
-  (moved c.args.machine.now _ _ _ _ _ x.new.stack x.new.listing _ x.result c.loop-next.invariant.0 x.ensures c.in-On.is).stands,
-  going_on c.args.machine.now _ _ _ _ _ x.new.stack x.new.listing _ x.result c.loop-next.invariant.0 x.ensures c.in-On.is c.loop-next.invariant.1,
+  (moved c.args.machine.now _ _ _ _ _ x.new.stack x.new.listing _ x.result c.loop-next.invariant.0 (x.ensures c.args.machine.now.start) c.in-On.is).stands,
+  going_on c.args.machine.now _ _ _ _ _ x.new.stack x.new.listing _ x.result c.loop-next.invariant.0 (x.ensures c.args.machine.now.start) c.in-On.is c.loop-next.invariant.1,
 )
 
 pub returns-in-Whole : goal.returns-in-Whole
 returns-in-Whole c = let a = c.args in
     let x = c.advance in
     ended_same a.machine.now _ (length a.stack.now) (length a.listing.now) a.tokens.now (simp length-set)
-    (going_whole a.machine.now _ _ _ _ _ x.new.stack x.new.listing _ x.result c.loop-next.invariant.0 x.ensures c.in-Whole.is c.loop-next.invariant.1)
+    (going_whole a.machine.now _ _ _ _ _ x.new.stack x.new.listing _ x.result c.loop-next.invariant.0 (x.ensures a.machine.now.start) c.in-Whole.is c.loop-next.invariant.1)
 
 pub returns-in-Wrong : goal.returns-in-Wrong
 returns-in-Wrong c = let a = c.args in
     let x = c.advance in
     ended_same a.machine.now _ (length a.stack.now) (length a.listing.now) a.tokens.now (simp length-set)
-    (going_wrong a.machine.now _ _ _ _ _ x.new.stack x.new.listing _ x.result c.loop-next.invariant.0 x.ensures c.in-Wrong.is c.loop-next.invariant.1)
+    (going_wrong a.machine.now _ _ _ _ _ x.new.stack x.new.listing _ x.result c.loop-next.invariant.0 (x.ensures a.machine.now.start) c.in-Wrong.is c.loop-next.invariant.1)
 
 pub returns-in-Short : goal.returns-in-Short
 returns-in-Short c = let a = c.args in
     let x = c.advance in
     ended_same a.machine.now _ (length a.stack.now) (length a.listing.now) a.tokens.now (simp length-set)
-    (going_short a.machine.now _ _ _ _ _ x.new.stack x.new.listing _ x.result c.loop-next.invariant.0 x.ensures c.in-Short.is c.loop-next.invariant.1)
+    (going_short a.machine.now _ _ _ _ _ x.new.stack x.new.listing _ x.result c.loop-next.invariant.0 (x.ensures a.machine.now.start) c.in-Short.is c.loop-next.invariant.1)
