@@ -59,7 +59,7 @@ fn keeps_rising(s: &[u8], p: Tally, prior: usize, at: usize, v: usize) -> bool
     requires leads { (4 ≤ p.count → Leads s.now prior) × Leads s.now at }
     ensures { result ≡ keeps_rising s.now p prior at }
 {
-    p.rising && (p.count < 4 || p.last < v || 65536 <= v && digits::is_below(s, prior, at))
+    (p.count < 4 || p.last < v || 65536 <= v && digits::is_below(s, prior, at)) && p.rising
 }
 
 #[tactic(auto, unfolding(crate::specs::Tally::add_number))]
