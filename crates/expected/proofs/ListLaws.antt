@@ -4,12 +4,11 @@ use native.Mathlib.Omega.{arith}
 use mathlib.Core.Logic.{◌⊎◌, inl, inr}
 use mathlib.Core.Path.{◌≡◌, refl, sym, ap, subst, ◌∙◌}
 use mathlib.Core.Bool.{Bool, true, false, cond}
-use mathlib.Core.List.{List, [], ◌++◌}
+use mathlib.Core.List.{List, [], ◌∷◌, ◌++◌}
 use borrow.Author.Tests.{lt-ltb, le-ltb}
 use lib.Dec.{eqb}
-use lib.ListN.{length, take, drop, replicate, take-append-drop}
-use lib.Seq.{length-take-le, take_all}
-use Rattle.std.proofs.lemmas.List.{take-append-le}
+use lib.ListN.{length, get_or, take, drop, set, replicate, take-append-drop}
+use lib.Seq.{take-suc, take-suc-set}
 use Rattle.std.specs.Prelude.{Result, Ok, Err}
 use Rattle.language.specs.Grammar.{Grammar}
 use Rattle.language.specs.Sentence.{In}
@@ -45,11 +44,12 @@ use Rattle.expected.specs.Expected.{EndsAt, on_reply, list_for, expected, Driven
 use Rattle.expected.specs.Read.{over_table, after_read}
 use Rattle.expected.proofs.PlaceLaws.{on_ends, on_others}
 
--- the first tokens, copied to the front
-pub copied_front : (p : ℕ) (w rest : List ℕ) {s : List ℕ} → p ≤ length w → s ≡ take p w → take p (s ++ rest) ≡ take p w
-copied_front p w rest h e =
-    let l : length (take p w) ≡ p = length-take-le p w h in
-    ap (λ (s : List ℕ). take p (s ++ rest)) e ∙ take-append-le p (take p w) rest (omega (arith, l)) ∙ take_all p (take p w) (omega (arith, l))
+-- one token more is copied
+pub copied_more : (l out : List ℕ) (i : ℕ) → i < length l → i < length out → take i out ≡ take i l → take (i + 1) (set out i (get_or l i 0)) ≡ take (i + 1) l
+copied_more l out i h k e =
+    let z : i + 1 ≡ suc i = omega arith in
+    ap (λ (j : ℕ). take j (set out i (get_or l i 0))) z ∙ take-suc-set out i (get_or l i 0) k ∙ ap (λ (m : List ℕ). m ++ get_or l i 0 ∷ []) e
+    ∙ sym (take-suc l i 0 h) ∙ ap (λ (j : ℕ). take j l) (sym z)
 
 -- ---- replies 0 and 12
 pub ends_whole : {r : Walked} {tally : Tally} → r ≡ Ok tally → EndsAt r tally.tokens

@@ -37,6 +37,16 @@ pub fn code_count(answer: ExpectedReply) -> usize
     answer.map_or(0, |listed| listed.codes)
 }
 
+// Copies the first tokens, one by one: `copy_from_slice` would have the library for C ask for `memmove` from outside.
+fn copy_front(tokens: &[u8], count: usize, out: &mut [u8])
+    requires { (count ≤ length tokens.now) × (count ≤ length out.old) }
+    ensures { take count out.new ≡ take count tokens.now }
+{
+    for i in 0..count {
+        out[i] = tokens[i];
+    }
+}
+
 // Lists the codes that could come after the first tokens. `trial` is lent for the tokens that are tried, and left free.
 fn list_at(
     machine: &Machine,
@@ -50,7 +60,7 @@ fn list_at(
     requires { (place ≤ length tokens.now) × (place < length trial.old) × (machine.now.terminals ≤ 63) × (codes.old ≡ replicate (length codes.old) 0) }
     ensures { Tells (length stack.old) (length listing.old) (answered_at (length codes.old) place (tried (λ c. trial_of place (memory_walk machine.now (length stack.old) (length listing.old) (take place tokens.now ++ as_tokens c))) (suc machine.now.terminals) 0)) result stack.new listing.new codes.new }
 {
-    trial[..place].copy_from_slice(&tokens[..place]);
+    copy_front(tokens, place, trial);
     let answer = expected_trials::try_codes(machine, trial, place, stack, listing, codes);
     expected_trial::clear_walks(stack, listing);
     answer
