@@ -18,6 +18,7 @@ impl<'a> Moves<'a> {
     // The symbol on which state p goes to state q.
     fn symbol_between(self, p: usize, q: usize) -> Option<usize>
         requires { p < 256 }
+        ensures { IfSome result (λ x. x < 128) }
     {
         for x in 1..SYMBOLS {
             if moves::next_of(self.kinds, self.values, self.gotos, p, x) == q {
