@@ -122,6 +122,8 @@ fn explain_length(out: &mut Printer, m: &Memory, counts: Counts)
     }
 }
 
+// In a frame of its own, none of which stands while the book is read.
+#[inline(never)]
 fn show(rt: HostRuntime, grammar: &[u8]) {
     let mut m = Memory {
         items: [0; table::ITEMS],

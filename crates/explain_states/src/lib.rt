@@ -4,6 +4,7 @@
 
 ghost use Rattle.std.specs.Prelude.{◌≡◌, ◌+◌, ◌<◌, ◌≤◌};
 ghost use Rattle.check_memory.specs.Given.{TableRoom, Computed};
+ghost use Rattle.check_missing.specs.Missing.{MissingAt};
 
 mod demands;
 mod given;
@@ -119,14 +120,16 @@ fn explain_items(out: &mut Page<'_>, state: State<'_>) {
     };
 }
 
-// Reply 8 at state q.
-fn explain_lookaheads(out: &mut Page<'_>, p: Prepared<'_>, q: usize)
+// A lookahead that a line of state q lacks. In a frame of its own, as its sets take 64 KiB, which nothing is printed above.
+#[inline(never)]
+fn find_missing(p: Prepared<'_>, q: usize) -> MissingCode
     requires computed { Computed p.table.items.now p.table.kernels.now p.links.now p.uses.now p.nullable.now p.first.now p.starts.now p.through.now p.table.totals.rules p.table.totals.lines p.table.totals.codes }
     requires few_states { (1 ≤ p.table.totals.codes) × (p.table.totals.states ≤ 255) }
     requires state { q < 256 }
+    ensures { MissingAt p.entry.table.kernels.now p.entry.table.lookaheads.now p.entry.table.totals.lines p.entry.table.totals.codes q result }
 {
     let t = p.table;
-    let missing = check_missing::find_missing(
+    check_missing::find_missing(
         t.items,
         t.entries,
         t.kernels,
@@ -143,11 +146,19 @@ fn explain_lookaheads(out: &mut Page<'_>, p: Prepared<'_>, q: usize)
         p.through,
         t.totals,
         q,
-    );
-    let MissingCode::Code(l, c, asking) = missing else {
+    )
+}
+
+// Reply 8 at state q.
+fn explain_lookaheads(out: &mut Page<'_>, p: Prepared<'_>, q: usize)
+    requires computed { Computed p.table.items.now p.table.kernels.now p.links.now p.uses.now p.nullable.now p.first.now p.starts.now p.through.now p.table.totals.rules p.table.totals.lines p.table.totals.codes }
+    requires few_states { (1 ≤ p.table.totals.codes) × (p.table.totals.states ≤ 255) }
+    requires state { q < 256 }
+{
+    let MissingCode::Code(l, c, asking) = find_missing(p, q) else {
         return;
     };
-    let item = t.line_item(l);
+    let item = p.table.line_item(l);
     let _ = if asking == 0 {
         writeln!(
             out,
@@ -163,6 +174,7 @@ fn explain_lookaheads(out: &mut Page<'_>, p: Prepared<'_>, q: usize)
 }
 
 // State q of a table, with its closure.
+#[inline(never)]
 fn explain_state(out: &mut Page<'_>, p: Prepared<'_>, question: Question) -> usize
     requires computed { Computed p.table.items.now p.table.kernels.now p.links.now p.uses.now p.nullable.now p.first.now p.starts.now p.through.now p.table.totals.rules p.table.totals.lines p.table.totals.codes }
     requires few_states { (1 ≤ p.table.totals.codes) × (p.table.totals.states ≤ 255) }

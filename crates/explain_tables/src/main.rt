@@ -87,6 +87,8 @@ fn explain_book(out: &mut Printer, grammar: &[u8], book: &[u8], verdict: Verdict
     );
 }
 
+// In a frame of its own, none of which stands while the books are read.
+#[inline(never)]
 fn show(rt: HostRuntime, grammar: &[u8], book: &[u8]) {
     let mut m = Memory {
         items: [0; table::ITEMS],
