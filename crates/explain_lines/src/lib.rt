@@ -54,21 +54,32 @@ fn read_header(book: &[u8]) -> (usize, usize, usize)
     (numbers[0], numbers[1], numbers[2])
 }
 
-// A book that ends where a line is due.
-fn explain_end(book: &[u8], lines: Lines) -> Reason<'static> {
-    if book.is_empty() {
-        Reason::Empty(lines.book)
-    } else if lines.after < lines.said {
-        Reason::Short(lines)
-    } else {
-        Reason::Ends(lines.book)
+// The lines of a book whose header says so many.
+fn count_lines(kind: BookKind, book: &[u8], said: usize) -> Lines {
+    Lines {
+        book: kind,
+        said,
+        after: lines_after(book),
     }
 }
 
-// A line of a grammar book that breaks its form, or is one too many.
-fn explain_grammar_line(line: BookLine<'_>, lines: Lines) -> LineFault<'_> {
-    if lines.said < line.before() {
-        return LineFault::Lines(lines);
+// A book that ends where a line is due.
+fn explain_end(kind: BookKind, book: &[u8], said: usize) -> Reason<'static> {
+    if book.is_empty() {
+        return Reason::Empty(kind);
+    }
+    let lines = count_lines(kind, book, said);
+    if lines.after < said {
+        Reason::Short(lines)
+    } else {
+        Reason::Ends(kind)
+    }
+}
+
+// A line of a grammar book with so many rules that breaks its form, or is one too many.
+fn explain_grammar_line(line: BookLine<'_>, rules: usize) -> LineFault<'_> {
+    if rules < line.before() {
+        return LineFault::Lines(count_lines(BookKind::Grammar, line.book, rules));
     }
     let due = match line.place {
         0 => Family::Grammar,
@@ -134,13 +145,8 @@ pub fn explain_grammar_book(out: &mut Printer, book: &[u8], number: u64, place: 
         _ => return print(out, Reason::Unreachable(place)),
     }
     let (terminals, nonterminals, rules) = read_header(book);
-    let lines = Lines {
-        book: BookKind::Grammar,
-        said: rules,
-        after: lines_after(book),
-    };
     if book.len() <= place {
-        return print(out, explain_end(book, lines));
+        return print(out, explain_end(BookKind::Grammar, book, rules));
     }
     let line = BookLine { book, place };
     let declared = Declared {
@@ -151,7 +157,7 @@ pub fn explain_grammar_book(out: &mut Printer, book: &[u8], number: u64, place: 
         states: 0,
     };
     let fault = match number {
-        1 => explain_grammar_line(line, lines),
+        1 => explain_grammar_line(line, rules),
         _ => LineFault::Figures(explain_figures(line, number, declared)),
     };
     print(out, explain_line(BookKind::Grammar, line, fault));
@@ -172,13 +178,8 @@ pub fn explain_table_book(
     requires book_len_bound { length book.now ≤ 65536 }
 {
     let (states, entries, _) = read_header(book);
-    let lines = Lines {
-        book: BookKind::Tables,
-        said: entries,
-        after: lines_after(book),
-    };
     if book.len() <= place {
-        return print(out, explain_end(book, lines));
+        return print(out, explain_end(BookKind::Tables, book, entries));
     }
     let line = BookLine { book, place };
     let declared = Declared {

@@ -14,11 +14,11 @@ pub struct Shown<'a>(pub &'a [u8]);
 
 impl fmt::Display for Shown<'_> {
     fn fmt<W: fmt::Write>(&self, f: &mut fmt::Formatter<W>) -> fmt::Result {
-        for b in self.0 {
-            match *b {
-                b' '..=b'~' => f.write_char(char::from(*b))?,
-                _ => f.write_char('?')?,
+        for (i, printable) in self.0.split(|b| !matches!(*b, b' '..=b'~')).enumerate() {
+            if i != 0 {
+                f.write_char('?')?;
             }
+            f.write_str(std::str::from_utf8(printable).unwrap_or(""))?;
         }
         Ok(())
     }
@@ -123,12 +123,13 @@ impl<'a> BookLine<'a> {
         line_ends(&self.book[..self.place])
     }
 
-    // Its bytes up to its LF.
+    // Its bytes up to its LF, or more of them than are shown.
     pub fn excerpt(self) -> Excerpt<'a> {
         let rest = &self.book[self.place..];
-        match rest.iter().position(|b| *b == b'\n') {
-            Some(n) => Excerpt(&rest[..n]),
-            None => Excerpt(rest),
+        let start = &rest[..rest.len().min(SHOWN + 1)];
+        match start.iter().position(|b| *b == b'\n') {
+            Some(n) => Excerpt(&start[..n]),
+            None => Excerpt(start),
         }
     }
 

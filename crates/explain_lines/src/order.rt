@@ -70,24 +70,32 @@ struct Numbers {
     rising: bool,
 }
 
-// The numbers of the line at `at`, and the position past it.
-fn read_numbers(book: &[u8], at: usize) -> Option<(Numbers, usize)>
-    requires { length book.now ≤ 65536 }
-{
-    let mut kept = [0; KEPT];
-    let Line::Whole(letter, tally, next) = table_lines::read_line(book, at, &mut kept) else {
-        return None;
-    };
-    let numbers = Numbers {
-        family: Family::of(letter),
-        kept,
-        count: tally.count,
-        rising: tally.rising,
-    };
-    Some((numbers, next))
-}
-
 impl Numbers {
+    // Those of a line without any.
+    fn new() -> Numbers {
+        Numbers {
+            family: Family::Other,
+            kept: [0; KEPT],
+            count: 0,
+            rising: true,
+        }
+    }
+
+    // Takes those of the line at `at`, and answers the position past it; none where the line is broken.
+    fn read(&mut self, book: &[u8], at: usize) -> Option<usize>
+        requires { length book.now ≤ 65536 }
+    {
+        self.kept = [0; KEPT];
+        let Line::Whole(letter, tally, next) = table_lines::read_line(book, at, &mut self.kept)
+        else {
+            return None;
+        };
+        self.family = Family::of(letter);
+        self.count = tally.count;
+        self.rising = tally.rising;
+        Some(next)
+    }
+
     // The first code of a kernel line that does not rise, as far as they are kept.
     fn fall(&self) -> Option<OrderFault> {
         for k in 4..self.count.min(KEPT) {
@@ -133,30 +141,31 @@ impl Numbers {
 
 // The number of a line before this one beside which this one is a second.
 fn find_second(line: BookLine<'_>, numbers: &Numbers) -> Option<usize> {
+    let mut other = Numbers::new();
     let mut at = 0;
     // Each line has a byte of the book at its end.
     for n in 1..line.book.len() + 1 {
         if line.place <= at {
             return None;
         }
-        let (other, next) = read_numbers(line.book, at)?;
+        at = other.read(line.book, at)?;
         if numbers.is_second(&other) {
             return Some(n);
         }
-        at = next;
     }
     None
 }
 
 // The number of the last entry line before this one whose group this one's must follow. The first entry line, line 2, binds no other.
 fn find_group(line: BookLine<'_>, rules: Rules<'_>) -> Option<usize> {
+    let mut numbers = Numbers::new();
     let mut last = None;
     let mut at = 0;
     for n in 1..line.book.len() + 1 {
         if line.place <= at {
             break;
         }
-        let Some((numbers, next)) = read_numbers(line.book, at) else {
+        let Some(next) = numbers.read(line.book, at) else {
             break;
         };
         if 2 < n && numbers.is_group(rules) {
@@ -177,7 +186,8 @@ fn find_before(line: BookLine<'_>, family: Family, rules: Rules<'_>) -> Option<u
 
 // What else breaks a line whose fields are of their kinds.
 pub fn explain_order(line: BookLine<'_>, rules: Rules<'_>) -> Option<OrderFault> {
-    let (numbers, _) = read_numbers(line.book, line.place)?;
+    let mut numbers = Numbers::new();
+    numbers.read(line.book, line.place)?;
     let family = numbers.family;
     if family == Family::Kernel && !numbers.rising {
         return numbers.fall();
