@@ -43,9 +43,13 @@ impl Family {
         matches!(self, Family::Rule | Family::Entry | Family::Kernel)
     }
 
-    // Whether field k is one too many.
-    fn is_beyond(self, k: usize) -> bool {
-        !self.is_open() && self.fewest() < k
+    // The most fields of a line.
+    fn most(self) -> usize {
+        if self.is_open() {
+            usize::MAX
+        } else {
+            self.fewest()
+        }
     }
 
     // Whether field k, from the second on, may be a mark.
@@ -172,14 +176,15 @@ fn explain_broken(book: &[u8], at: usize, k: usize) -> FormFault<'_> {
 // What breaks the form of a line of that family from its second field, at `second`, on.
 fn explain_fields<'a>(line: BookLine<'a>, second: Cursor, family: Family) -> Option<FormFault<'a>> {
     let book = line.book;
+    let most = family.most();
     let mut c = second;
     // Each field has a byte of the book at its end.
     for k in 2..book.len() + 2 {
         if c.ended {
             return (k - 1 < family.fewest()).then_some(FormFault::Short(k - 1, family));
         }
-        if family.is_beyond(k) {
-            return Some(FormFault::Long(k - 1));
+        if most < k {
+            return Some(FormFault::Long(most));
         }
         let Some((part, next)) = read_part(book, c) else {
             return Some(explain_broken(book, c.at, k));
