@@ -1,5 +1,5 @@
 // What is wrong with a refused line of a book, in words: a second, forgiving look at the line.
-// Inner: for the programs that explain.
+// Inner: for `explain_states` and the programs that explain.
 #![tactic(auto)]
 
 ghost use Rattle.std.specs.Prelude.{◌≤◌, length};

@@ -1,5 +1,5 @@
 // A machine in memory, as the walk reads it: cells, gotos and the rows of rules.
-// Inner: for the walker and its parts, and for who loads a machine.
+// Inner: for the walker and its parts, for who loads a machine, and for the trials of `expected`.
 #![tactic(auto)]
 
 ghost use Rattle.std.specs.Prelude.{◌≡◌, ◌<◌, replicate};
