@@ -19,7 +19,8 @@
 // from both calls, 0 for another.
 #![tactic(auto)]
 
-ghost use Rattle.std.specs.Prelude.{◌≤◌};
+ghost use Rattle.std.specs.Prelude.{◌≡◌, ◌<◌, ◌≤◌, ◌+◌, min};
+ghost use Rattle.vectors.specs.Words.{files};
 
 use expected_trials::ExpectedReply;
 use generator::GeneratorReply;
@@ -47,26 +48,33 @@ struct Input {
 
 impl Words {
     // Takes a word, and answers which argument it is.
-    fn take(&mut self) -> usize {
+    fn take(&mut self) -> usize
+        ensures { self.new.next ≡ min (self.old.next + 1) 18446744073709551615 }
+    {
         let i = self.next;
         self.next = i.saturating_add(1);
         i
     }
 
     // The number that a word begins with.
-    fn number(&mut self) -> usize {
+    fn number(&mut self) -> usize
+        ensures { self.new.next ≡ min (self.old.next + 1) 18446744073709551615 }
+    {
         program::argument_number(self.rt, self.take()) as usize
     }
 
     // The same, at most 65,536.
     fn length(&mut self) -> usize
-        ensures { result ≤ 65536 }
+        ensures small { result ≤ 65536 }
+        ensures taken { self.new.next ≡ min (self.old.next + 1) 18446744073709551615 }
     {
         self.number().min(65536)
     }
 
     // The file that a word names. Where that cannot be read, standard error says so, and the case goes on with what was read.
-    fn file(&mut self) -> Input {
+    fn file(&mut self) -> Input
+        ensures { self.new.next ≡ min (self.old.next + 1) 18446744073709551615 }
+    {
         let name = self.take();
         let mut bytes = Vec::new(self.rt.alloc());
         if let Err(error) = program::read_into(self.rt, name, "a word of a case", &mut bytes) {
@@ -125,7 +133,9 @@ fn write_reply(out: &mut Printer, reply: Reply) -> io::Result<()> {
     writeln!(out, "{},{}", reply::number(reply), reply::place(reply))
 }
 
-fn run_grammar(words: &mut Words) -> Result<(), Error<'static>> {
+fn run_grammar(words: &mut Words) -> Result<(), Error<'static>>
+    ensures { words.new.next ≡ min (words.old.next + 1) 18446744073709551615 }
+{
     let book = words.file();
     let mut items = [0u8; grammar::TABLE];
     let answer = grammar::read_grammar(&book.bytes, &mut items);
@@ -135,7 +145,9 @@ fn run_grammar(words: &mut Words) -> Result<(), Error<'static>> {
     Ok(())
 }
 
-fn run_check(words: &mut Words) -> Result<(), Error<'static>> {
+fn run_check(words: &mut Words) -> Result<(), Error<'static>>
+    ensures { words.new.next ≡ min (words.old.next + 2) 18446744073709551615 }
+{
     let grammar = words.file();
     let tables = words.file();
     let mut out = words.output(&tables)?;
@@ -148,7 +160,9 @@ fn run_check(words: &mut Words) -> Result<(), Error<'static>> {
 }
 
 // Prints the length that is answered and how many bytes are not 0, then the book.
-fn run_build(words: &mut Words) -> Result<(), Error<'static>> {
+fn run_build(words: &mut Words) -> Result<(), Error<'static>>
+    ensures { words.new.next ≡ min (words.old.next + 2) 18446744073709551615 }
+{
     let grammar = words.file();
     let length = words.length();
     let mut book = words.lend(length)?;
@@ -162,7 +176,9 @@ fn run_build(words: &mut Words) -> Result<(), Error<'static>> {
     Ok(())
 }
 
-fn run_scans(words: &mut Words) -> Result<(), Error<'static>> {
+fn run_scans(words: &mut Words) -> Result<(), Error<'static>>
+    ensures { words.new.next ≡ min (words.old.next + 2) 18446744073709551615 }
+{
     let scans = words.file();
     let length = words.length();
     let mut tokens = words.lend(length)?;
@@ -173,7 +189,9 @@ fn run_scans(words: &mut Words) -> Result<(), Error<'static>> {
     Ok(())
 }
 
-fn run_letters(words: &mut Words) -> Result<(), Error<'static>> {
+fn run_letters(words: &mut Words) -> Result<(), Error<'static>>
+    ensures { words.new.next ≡ min (words.old.next + 3) 18446744073709551615 }
+{
     let letters = words.file();
     let terminals = words.length();
     let length = words.length();
@@ -187,7 +205,9 @@ fn run_letters(words: &mut Words) -> Result<(), Error<'static>> {
     Ok(())
 }
 
-fn run_lettered_scans(words: &mut Words) -> Result<(), Error<'static>> {
+fn run_lettered_scans(words: &mut Words) -> Result<(), Error<'static>>
+    ensures { words.new.next ≡ min (words.old.next + 4) 18446744073709551615 }
+{
     let letters = words.file();
     let scans = words.file();
     let terminals = words.length();
@@ -222,7 +242,9 @@ struct Session {
 }
 
 impl Session {
-    fn read(words: &mut Words, over: Over) -> Session {
+    fn read(words: &mut Words, over: Over) -> Session
+        ensures { words.new.next ≡ min (words.old.next + files over) 18446744073709551615 }
+    {
         Session {
             grammar: words.file().bytes,
             tables: words.file().bytes,
@@ -288,7 +310,9 @@ fn write_walked(out: &mut Printer, answer: SessionReply) -> io::Result<()> {
     )
 }
 
-fn run_walk(words: &mut Words, over: Over) -> Result<(), Error<'static>> {
+fn run_walk(words: &mut Words, over: Over) -> Result<(), Error<'static>>
+    ensures { words.new.next ≡ min (words.old.next + files over + 2) 18446744073709551615 }
+{
     let session = Session::read(words, over);
     let depth = words.length();
     let room = words.length();
@@ -304,7 +328,9 @@ fn run_walk(words: &mut Words, over: Over) -> Result<(), Error<'static>> {
 }
 
 // Prints the codes that are counted, zeros too.
-fn run_list(words: &mut Words, over: Over) -> Result<(), Error<'static>> {
+fn run_list(words: &mut Words, over: Over) -> Result<(), Error<'static>>
+    ensures { words.new.next ≡ min (words.old.next + files over + 3) 18446744073709551615 }
+{
     let session = Session::read(words, over);
     let depth = words.length();
     let room = words.length();
@@ -347,7 +373,9 @@ fn write_runs(out: &mut Printer, bytes: &[u8]) -> io::Result<()> {
     Ok(())
 }
 
-fn run_load(words: &mut Words) -> Result<(), Error<'static>> {
+fn run_load(words: &mut Words) -> Result<(), Error<'static>>
+    ensures { words.new.next ≡ min (words.old.next + 5) 18446744073709551615 }
+{
     let grammar = words.file();
     let seed = words.number();
     let depth = words.number();
@@ -371,7 +399,9 @@ fn run_load(words: &mut Words) -> Result<(), Error<'static>> {
 }
 
 // Makes a load and walks it, and compares the listings.
-fn run_walked_load(words: &mut Words) -> Result<(), Error<'static>> {
+fn run_walked_load(words: &mut Words) -> Result<(), Error<'static>>
+    ensures { words.new.next ≡ min (words.old.next + 5) 18446744073709551615 }
+{
     let grammar = words.file();
     let tables = words.file();
     let loaded = words.file();
@@ -398,7 +428,9 @@ fn run_walked_load(words: &mut Words) -> Result<(), Error<'static>> {
     Ok(())
 }
 
-fn run_bound(words: &mut Words) -> Result<(), Error<'static>> {
+fn run_bound(words: &mut Words) -> Result<(), Error<'static>>
+    ensures { words.new.next ≡ min (words.old.next + 2) 18446744073709551615 }
+{
     let grammar = words.file();
     let scans = words.number();
     let answer = listing_bound::bound_listing(&grammar.bytes, scans);
@@ -414,7 +446,11 @@ fn run_bound(words: &mut Words) -> Result<(), Error<'static>> {
     Ok(())
 }
 
-fn run_case(words: &mut Words) -> Result<(), Error<'static>> {
+// Runs the case that begins with the next word. It takes a word at least, unless there is no number for one more, and eight at most.
+fn run_case(words: &mut Words) -> Result<(), Error<'static>>
+    ensures moves { words.old.next < 18446744073709551615 → words.old.next < words.new.next }
+    ensures within { words.new.next ≤ words.old.next + 8 }
+{
     match words.number() {
         1 => run_grammar(words),
         2 => run_check(words),
