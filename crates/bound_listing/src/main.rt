@@ -6,9 +6,10 @@ use program::Error;
 use std::io::Write;
 
 fn run(rt: HostRuntime) -> Result<(), Error<'static>> {
-    let grammar = program::read(rt, 1, "GRAMMAR")?;
+    let mut grammar = [0u8; program::FILE];
+    let grammar = program::read(rt, 1, "GRAMMAR", &mut grammar)?;
     let scans = program::read_number(rt, 2, "SCANS")?;
-    let answer = listing_bound::bound_listing(&grammar, scans as usize);
+    let answer = listing_bound::bound_listing(grammar, scans as usize);
     let reply = listing_bound::as_reply(answer);
     let mut out = program::output(rt);
     write!(out, "{},{},", reply::number(reply), reply::place(reply))?;

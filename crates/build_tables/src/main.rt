@@ -9,14 +9,14 @@ use std::io::Write;
 const BOOK: usize = 65536;
 
 fn run(rt: HostRuntime) -> Result<(), Error<'static>> {
-    let grammar = program::read(rt, 1, "GRAMMAR")?;
-    let mut book = vec![in rt.alloc(); 0u8; BOOK]?;
-    let built = builder::build_tables(&grammar, &mut book);
+    let mut grammar = [0u8; program::FILE];
+    let grammar = program::read(rt, 1, "GRAMMAR", &mut grammar)?;
+    let mut book = [0u8; BOOK];
+    let built = builder::build_tables(grammar, &mut book);
     let reply = built.reply;
-    book.truncate(built.length);
     let mut out = program::output(rt);
     match reply {
-        Reply::Accepted(_) => out.write_all(&book)?,
+        Reply::Accepted(_) => out.write_all(&book[..built.length])?,
         Reply::Refused(_) => writeln!(out, "{},{}", reply::number(reply), reply::place(reply))?,
     }
     out.flush()?;

@@ -5,9 +5,11 @@ use program::Error;
 use std::io::Write;
 
 fn run(rt: HostRuntime) -> Result<(), Error<'static>> {
-    let grammar = program::read(rt, 1, "GRAMMAR")?;
-    let tables = program::read(rt, 2, "TABLES")?;
-    let reply = checker::check_tables(&grammar, &tables);
+    let mut grammar = [0u8; program::FILE];
+    let grammar = program::read(rt, 1, "GRAMMAR", &mut grammar)?;
+    let mut tables = [0u8; program::FILE];
+    let tables = program::read(rt, 2, "TABLES", &mut tables)?;
+    let reply = checker::check_tables(grammar, tables);
     let mut out = program::output(rt);
     writeln!(out, "{},{}", reply::number(reply), reply::place(reply))?;
     out.flush()?;

@@ -10,27 +10,31 @@ use std::io::Write;
 const CODES: usize = 64;
 
 fn run(rt: HostRuntime) -> Result<(), Error<'static>> {
-    let grammar = program::read(rt, 1, "GRAMMAR")?;
-    let tables = program::read(rt, 2, "TABLES")?;
-    let scans = program::read(rt, 3, "SCANS")?;
-    let letters = program::read_optional(rt, 4, "LETTERS")?;
+    let mut grammar = [0u8; program::FILE];
+    let grammar = program::read(rt, 1, "GRAMMAR", &mut grammar)?;
+    let mut tables = [0u8; program::FILE];
+    let tables = program::read(rt, 2, "TABLES", &mut tables)?;
+    let mut scans = [0u8; program::FILE];
+    let scans = program::read(rt, 3, "SCANS", &mut scans)?;
+    let mut letters = [0u8; program::FILE];
+    let letters = program::read_optional(rt, 4, "LETTERS", &mut letters)?;
     let mut stack = program::lend(0);
     let mut listing = program::lend(0);
     let mut codes = [0u8; CODES];
     let answer = match letters {
         Some(letters) => expected_scans::list_expected_lettered(
-            &grammar,
-            &tables,
-            &letters,
-            &scans,
+            grammar,
+            tables,
+            letters,
+            scans,
             &mut stack,
             &mut listing,
             &mut codes,
         ),
         None => expected_scans::list_expected_scans(
-            &grammar,
-            &tables,
-            &scans,
+            grammar,
+            tables,
+            scans,
             &mut stack,
             &mut listing,
             &mut codes,

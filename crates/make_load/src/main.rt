@@ -6,12 +6,13 @@ use program::Error;
 use std::io::Write;
 
 fn run(rt: HostRuntime) -> Result<(), Error<'static>> {
-    let grammar = program::read(rt, 1, "GRAMMAR")?;
+    let mut grammar = [0u8; program::FILE];
+    let grammar = program::read(rt, 1, "GRAMMAR", &mut grammar)?;
     let seed = program::read_u32(rt, 2, "SEED")?;
     let depth = program::read_number(rt, 3, "DEPTH")?;
     let mut tokens = [0u8; generate_steps::TOKENS];
     let mut listing = program::lend(0);
-    let answer = generator::make_load(&grammar, seed, depth as usize, &mut tokens, &mut listing);
+    let answer = generator::make_load(grammar, seed, depth as usize, &mut tokens, &mut listing);
     let reply = generator::as_reply(answer);
     let mut out = program::output(rt);
     writeln!(
@@ -22,9 +23,8 @@ fn run(rt: HostRuntime) -> Result<(), Error<'static>> {
         generator::token_count(answer),
         generator::rule_count(answer),
     )?;
-    for code in tokens.iter().chain(&listing).filter(|code| **code != 0) {
-        writeln!(out, "{code}")?;
-    }
+    program::print_bytes(&mut out, &tokens)?;
+    program::print_bytes(&mut out, &listing)?;
     out.flush()?;
     Ok(())
 }

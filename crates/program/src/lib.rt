@@ -4,9 +4,8 @@
 #![tactic(auto)]
 
 ghost use Rattle.std.specs.Counts.{IsPrefixLen};
-ghost use Rattle.std.specs.Prelude.{◌≡◌, ◌≤◌, ◌<◌, IfOk, IfSome, length, vec_len};
+ghost use Rattle.std.specs.Prelude.{◌≡◌, ◌≤◌, ◌<◌, IfOk, IfSome, length};
 
-use std::alloc::AllocError;
 use std::env::{Env, FillError};
 use std::fs::File;
 use std::io::{Read, Write};
@@ -30,57 +29,59 @@ pub const LENT: usize = 1048576;
 // The least number of more than 32 bits, which stands for every greater one too.
 const BEYOND: u64 = 4294967296;
 
-// Why a program stops. An argument goes by what it is for; the bytes of a path need not be text.
+// Why a program stops. A file that could not be read goes by its argument's number, another argument by what it is for.
 #[derive(Debug, Drop)]
 pub enum Error<'a> {
-    Missing(&'a str),
-    NameTooLong(&'a str),
-    NoNumber(&'a str),
-    TooGreat(&'a str),
-    Unreadable(Vec<u8>, io::Error),
+    Missing(&'a [u8]),
+    NameTooLong(&'a [u8]),
+    NoNumber(&'a [u8]),
+    TooGreat(&'a [u8]),
+    Unreadable(usize, io::Error),
     Output(io::Error),
-    OutOfMemory,
 }
 
-// Of output alone: what fails of a file has its path beside it.
+// Of output alone: what fails of a file has its argument's number beside it.
 impl From<io::Error> for Error<'_> {
     fn from(error: io::Error) -> Self {
         Error::Output(error)
     }
 }
 
-impl From<AllocError> for Error<'_> {
-    fn from(_error: AllocError) -> Self {
-        Error::OutOfMemory
+impl Error<'_> {
+    // Says on standard error what is wrong and, unless it is the output, how the program is used. Where that cannot be written, nothing
+    // says so.
+    pub fn tell(self, rt: HostRuntime, usage: &str) {
+        let _ = self.print(rt, usage.as_bytes());
+    }
+
+    fn print(self, rt: HostRuntime, usage: &[u8]) -> io::Result<()> {
+        match self {
+            Error::Missing(what) => print_fault(rt, what, " is missing")?,
+            Error::NoNumber(what) => print_fault(rt, what, " is no number")?,
+            Error::TooGreat(what) => print_fault(rt, what, " is above 4294967295")?,
+            Error::NameTooLong(what) => {
+                print_reason(rt, what, io::Error::from_raw_os_error(TOO_LONG))?
+            }
+            Error::Unreadable(i, error) => {
+                let mut name = [0u8; NAME];
+                let n = rt.arg(i, &mut name).unwrap_or(0);
+                print_reason(rt, &name[..n], error)?
+            }
+            Error::Output(error) => return print_reason(rt, b"standard output", error),
+        }
+        rt.stderr().write_all(usage)
     }
 }
 
-impl Error<'_> {
-    // Says on standard error what is wrong and, unless it is the output or the memory, how the program is used. Where that cannot be
-    // written, nothing says so.
-    pub fn tell(self, rt: HostRuntime, usage: &str) {
-        let _ = self.print(rt, usage);
-    }
-
-    fn print(self, rt: HostRuntime, usage: &str) -> io::Result<()> {
-        match self {
-            Error::Missing(what) => eprintln!(rt; "{what} is missing")?,
-            Error::NoNumber(what) => eprintln!(rt; "{what} is no number")?,
-            Error::TooGreat(what) => eprintln!(rt; "{what} is above 4294967295")?,
-            Error::NameTooLong(what) => {
-                print_reason(rt, what.as_bytes(), io::Error::from_raw_os_error(TOO_LONG))?
-            }
-            Error::Unreadable(path, error) => print_reason(rt, &path, error)?,
-            Error::Output(error) => return print_reason(rt, b"standard output", error),
-            Error::OutOfMemory => return eprintln!(rt; "out of memory"),
-        }
-        eprint!(rt; "{usage}")
-    }
+// What is at fault, and a line that says how.
+fn print_fault(rt: HostRuntime, what: &[u8], how: &str) -> io::Result<()> {
+    rt.stderr().write_all(what)?;
+    eprintln!(rt; "{how}")
 }
 
 // What failed and why, as the system words it, without the error's number.
 fn print_reason(rt: HostRuntime, what: &[u8], error: io::Error) -> io::Result<()> {
-    Write::write_all(&mut rt.stderr(), what)?;
+    rt.stderr().write_all(what)?;
     let Ok(text) = error.to_string(rt.alloc()) else {
         return eprintln!(rt; ": out of memory");
     };
@@ -88,61 +89,95 @@ fn print_reason(rt: HostRuntime, what: &[u8], error: io::Error) -> io::Result<()
     eprintln!(rt; ": {reason}")
 }
 
-// Puts what the file at `path` has, FILE bytes at most, into `bytes`; where reading fails, what was read. The library opens those files
-// alone whose names are UTF-8.
-fn read_path(rt: HostRuntime, path: &[u8], bytes: &mut Vec<u8>) -> io::Result<()>
-    ensures { vec_len bytes.new ≤ 65537 }
+// One read, tried again where a signal interrupts it.
+fn read_some(file: &mut File, buf: &mut [u8]) -> io::Result<usize>
+    ensures { IfOk result (λ n. IsPrefixLen n buf.new) }
 {
-    bytes.clear();
+    for _ in 0..u64::MAX {
+        match file.read(buf) {
+            Err(error) if error.kind() == io::ErrorKind::Interrupted => {}
+            outcome => return outcome,
+        }
+    }
+    Err(io::Error::from(io::ErrorKind::Interrupted))
+}
+
+// Reads a file until `buf` is full or the file ends, then, after the end, once more: how many bytes `buf` has of it, and whether a read
+// failed.
+fn read_open(mut file: File, buf: &mut [u8]) -> (usize, io::Result<()>)
+    ensures { IsPrefixLen result.0 buf.new }
+{
+    let mut size = 0;
+    while size < buf.len() {
+        match read_some(&mut file, &mut buf[size..]) {
+            Ok(0) => return (size, read_some(&mut file, &mut [0u8; 1]).map(drop)),
+            Ok(n) => size += n,
+            Err(error) => return (size, Err(error)),
+        }
+    }
+    (size, Ok(()))
+}
+
+// The same of the file at `path`. The library opens those alone whose names are UTF-8.
+fn read_path(rt: HostRuntime, path: &[u8], buf: &mut [u8]) -> (usize, io::Result<()>)
+    ensures { IsPrefixLen result.0 buf.new }
+{
     let Ok(path) = std::str::from_utf8(path) else {
-        return Err(io::Error::new(io::ErrorKind::InvalidInput, "not UTF-8"));
+        let error = io::Error::new(io::ErrorKind::InvalidInput, "not UTF-8");
+        return (0, Err(error));
     };
-    let outcome = File::open(&rt, path)?.take(FILE as u64).read_to_end(bytes);
-    // `take` lets no more through, which no clause of it says.
-    bytes.truncate(FILE);
-    outcome?;
-    Ok(())
+    match File::open(&rt, path) {
+        Ok(file) => read_open(file, buf),
+        Err(error) => (0, Err(error)),
+    }
 }
 
 // The same of the file that argument i names.
-pub fn read_into<'a>(
+fn read_named<'a>(
     rt: HostRuntime,
     i: usize,
-    what: &'a str,
-    bytes: &mut Vec<u8>,
-) -> Result<(), Error<'a>>
-    ensures { vec_len bytes.new ≤ 65537 }
+    what: &'a [u8],
+    buf: &mut [u8],
+) -> (usize, Result<(), Error<'a>>)
+    ensures { IsPrefixLen result.0 buf.new }
 {
-    bytes.clear();
     let mut name = [0u8; NAME];
     let path = match rt.arg(i, &mut name) {
         Ok(n) => &name[..n],
-        Err(FillError::NotPresent) => return Err(Error::Missing(what)),
-        Err(FillError::TooLong) => return Err(Error::NameTooLong(what)),
+        Err(FillError::NotPresent) => return (0, Err(Error::Missing(what))),
+        Err(FillError::TooLong) => return (0, Err(Error::NameTooLong(what))),
     };
-    if let Err(error) = read_path(rt, path, bytes) {
-        return Err(Error::Unreadable(path.to_vec(rt.alloc())?, error));
-    }
-    Ok(())
+    let (size, read) = read_path(rt, path, buf);
+    (size, read.map_err(|error| Error::Unreadable(i, error)))
 }
 
-// The bytes of the file that argument i names, as `read_into` has them.
-pub fn read(rt: HostRuntime, i: usize, what: &str) -> Result<Vec<u8>, Error<'_>>
-    ensures { IfOk result (λ bytes. vec_len bytes ≤ 65537) }
+// The bytes of the file that argument i names, FILE at most, which stand at the start of `buf`.
+pub fn read<'a, 'b>(
+    rt: HostRuntime,
+    i: usize,
+    what: &'a str,
+    buf: &'b mut [u8; FILE],
+) -> Result<&'b [u8], Error<'a>>
+    ensures { IfOk result (λ bytes. length bytes.now ≤ 65537) }
 {
-    let mut bytes = Vec::new(rt.alloc());
-    read_into(rt, i, what, &mut bytes)?;
-    Ok(bytes)
+    let (size, read) = read_named(rt, i, what.as_bytes(), buf);
+    read?;
+    Ok(&buf[..size])
 }
 
 // The same for an argument that may be left out.
-pub fn read_optional(rt: HostRuntime, i: usize, what: &str) -> Result<Option<Vec<u8>>, Error<'_>>
-    ensures { IfOk result (λ read. IfSome read (λ bytes. vec_len bytes ≤ 65537)) }
+pub fn read_optional<'a, 'b>(
+    rt: HostRuntime,
+    i: usize,
+    what: &'a str,
+    buf: &'b mut [u8; FILE],
+) -> Result<Option<&'b [u8]>, Error<'a>>
+    ensures { IfOk result (λ read. IfSome read (λ bytes. length bytes.now ≤ 65537)) }
 {
     if !has_argument(rt, i) {
         return Ok(None);
     }
-    Ok(Some(read(rt, i, what)?))
+    Ok(Some(read(rt, i, what, buf)?))
 }
 
 // Whether there is an argument i.
@@ -192,16 +227,16 @@ pub fn read_number(rt: HostRuntime, i: usize, what: &str) -> Result<u64, Error<'
 {
     let mut word = [0u8; NAME];
     match rt.arg(i, &mut word) {
-        Ok(n) => number_of(&word[..n]).ok_or(Error::NoNumber(what)),
-        Err(FillError::TooLong) => Err(Error::NoNumber(what)),
-        Err(FillError::NotPresent) => Err(Error::Missing(what)),
+        Ok(n) => number_of(&word[..n]).ok_or(Error::NoNumber(what.as_bytes())),
+        Err(FillError::TooLong) => Err(Error::NoNumber(what.as_bytes())),
+        Err(FillError::NotPresent) => Err(Error::Missing(what.as_bytes())),
     }
 }
 
 // The same for a number of 32 bits: a greater one is refused as well.
 pub fn read_u32(rt: HostRuntime, i: usize, what: &str) -> Result<u32, Error<'_>> {
     let number = read_number(rt, i, what)?;
-    u32::try_from(number).map_err(|_| Error::TooGreat(what))
+    u32::try_from(number).map_err(|_| Error::TooGreat(what.as_bytes()))
 }
 
 // So many bytes, all alike, as a walk or a load is lent.
@@ -235,7 +270,7 @@ pub fn output(rt: HostRuntime) -> Printer {
 impl Write for Printer {
     fn write(&mut self, bytes: &[u8]) -> io::Result<usize> {
         if self.waiting == BLOCK {
-            self.flush()?;
+            self.write_block()?;
         }
         let n = bytes.len().min(BLOCK - self.waiting);
         self.block[self.waiting..self.waiting + n].copy_from_slice(&bytes[..n]);
@@ -244,12 +279,62 @@ impl Write for Printer {
     }
 
     fn flush(&mut self) -> io::Result<()> {
+        self.write_block()
+    }
+}
+
+impl Printer {
+    // Writes what waits.
+    fn write_block(&mut self) -> io::Result<()>
+        ensures { self.new.waiting ≡ 0 }
+    {
         let n = mem::take(&mut self.waiting);
         if self.failed {
             return Ok(());
         }
         Print::write_all(&self.rt, &self.block[..n])
     }
+
+    // Takes a byte.
+    fn put(&mut self, b: u8) -> io::Result<()> {
+        if self.waiting == BLOCK {
+            self.write_block()?;
+        }
+        self.block[self.waiting] = b;
+        self.waiting += 1;
+        Ok(())
+    }
+
+    // Takes a number, which is a byte, and an LF.
+    fn put_line(&mut self, number: u8) -> io::Result<()> {
+        if 100 <= number {
+            self.put(b'0' + number / 100)?;
+        }
+        if 10 <= number {
+            self.put(b'0' + number / 10 % 10)?;
+        }
+        self.put(b'0' + number % 10)?;
+        self.put(b'\n')
+    }
+}
+
+// Prints each byte that is not 0 as a number on a line: what stands in a slice before its zeros.
+pub fn print_bytes(out: &mut Printer, bytes: &[u8]) -> io::Result<()> {
+    for b in bytes {
+        if *b != 0 {
+            out.put_line(*b)?;
+        }
+    }
+    Ok(())
+}
+
+// Prints each of the first n bytes as a number on a line, zeros too, and each after them that is not 0.
+pub fn print_list(out: &mut Printer, bytes: &[u8], n: usize) -> io::Result<()> {
+    let (listed, rest) = bytes.split_at(n.min(bytes.len()));
+    for b in listed {
+        out.put_line(*b)?;
+    }
+    print_bytes(out, rest)
 }
 
 // What follows serves callers that hand on no result: an error is told where it comes up, and they go on.
@@ -261,27 +346,21 @@ pub struct Input {
     pub failed: bool,
 }
 
-fn as_text(bytes: &[u8]) -> &str {
-    std::str::from_utf8(bytes).unwrap_or("")
-}
-
 // Says on standard error that an argument is missing, and how the program is used.
 pub fn tell_missing(rt: HostRuntime, what: &[u8], usage: &[u8]) {
-    Error::Missing(as_text(what)).tell(rt, as_text(usage));
+    let _ = Error::Missing(what).print(rt, usage);
 }
 
-// Reads the file that argument i names, as far as `buf` goes.
+// Reads the file that argument i names, until `buf` is full or the file ends. Where that fails, standard error says so, and how the program
+// is used.
 pub fn read_argument(rt: HostRuntime, i: usize, what: &[u8], usage: &[u8], buf: &mut [u8]) -> Input
     ensures { IsPrefixLen result.size buf.new }
 {
-    let mut bytes = Vec::new(rt.alloc());
-    let read = read_into(rt, i, as_text(what), &mut bytes);
+    let (size, read) = read_named(rt, i, what, buf);
     let failed = read.is_err();
     if let Err(error) = read {
-        error.tell(rt, as_text(usage));
+        let _ = error.print(rt, usage);
     }
-    let size = bytes.len().min(buf.len());
-    buf[..size].copy_from_slice(&bytes[..size]);
     Input { size, failed }
 }
 
@@ -300,7 +379,7 @@ pub fn flush(out: &mut Printer) {
 
 // Prints a byte.
 pub fn print_byte(out: &mut Printer, b: u8) {
-    let printed = out.write_all(&[b]);
+    let printed = out.put(b);
     told(out, printed);
 }
 
@@ -332,16 +411,22 @@ mod tests {
     // Argument 0 names the test's own program.
     #[test]
     fn reads_a_file(rt: HostRuntime) -> Result<(), Fail> {
-        let bytes = read(rt, 0, "PROGRAM")?;
+        let mut bytes = [0u8; FILE];
+        let bytes = read(rt, 0, "PROGRAM", &mut bytes)?;
         assert!(rt; bytes.starts_with(b"\x7fELF"));
-        assert_eq!(rt; read_optional(rt, 0, "PROGRAM")?, Some(bytes));
+        assert_eq!(rt;
+            read_optional(rt, 0, "PROGRAM", &mut [0u8; FILE])?,
+            Some(bytes)
+        );
         Ok(())
     }
 
     #[test]
     fn reads_no_file(rt: HostRuntime) -> Result<(), Fail> {
-        assert!(rt; matches!(read(rt, 1000, "PROGRAM"), Err(Error::Missing("PROGRAM"))));
-        assert_eq!(rt; read_optional(rt, 1000, "PROGRAM")?, None);
+        let mut bytes = [0u8; FILE];
+        let read = read(rt, 1000, "PROGRAM", &mut bytes);
+        assert!(rt; matches!(read, Err(Error::Missing(what)) if what == b"PROGRAM".as_slice()));
+        assert_eq!(rt; read_optional(rt, 1000, "PROGRAM", &mut bytes)?, None);
         Ok(())
     }
 

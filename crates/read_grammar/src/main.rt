@@ -5,9 +5,10 @@ use program::Error;
 use std::io::Write;
 
 fn run(rt: HostRuntime) -> Result<(), Error<'static>> {
-    let book = program::read(rt, 1, "GRAMMAR")?;
+    let mut book = [0u8; program::FILE];
+    let book = program::read(rt, 1, "GRAMMAR", &mut book)?;
     let mut items = [0u8; grammar::TABLE];
-    let reply = grammar::as_reply(grammar::read_grammar(&book, &mut items));
+    let reply = grammar::as_reply(grammar::read_grammar(book, &mut items));
     let mut out = program::output(rt);
     writeln!(out, "{},{}", reply::number(reply), reply::place(reply))?;
     out.flush()?;

@@ -9,21 +9,21 @@ use std::io::Write;
 const SCANS: usize = 65536;
 
 fn run(rt: HostRuntime) -> Result<(), Error<'static>> {
-    let scans = program::read(rt, 1, "SCANS")?;
-    let letters = program::read_optional(rt, 2, "LETTERS")?;
+    let mut scans = [0u8; program::FILE];
+    let scans = program::read(rt, 1, "SCANS", &mut scans)?;
+    let mut letters = [0u8; program::FILE];
+    let letters = program::read_optional(rt, 2, "LETTERS", &mut letters)?;
     let mut tokens = [0u8; SCANS];
     let reply = match letters {
         Some(letters) => {
             let terminals = program::read_number(rt, 3, "TERMINALS")?;
-            lettered_scans::read_lettered(&letters, terminals as usize, &scans, &mut tokens)
+            lettered_scans::read_lettered(letters, terminals as usize, scans, &mut tokens)
         }
-        None => scans::read_scans(&scans, &mut tokens),
+        None => scans::read_scans(scans, &mut tokens),
     };
     let mut out = program::output(rt);
     writeln!(out, "{},{}", reply::number(reply), reply::place(reply))?;
-    for token in tokens.iter().filter(|token| **token != 0) {
-        writeln!(out, "{token}")?;
-    }
+    program::print_bytes(&mut out, &tokens)?;
     out.flush()?;
     Ok(())
 }

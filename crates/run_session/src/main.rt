@@ -7,22 +7,26 @@ use program::Error;
 use std::io::Write;
 
 fn run(rt: HostRuntime) -> Result<(), Error<'static>> {
-    let grammar = program::read(rt, 1, "GRAMMAR")?;
-    let tables = program::read(rt, 2, "TABLES")?;
-    let scans = program::read(rt, 3, "SCANS")?;
-    let letters = program::read_optional(rt, 4, "LETTERS")?;
+    let mut grammar = [0u8; program::FILE];
+    let grammar = program::read(rt, 1, "GRAMMAR", &mut grammar)?;
+    let mut tables = [0u8; program::FILE];
+    let tables = program::read(rt, 2, "TABLES", &mut tables)?;
+    let mut scans = [0u8; program::FILE];
+    let scans = program::read(rt, 3, "SCANS", &mut scans)?;
+    let mut letters = [0u8; program::FILE];
+    let letters = program::read_optional(rt, 4, "LETTERS", &mut letters)?;
     let mut stack = program::lend(0);
     let mut listing = program::lend(0);
     let answer = match letters {
         Some(letters) => scan_session::run_lettered(
-            &grammar,
-            &tables,
-            &letters,
-            &scans,
+            grammar,
+            tables,
+            letters,
+            scans,
             &mut stack,
             &mut listing,
         ),
-        None => scan_session::run_scans(&grammar, &tables, &scans, &mut stack, &mut listing),
+        None => scan_session::run_scans(grammar, tables, scans, &mut stack, &mut listing),
     };
     let reply = walker::as_reply(answer);
     let mut out = program::output(rt);
@@ -34,9 +38,7 @@ fn run(rt: HostRuntime) -> Result<(), Error<'static>> {
         walker::rule_count(answer),
         walker::unit_count(answer),
     )?;
-    for rule in listing.iter().filter(|rule| **rule != 0) {
-        writeln!(out, "{rule}")?;
-    }
+    program::print_bytes(&mut out, &listing)?;
     out.flush()?;
     Ok(())
 }

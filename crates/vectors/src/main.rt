@@ -24,13 +24,17 @@ ghost use Rattle.vectors.specs.Words.{files};
 
 use expected_trials::ExpectedReply;
 use generator::GeneratorReply;
-use program::{Error, LENT, Printer};
+use program::{Error, FILE, LENT, Printer};
 use reply::Reply;
 use session::SessionReply;
-use std::alloc::AllocError;
 use std::env::Env;
 use std::io;
 use std::io::Write;
+
+const USAGE: &str = "usage: vectors (CALL, WORD..)..\n";
+
+// The most bytes that a case lends where it lends no LENT.
+const ROOM: usize = 65536;
 
 // The words of the cases: arguments, one after another.
 #[derive(Drop)]
@@ -40,10 +44,10 @@ struct Words {
 }
 
 // A file that a case names: which argument that is, and the file's bytes.
-#[derive(Drop)]
-struct Input {
+#[derive(Clone, Copy)]
+struct Input<'a> {
     name: usize,
-    bytes: Vec<u8>,
+    bytes: &'a [u8],
 }
 
 impl Words {
@@ -72,19 +76,20 @@ impl Words {
     }
 
     // The file that a word names. Where that cannot be read, standard error says so, and the case goes on with what was read.
-    fn file(&mut self) -> Input
+    fn file<'a>(&mut self, buf: &'a mut [u8]) -> Input<'a>
         ensures { self.new.next ≡ min (self.old.next + 1) 18446744073709551615 }
     {
         let name = self.take();
-        let mut bytes = Vec::new(self.rt.alloc());
-        if let Err(error) = program::read_into(self.rt, name, "a word of a case", &mut bytes) {
-            tell(error, self.rt);
+        let usage = USAGE.as_bytes();
+        let read = program::read_argument(self.rt, name, b"a word of a case", usage, buf);
+        Input {
+            name,
+            bytes: &buf[..read.size],
         }
-        Input { name, bytes }
     }
 
     // An output that begins with the name of a file, as far as 4,096 bytes go.
-    fn output(&self, input: &Input) -> io::Result<Printer> {
+    fn output(&self, input: Input<'_>) -> io::Result<Printer> {
         let mut out = program::output(self.rt);
         let mut name = [0u8; 4096];
         let _ = self.rt.arg(input.name, &mut name);
@@ -92,41 +97,19 @@ impl Words {
         out.write_all(b"\n")?;
         Ok(out)
     }
-
-    // A slice of so many bytes to lend.
-    fn lend(&self, n: usize) -> Result<Vec<u8>, AllocError> {
-        vec![in self.rt.alloc(); 7u8; n]
-    }
-
-    // The same, where 65,536 stands for all that a program can lend.
-    fn lend_most(&self, n: usize) -> Result<Vec<u8>, AllocError> {
-        self.lend(if n < 65536 { n } else { LENT })
-    }
 }
 
-fn tell(error: Error<'_>, rt: HostRuntime) {
-    error.tell(rt, "usage: vectors (CALL, WORD..)..\n");
+// A length, where 65,536 stands for all that a program can lend.
+fn lent(n: usize) -> usize
+    ensures { result ≤ 1048576 }
+{
+    if n < 65536 { n } else { LENT }
 }
 
 // What stands before the first 0.
 fn before_zero(text: &[u8]) -> &[u8] {
     let end = text.iter().position(|b| *b == 0).unwrap_or(text.len());
     &text[..end]
-}
-
-// Prints each of the first n bytes as a number on a line, zeros too, and each after them that is not 0.
-fn write_list(out: &mut Printer, bytes: &[u8], n: usize) -> io::Result<()> {
-    for (i, b) in bytes.iter().enumerate() {
-        if i < n || *b != 0 {
-            writeln!(out, "{b}")?;
-        }
-    }
-    Ok(())
-}
-
-// Prints what is not 0.
-fn write_bytes(out: &mut Printer, bytes: &[u8]) -> io::Result<()> {
-    write_list(out, bytes, 0)
 }
 
 fn write_reply(out: &mut Printer, reply: Reply) -> io::Result<()> {
@@ -136,10 +119,11 @@ fn write_reply(out: &mut Printer, reply: Reply) -> io::Result<()> {
 fn run_grammar(words: &mut Words) -> Result<(), Error<'static>>
     ensures { words.new.next ≡ min (words.old.next + 1) 18446744073709551615 }
 {
-    let book = words.file();
+    let mut book = [0u8; FILE];
+    let book = words.file(&mut book);
     let mut items = [0u8; grammar::TABLE];
-    let answer = grammar::read_grammar(&book.bytes, &mut items);
-    let mut out = words.output(&book)?;
+    let answer = grammar::read_grammar(book.bytes, &mut items);
+    let mut out = words.output(book)?;
     write_reply(&mut out, grammar::as_reply(answer))?;
     out.flush()?;
     Ok(())
@@ -148,13 +132,12 @@ fn run_grammar(words: &mut Words) -> Result<(), Error<'static>>
 fn run_check(words: &mut Words) -> Result<(), Error<'static>>
     ensures { words.new.next ≡ min (words.old.next + 2) 18446744073709551615 }
 {
-    let grammar = words.file();
-    let tables = words.file();
-    let mut out = words.output(&tables)?;
-    write_reply(
-        &mut out,
-        checker::check_tables(&grammar.bytes, &tables.bytes),
-    )?;
+    let mut grammar = [0u8; FILE];
+    let mut tables = [0u8; FILE];
+    let grammar = words.file(&mut grammar);
+    let tables = words.file(&mut tables);
+    let mut out = words.output(tables)?;
+    write_reply(&mut out, checker::check_tables(grammar.bytes, tables.bytes))?;
     out.flush()?;
     Ok(())
 }
@@ -163,15 +146,16 @@ fn run_check(words: &mut Words) -> Result<(), Error<'static>>
 fn run_build(words: &mut Words) -> Result<(), Error<'static>>
     ensures { words.new.next ≡ min (words.old.next + 2) 18446744073709551615 }
 {
-    let grammar = words.file();
-    let length = words.length();
-    let mut book = words.lend(length)?;
-    let built = builder::build_tables(&grammar.bytes, &mut book);
-    let mut out = words.output(&grammar)?;
+    let mut grammar = [0u8; FILE];
+    let mut room = [7u8; ROOM];
+    let grammar = words.file(&mut grammar);
+    let book = &mut room[..words.length()];
+    let built = builder::build_tables(grammar.bytes, book);
+    let mut out = words.output(grammar)?;
     write_reply(&mut out, built.reply)?;
     let set = book.iter().filter(|b| **b != 0).count();
     writeln!(out, "{},{set}", built.length)?;
-    out.write_all(before_zero(&book))?;
+    out.write_all(before_zero(book))?;
     out.flush()?;
     Ok(())
 }
@@ -179,12 +163,13 @@ fn run_build(words: &mut Words) -> Result<(), Error<'static>>
 fn run_scans(words: &mut Words) -> Result<(), Error<'static>>
     ensures { words.new.next ≡ min (words.old.next + 2) 18446744073709551615 }
 {
-    let scans = words.file();
-    let length = words.length();
-    let mut tokens = words.lend(length)?;
-    let mut out = words.output(&scans)?;
-    write_reply(&mut out, scans::read_scans(&scans.bytes, &mut tokens))?;
-    write_bytes(&mut out, &tokens)?;
+    let mut scans = [0u8; FILE];
+    let mut room = [7u8; ROOM];
+    let scans = words.file(&mut scans);
+    let tokens = &mut room[..words.length()];
+    let mut out = words.output(scans)?;
+    write_reply(&mut out, scans::read_scans(scans.bytes, tokens))?;
+    program::print_bytes(&mut out, tokens)?;
     out.flush()?;
     Ok(())
 }
@@ -192,15 +177,16 @@ fn run_scans(words: &mut Words) -> Result<(), Error<'static>>
 fn run_letters(words: &mut Words) -> Result<(), Error<'static>>
     ensures { words.new.next ≡ min (words.old.next + 3) 18446744073709551615 }
 {
-    let letters = words.file();
+    let mut letters = [0u8; FILE];
+    let mut room = [7u8; ROOM];
+    let letters = words.file(&mut letters);
     let terminals = words.length();
-    let length = words.length();
-    let mut codes = words.lend(length)?;
-    let reply = letters::read_letters(&letters.bytes, terminals, &mut codes);
-    let mut out = words.output(&letters)?;
+    let codes = &mut room[..words.length()];
+    let reply = letters::read_letters(letters.bytes, terminals, codes);
+    let mut out = words.output(letters)?;
     write_reply(&mut out, reply)?;
     let is_good = reply::number(reply) == 0;
-    write_list(&mut out, &codes, if is_good { letters::LETTERS } else { 0 })?;
+    program::print_list(&mut out, codes, if is_good { letters::LETTERS } else { 0 })?;
     out.flush()?;
     Ok(())
 }
@@ -208,15 +194,17 @@ fn run_letters(words: &mut Words) -> Result<(), Error<'static>>
 fn run_lettered_scans(words: &mut Words) -> Result<(), Error<'static>>
     ensures { words.new.next ≡ min (words.old.next + 4) 18446744073709551615 }
 {
-    let letters = words.file();
-    let scans = words.file();
+    let mut letters = [0u8; FILE];
+    let mut scans = [0u8; FILE];
+    let mut room = [7u8; ROOM];
+    let letters = words.file(&mut letters);
+    let scans = words.file(&mut scans);
     let terminals = words.length();
-    let length = words.length();
-    let mut tokens = words.lend(length)?;
-    let reply = lettered_scans::read_lettered(&letters.bytes, terminals, &scans.bytes, &mut tokens);
-    let mut out = words.output(&scans)?;
+    let tokens = &mut room[..words.length()];
+    let reply = lettered_scans::read_lettered(letters.bytes, terminals, scans.bytes, tokens);
+    let mut out = words.output(scans)?;
     write_reply(&mut out, reply)?;
-    write_bytes(&mut out, &tokens)?;
+    program::print_bytes(&mut out, tokens)?;
     out.flush()?;
     Ok(())
 }
@@ -232,40 +220,48 @@ enum Over {
 }
 
 // The books and the input of a session.
-#[derive(Drop)]
-struct Session {
-    grammar: Vec<u8>,
-    tables: Vec<u8>,
-    letters: Vec<u8>,
-    input: Input,
+#[derive(Clone, Copy)]
+struct Session<'a> {
+    grammar: &'a [u8],
+    tables: &'a [u8],
+    letters: &'a [u8],
+    input: Input<'a>,
     over: Over,
 }
 
-impl Session {
-    fn read(words: &mut Words, over: Over) -> Session
+impl<'a> Session<'a> {
+    // Reads them into buffers. A session without a letters book has no use for its buffer.
+    fn read(
+        words: &mut Words,
+        over: Over,
+        grammar: &'a mut [u8],
+        tables: &'a mut [u8],
+        letters: &'a mut [u8],
+        input: &'a mut [u8],
+    ) -> Session<'a>
         ensures { words.new.next ≡ min (words.old.next + files over) 18446744073709551615 }
     {
         Session {
-            grammar: words.file().bytes,
-            tables: words.file().bytes,
+            grammar: words.file(grammar).bytes,
+            tables: words.file(tables).bytes,
             letters: match over {
-                Over::LetteredScans => words.file().bytes,
-                _ => Vec::new(words.rt.alloc()),
+                Over::LetteredScans => words.file(letters).bytes,
+                _ => b"",
             },
-            input: words.file(),
+            input: words.file(input),
             over,
         }
     }
 
     fn walk(&self, stack: &mut [u8], listing: &mut [u8]) -> SessionReply {
-        let grammar = &self.grammar;
-        let tables = &self.tables;
-        let input = &self.input.bytes;
+        let grammar = self.grammar;
+        let tables = self.tables;
+        let input = self.input.bytes;
         match self.over {
             Over::Tokens => session::run_session(grammar, tables, input, stack, listing),
             Over::Scans => scan_session::run_scans(grammar, tables, input, stack, listing),
             Over::LetteredScans | Over::UnletteredScans => {
-                scan_session::run_lettered(grammar, tables, &self.letters, input, stack, listing)
+                scan_session::run_lettered(grammar, tables, self.letters, input, stack, listing)
             }
         }
     }
@@ -276,9 +272,9 @@ impl Session {
         listing: &mut [u8],
         codes: &mut [u8],
     ) -> ExpectedReply {
-        let grammar = &self.grammar;
-        let tables = &self.tables;
-        let input = &self.input.bytes;
+        let grammar = self.grammar;
+        let tables = self.tables;
+        let input = self.input.bytes;
         match self.over {
             Over::Tokens => expected::list_expected(grammar, tables, input, stack, listing, codes),
             Over::Scans => {
@@ -287,7 +283,7 @@ impl Session {
             Over::LetteredScans | Over::UnletteredScans => expected_scans::list_expected_lettered(
                 grammar,
                 tables,
-                &self.letters,
+                self.letters,
                 input,
                 stack,
                 listing,
@@ -310,40 +306,46 @@ fn write_walked(out: &mut Printer, answer: SessionReply) -> io::Result<()> {
     )
 }
 
-fn run_walk(words: &mut Words, over: Over) -> Result<(), Error<'static>>
+fn run_walk(words: &mut Words, over: Over, letters: &mut [u8]) -> Result<(), Error<'static>>
     ensures { words.new.next ≡ min (words.old.next + files over + 2) 18446744073709551615 }
 {
-    let session = Session::read(words, over);
-    let depth = words.length();
-    let room = words.length();
-    let mut stack = words.lend(depth)?;
-    let mut listing = words.lend(room)?;
-    let answer = session.walk(&mut stack, &mut listing);
-    let mut out = words.output(&session.input)?;
+    let mut grammar = [0u8; FILE];
+    let mut tables = [0u8; FILE];
+    let mut input = [0u8; FILE];
+    let mut stack = [7u8; ROOM];
+    let mut listing = [7u8; ROOM];
+    let session = Session::read(words, over, &mut grammar, &mut tables, letters, &mut input);
+    let stack = &mut stack[..words.length()];
+    let listing = &mut listing[..words.length()];
+    let answer = session.walk(stack, listing);
+    let mut out = words.output(session.input)?;
     write_walked(&mut out, answer)?;
-    write_bytes(&mut out, &listing)?;
-    write_bytes(&mut out, &stack)?;
+    program::print_bytes(&mut out, listing)?;
+    program::print_bytes(&mut out, stack)?;
     out.flush()?;
     Ok(())
 }
 
 // Prints the codes that are counted, zeros too.
-fn run_list(words: &mut Words, over: Over) -> Result<(), Error<'static>>
+fn run_list(words: &mut Words, over: Over, letters: &mut [u8]) -> Result<(), Error<'static>>
     ensures { words.new.next ≡ min (words.old.next + files over + 3) 18446744073709551615 }
 {
-    let session = Session::read(words, over);
-    let depth = words.length();
-    let room = words.length();
-    let count = words.length();
-    let mut stack = words.lend_most(depth)?;
-    let mut listing = words.lend_most(room)?;
-    let mut codes = words.lend(count)?;
-    let answer = session.list_expected(&mut stack, &mut listing, &mut codes);
-    let mut out = words.output(&session.input)?;
+    let mut grammar = [0u8; FILE];
+    let mut tables = [0u8; FILE];
+    let mut input = [0u8; FILE];
+    let mut stack = program::lend(7);
+    let mut listing = program::lend(7);
+    let mut codes = [7u8; ROOM];
+    let session = Session::read(words, over, &mut grammar, &mut tables, letters, &mut input);
+    let stack = &mut stack[..lent(words.length())];
+    let listing = &mut listing[..lent(words.length())];
+    let codes = &mut codes[..words.length()];
+    let answer = session.list_expected(stack, listing, codes);
+    let mut out = words.output(session.input)?;
     write_reply(&mut out, expected::as_reply(answer))?;
-    write_list(&mut out, &codes, expected::code_count(answer))?;
-    write_bytes(&mut out, &listing)?;
-    write_bytes(&mut out, &stack)?;
+    program::print_list(&mut out, codes, expected::code_count(answer))?;
+    program::print_bytes(&mut out, listing)?;
+    program::print_bytes(&mut out, stack)?;
     out.flush()?;
     Ok(())
 }
@@ -366,7 +368,7 @@ fn write_runs(out: &mut Printer, bytes: &[u8]) -> io::Result<()> {
     for run in bytes.chunk_by(|a, b| a == b) {
         match run {
             [] | [0, ..] => {}
-            [byte] => writeln!(out, "{byte}")?,
+            [_] => program::print_bytes(out, run)?,
             [byte, ..] => writeln!(out, "{byte},{}", run.len())?,
         }
     }
@@ -376,24 +378,25 @@ fn write_runs(out: &mut Printer, bytes: &[u8]) -> io::Result<()> {
 fn run_load(words: &mut Words) -> Result<(), Error<'static>>
     ensures { words.new.next ≡ min (words.old.next + 5) 18446744073709551615 }
 {
-    let grammar = words.file();
+    let mut grammar = [0u8; FILE];
+    let mut tokens = [7u8; ROOM];
+    let mut listing = program::lend(7);
+    let grammar = words.file(&mut grammar);
     let seed = words.number();
     let depth = words.number();
-    let length = words.length();
-    let room = words.length();
-    let mut tokens = words.lend(length)?;
-    let mut listing = words.lend_most(room)?;
+    let tokens = &mut tokens[..words.length()];
+    let listing = &mut listing[..lent(words.length())];
     let answer = generator::make_load(
-        &grammar.bytes,
+        grammar.bytes,
         (seed & 0xffff_ffff) as u32,
         depth,
-        &mut tokens,
-        &mut listing,
+        tokens,
+        listing,
     );
-    let mut out = words.output(&grammar)?;
+    let mut out = words.output(grammar)?;
     write_made(&mut out, answer)?;
-    write_runs(&mut out, &tokens)?;
-    write_runs(&mut out, &listing)?;
+    write_runs(&mut out, tokens)?;
+    write_runs(&mut out, listing)?;
     out.flush()?;
     Ok(())
 }
@@ -402,25 +405,27 @@ fn run_load(words: &mut Words) -> Result<(), Error<'static>>
 fn run_walked_load(words: &mut Words) -> Result<(), Error<'static>>
     ensures { words.new.next ≡ min (words.old.next + 5) 18446744073709551615 }
 {
-    let grammar = words.file();
-    let tables = words.file();
-    let loaded = words.file();
+    let mut grammar = [0u8; FILE];
+    let mut tables = [0u8; FILE];
+    let mut loaded = [0u8; FILE];
+    let mut tokens = [7u8; generate_steps::TOKENS];
+    let mut listing = program::lend(7);
+    let mut stack = program::lend(7);
+    let mut walked = program::lend(7);
+    let grammar = words.file(&mut grammar);
+    let tables = words.file(&mut tables);
+    let loaded = words.file(&mut loaded);
     let seed = words.length();
     let depth = words.length();
-    let mut tokens = words.lend(generate_steps::TOKENS)?;
-    let mut listing = words.lend(LENT)?;
-    let made = generator::make_load(&loaded.bytes, seed as u32, depth, &mut tokens, &mut listing);
-    tokens.truncate(generator::token_count(made));
-    let mut stack = words.lend(LENT)?;
-    let mut walked = words.lend(LENT)?;
+    let made = generator::make_load(loaded.bytes, seed as u32, depth, &mut tokens, &mut listing);
     let answer = session::run_session(
-        &grammar.bytes,
-        &tables.bytes,
-        &tokens,
+        grammar.bytes,
+        tables.bytes,
+        &tokens[..generator::token_count(made)],
         &mut stack,
         &mut walked,
     );
-    let mut out = words.output(&loaded)?;
+    let mut out = words.output(loaded)?;
     write_made(&mut out, made)?;
     write_walked(&mut out, answer)?;
     writeln!(out, "{}", u8::from(listing == walked))?;
@@ -431,11 +436,12 @@ fn run_walked_load(words: &mut Words) -> Result<(), Error<'static>>
 fn run_bound(words: &mut Words) -> Result<(), Error<'static>>
     ensures { words.new.next ≡ min (words.old.next + 2) 18446744073709551615 }
 {
-    let grammar = words.file();
+    let mut grammar = [0u8; FILE];
+    let grammar = words.file(&mut grammar);
     let scans = words.number();
-    let answer = listing_bound::bound_listing(&grammar.bytes, scans);
+    let answer = listing_bound::bound_listing(grammar.bytes, scans);
     let reply = listing_bound::as_reply(answer);
-    let mut out = words.output(&grammar)?;
+    let mut out = words.output(grammar)?;
     write!(out, "{},{},", reply::number(reply), reply::place(reply))?;
     if listing_bound::is_unbounded(answer) {
         writeln!(out, "-")?;
@@ -456,18 +462,18 @@ fn run_case(words: &mut Words) -> Result<(), Error<'static>>
         2 => run_check(words),
         3 => run_build(words),
         4 => run_scans(words),
-        5 => run_walk(words, Over::Tokens),
-        6 => run_walk(words, Over::Scans),
-        7 => run_list(words, Over::Tokens),
-        8 => run_list(words, Over::Scans),
+        5 => run_walk(words, Over::Tokens, &mut []),
+        6 => run_walk(words, Over::Scans, &mut []),
+        7 => run_list(words, Over::Tokens, &mut []),
+        8 => run_list(words, Over::Scans, &mut []),
         9 => run_load(words),
         10 => run_walked_load(words),
         11 => run_bound(words),
         12 => run_letters(words),
         13 => run_lettered_scans(words),
-        14 => run_walk(words, Over::LetteredScans),
-        15 => run_list(words, Over::LetteredScans),
-        _ => run_list(words, Over::UnletteredScans),
+        14 => run_walk(words, Over::LetteredScans, &mut [0u8; FILE]),
+        15 => run_list(words, Over::LetteredScans, &mut [0u8; FILE]),
+        _ => run_list(words, Over::UnletteredScans, &mut []),
     }
 }
 
@@ -480,7 +486,7 @@ fn main(rt: HostRuntime) {
             break;
         }
         if let Err(error) = run_case(&mut words) {
-            tell(error, rt);
+            error.tell(rt, USAGE);
         }
     }
 }
