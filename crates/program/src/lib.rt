@@ -4,7 +4,7 @@
 #![tactic(auto)]
 
 ghost use Rattle.std.specs.Counts.{IsPrefixLen};
-ghost use Rattle.std.specs.Prelude.{◌≡◌, ◌≤◌, ◌<◌, IfOk, IfSome, length};
+ghost use Rattle.std.specs.Prelude.{◌≡◌, ◌≤◌, ◌<◌, ◌+◌, IfOk, IfSome, length};
 
 use std::env::{Env, FillError};
 use std::fs::File;
@@ -295,26 +295,38 @@ impl Printer {
         Print::write_all(&self.rt, &self.block[..n])
     }
 
+    // Takes a byte into a block with room.
+    fn set(&mut self, b: u8)
+        requires { self.old.waiting < 4096 }
+        ensures { self.new.waiting ≡ self.old.waiting + 1 }
+    {
+        self.block[self.waiting] = b;
+        self.waiting += 1;
+    }
+
     // Takes a byte.
     fn put(&mut self, b: u8) -> io::Result<()> {
         if self.waiting == BLOCK {
             self.write_block()?;
         }
-        self.block[self.waiting] = b;
-        self.waiting += 1;
+        self.set(b);
         Ok(())
     }
 
-    // Takes a number, which is a byte, and an LF.
+    // Takes a number of three digits at most, and an LF.
     fn put_line(&mut self, number: u8) -> io::Result<()> {
+        if BLOCK - 4 < self.waiting {
+            return writeln!(self, "{number}");
+        }
         if 100 <= number {
-            self.put(b'0' + number / 100)?;
+            self.set(b'0' + number / 100);
         }
         if 10 <= number {
-            self.put(b'0' + number / 10 % 10)?;
+            self.set(b'0' + number / 10 % 10);
         }
-        self.put(b'0' + number % 10)?;
-        self.put(b'\n')
+        self.set(b'0' + number % 10);
+        self.set(b'\n');
+        Ok(())
     }
 }
 

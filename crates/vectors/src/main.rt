@@ -116,6 +116,8 @@ fn write_reply(out: &mut Printer, reply: Reply) -> io::Result<()> {
     writeln!(out, "{},{}", reply::number(reply), reply::place(reply))
 }
 
+// The functions of the calls are not inlined: what one lends stands on the machine stack while it runs, and no longer.
+#[inline(never)]
 fn run_grammar(words: &mut Words) -> Result<(), Error<'static>>
     ensures { words.new.next ≡ min (words.old.next + 1) 18446744073709551615 }
 {
@@ -129,6 +131,7 @@ fn run_grammar(words: &mut Words) -> Result<(), Error<'static>>
     Ok(())
 }
 
+#[inline(never)]
 fn run_check(words: &mut Words) -> Result<(), Error<'static>>
     ensures { words.new.next ≡ min (words.old.next + 2) 18446744073709551615 }
 {
@@ -143,6 +146,7 @@ fn run_check(words: &mut Words) -> Result<(), Error<'static>>
 }
 
 // Prints the length that is answered and how many bytes are not 0, then the book.
+#[inline(never)]
 fn run_build(words: &mut Words) -> Result<(), Error<'static>>
     ensures { words.new.next ≡ min (words.old.next + 2) 18446744073709551615 }
 {
@@ -160,6 +164,7 @@ fn run_build(words: &mut Words) -> Result<(), Error<'static>>
     Ok(())
 }
 
+#[inline(never)]
 fn run_scans(words: &mut Words) -> Result<(), Error<'static>>
     ensures { words.new.next ≡ min (words.old.next + 2) 18446744073709551615 }
 {
@@ -174,6 +179,7 @@ fn run_scans(words: &mut Words) -> Result<(), Error<'static>>
     Ok(())
 }
 
+#[inline(never)]
 fn run_letters(words: &mut Words) -> Result<(), Error<'static>>
     ensures { words.new.next ≡ min (words.old.next + 3) 18446744073709551615 }
 {
@@ -191,6 +197,7 @@ fn run_letters(words: &mut Words) -> Result<(), Error<'static>>
     Ok(())
 }
 
+#[inline(never)]
 fn run_lettered_scans(words: &mut Words) -> Result<(), Error<'static>>
     ensures { words.new.next ≡ min (words.old.next + 4) 18446744073709551615 }
 {
@@ -306,6 +313,7 @@ fn write_walked(out: &mut Printer, answer: SessionReply) -> io::Result<()> {
     )
 }
 
+#[inline(never)]
 fn run_walk(words: &mut Words, over: Over, letters: &mut [u8]) -> Result<(), Error<'static>>
     ensures { words.new.next ≡ min (words.old.next + files over + 2) 18446744073709551615 }
 {
@@ -326,7 +334,16 @@ fn run_walk(words: &mut Words, over: Over, letters: &mut [u8]) -> Result<(), Err
     Ok(())
 }
 
+#[inline(never)]
+fn run_lettered_walk(words: &mut Words) -> Result<(), Error<'static>>
+    ensures { words.new.next ≡ min (words.old.next + 6) 18446744073709551615 }
+{
+    let mut letters = [0u8; FILE];
+    run_walk(words, Over::LetteredScans, &mut letters)
+}
+
 // Prints the codes that are counted, zeros too.
+#[inline(never)]
 fn run_list(words: &mut Words, over: Over, letters: &mut [u8]) -> Result<(), Error<'static>>
     ensures { words.new.next ≡ min (words.old.next + files over + 3) 18446744073709551615 }
 {
@@ -348,6 +365,14 @@ fn run_list(words: &mut Words, over: Over, letters: &mut [u8]) -> Result<(), Err
     program::print_bytes(&mut out, stack)?;
     out.flush()?;
     Ok(())
+}
+
+#[inline(never)]
+fn run_lettered_list(words: &mut Words) -> Result<(), Error<'static>>
+    ensures { words.new.next ≡ min (words.old.next + 7) 18446744073709551615 }
+{
+    let mut letters = [0u8; FILE];
+    run_list(words, Over::LetteredScans, &mut letters)
 }
 
 // Prints the reply of a load and its counts.
@@ -375,6 +400,7 @@ fn write_runs(out: &mut Printer, bytes: &[u8]) -> io::Result<()> {
     Ok(())
 }
 
+#[inline(never)]
 fn run_load(words: &mut Words) -> Result<(), Error<'static>>
     ensures { words.new.next ≡ min (words.old.next + 5) 18446744073709551615 }
 {
@@ -402,6 +428,7 @@ fn run_load(words: &mut Words) -> Result<(), Error<'static>>
 }
 
 // Makes a load and walks it, and compares the listings.
+#[inline(never)]
 fn run_walked_load(words: &mut Words) -> Result<(), Error<'static>>
     ensures { words.new.next ≡ min (words.old.next + 5) 18446744073709551615 }
 {
@@ -433,6 +460,7 @@ fn run_walked_load(words: &mut Words) -> Result<(), Error<'static>>
     Ok(())
 }
 
+#[inline(never)]
 fn run_bound(words: &mut Words) -> Result<(), Error<'static>>
     ensures { words.new.next ≡ min (words.old.next + 2) 18446744073709551615 }
 {
@@ -471,8 +499,8 @@ fn run_case(words: &mut Words) -> Result<(), Error<'static>>
         11 => run_bound(words),
         12 => run_letters(words),
         13 => run_lettered_scans(words),
-        14 => run_walk(words, Over::LetteredScans, &mut [0u8; FILE]),
-        15 => run_list(words, Over::LetteredScans, &mut [0u8; FILE]),
+        14 => run_lettered_walk(words),
+        15 => run_lettered_list(words),
         _ => run_list(words, Over::UnletteredScans, &mut []),
     }
 }
