@@ -148,7 +148,7 @@ pub fn explain_grammar_book(out: &mut Printer, book: &[u8], number: u64, place: 
     if book.len() <= place {
         return print(out, explain_end(BookKind::Grammar, book, rules));
     }
-    let line = BookLine { book, place };
+    let line = BookLine::new(book, place);
     let declared = Declared {
         terminals,
         nonterminals,
@@ -181,7 +181,7 @@ pub fn explain_table_book(
     if book.len() <= place {
         return print(out, explain_end(BookKind::Tables, book, entries));
     }
-    let line = BookLine { book, place };
+    let line = BookLine::new(book, place);
     let declared = Declared {
         terminals,
         nonterminals,

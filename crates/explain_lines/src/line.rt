@@ -111,16 +111,28 @@ pub fn lines_after(book: &[u8]) -> usize {
 pub struct BookLine<'a> {
     pub book: &'a [u8],
     pub place: usize,
+    ends: usize,
     ghost short: { length book.now ≤ 65536 },
     ghost inside: { place < length book.now },
+    ghost few: { ends ≤ 65536 },
 }
 
 impl<'a> BookLine<'a> {
+    pub fn new(book: &'a [u8], place: usize) -> BookLine<'a>
+        requires { (length book.now ≤ 65536) × (place < length book.now) }
+    {
+        BookLine {
+            book,
+            place,
+            ends: line_ends(&book[..place]),
+        }
+    }
+
     // How many lines stand before it.
     pub fn before(self) -> usize
         ensures { result ≤ 65536 }
     {
-        line_ends(&self.book[..self.place])
+        self.ends
     }
 
     // Its bytes up to its LF, or more of them than are shown.
