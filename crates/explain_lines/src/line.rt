@@ -111,6 +111,7 @@ pub fn lines_after(book: &[u8]) -> usize {
 pub struct BookLine<'a> {
     pub book: &'a [u8],
     pub place: usize,
+    // How many lines end before it.
     ends: usize,
     ghost short: { length book.now ≤ 65536 },
     ghost inside: { place < length book.now },
@@ -118,6 +119,7 @@ pub struct BookLine<'a> {
 }
 
 impl<'a> BookLine<'a> {
+    // The line at a place of a book.
     pub fn new(book: &'a [u8], place: usize) -> BookLine<'a>
         requires { (length book.now ≤ 65536) × (place < length book.now) }
     {

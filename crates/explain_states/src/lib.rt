@@ -120,7 +120,7 @@ fn explain_items(out: &mut Page<'_>, state: State<'_>) {
     };
 }
 
-// A lookahead that a line of state q lacks. In a frame of its own, as its sets take 64 KiB, which nothing is printed above.
+// A lookahead that a line of state q lacks. In a frame of its own: its sets take 64 KiB, and nothing is printed while they stand.
 #[inline(never)]
 fn find_missing(p: Prepared<'_>, q: usize) -> MissingCode
     requires computed { Computed p.table.items.now p.table.kernels.now p.links.now p.uses.now p.nullable.now p.first.now p.starts.now p.through.now p.table.totals.rules p.table.totals.lines p.table.totals.codes }
@@ -173,7 +173,8 @@ fn explain_lookaheads(out: &mut Page<'_>, p: Prepared<'_>, q: usize)
     };
 }
 
-// State q of a table, with its closure.
+// Replies 7, 9 and 10 at a state of a table, with its closure. In a frame of its own, so that its caller's arrays can lie where those of
+// the check lay, whose room is free by then.
 #[inline(never)]
 fn explain_state(out: &mut Page<'_>, p: Prepared<'_>, question: Question) -> usize
     requires computed { Computed p.table.items.now p.table.kernels.now p.links.now p.uses.now p.nullable.now p.first.now p.starts.now p.through.now p.table.totals.rules p.table.totals.lines p.table.totals.codes }
@@ -182,10 +183,6 @@ fn explain_state(out: &mut Page<'_>, p: Prepared<'_>, question: Question) -> usi
     ensures { result ≤ 64 }
 {
     let q = question.place;
-    if question.number == 8 {
-        explain_lookaheads(out, p, q);
-        return 0;
-    }
     let t = p.table;
     let totals = t.totals;
     let mut present = [0u8; CODES];
@@ -284,6 +281,10 @@ fn explain_table(
         starts: &starts,
         through: &through,
     };
+    if question.number == 8 {
+        explain_lookaheads(out, prepared, question.place);
+        return 0;
+    }
     explain_state(out, prepared, question)
 }
 
