@@ -108,6 +108,7 @@ fn read_open(mut file: File, buf: &mut [u8]) -> (usize, io::Result<()>)
     ensures { IsPrefixLen result.0 buf.new }
 {
     let mut size = 0;
+    // Stays a `while`: `size` moves by what a read gives.
     while size < buf.len() {
         match read_some(&mut file, &mut buf[size..]) {
             Ok(0) => return (size, read_some(&mut file, &mut [0u8; 1]).map(drop)),
