@@ -4,20 +4,20 @@
 #![tactic(auto)]
 
 use program::Error;
+use std::io;
 use std::io::Write;
 
 // The most codes that a list can have: 0 and 63 terminals.
 const CODES: usize = 64;
 
-fn run(rt: HostRuntime) -> Result<(), Error<'static>> {
-    let mut grammar = [0u8; program::FILE];
-    let grammar = program::read(rt, 1, "GRAMMAR", &mut grammar)?;
-    let mut tables = [0u8; program::FILE];
-    let tables = program::read(rt, 2, "TABLES", &mut tables)?;
-    let mut scans = [0u8; program::FILE];
-    let scans = program::read(rt, 3, "SCANS", &mut scans)?;
-    let mut letters = [0u8; program::FILE];
-    let letters = program::read_optional(rt, 4, "LETTERS", &mut letters)?;
+// Walks the scans, with the letters of a letters book where there is one, and prints the answer.
+fn list(
+    rt: HostRuntime,
+    grammar: &[u8],
+    tables: &[u8],
+    scans: &[u8],
+    letters: Option<&[u8]>,
+) -> io::Result<()> {
     let mut stack = program::lend(0);
     let mut listing = program::lend(0);
     let mut codes = [0u8; CODES];
@@ -46,7 +46,19 @@ fn run(rt: HostRuntime) -> Result<(), Error<'static>> {
     for code in codes.iter().take(expected::code_count(answer)) {
         writeln!(out, "{code}")?;
     }
-    out.flush()?;
+    out.flush()
+}
+
+fn run(rt: HostRuntime) -> Result<(), Error<'static>> {
+    let mut grammar = [0u8; program::FILE];
+    let grammar = program::read(rt, 1, "GRAMMAR", &mut grammar)?;
+    let mut tables = [0u8; program::FILE];
+    let tables = program::read(rt, 2, "TABLES", &mut tables)?;
+    let mut scans = [0u8; program::FILE];
+    let scans = program::read(rt, 3, "SCANS", &mut scans)?;
+    let mut letters = [0u8; program::FILE];
+    let letters = program::read_optional(rt, 4, "LETTERS", &mut letters)?;
+    list(rt, grammar, tables, scans, letters)?;
     Ok(())
 }
 

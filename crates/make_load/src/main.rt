@@ -3,16 +3,14 @@
 #![tactic(auto)]
 
 use program::Error;
+use std::io;
 use std::io::Write;
 
-fn run(rt: HostRuntime) -> Result<(), Error<'static>> {
-    let mut grammar = [0u8; program::FILE];
-    let grammar = program::read(rt, 1, "GRAMMAR", &mut grammar)?;
-    let seed = program::read_u32(rt, 2, "SEED")?;
-    let depth = program::read_number(rt, 3, "DEPTH")?;
+// Makes the load, and prints it.
+fn make(rt: HostRuntime, grammar: &[u8], seed: u32, depth: usize) -> io::Result<()> {
     let mut tokens = [0u8; generate_steps::TOKENS];
     let mut listing = program::lend(0);
-    let answer = generator::make_load(grammar, seed, depth as usize, &mut tokens, &mut listing);
+    let answer = generator::make_load(grammar, seed, depth, &mut tokens, &mut listing);
     let reply = generator::as_reply(answer);
     let mut out = program::output(rt);
     writeln!(
@@ -25,7 +23,15 @@ fn run(rt: HostRuntime) -> Result<(), Error<'static>> {
     )?;
     program::print_bytes(&mut out, &tokens)?;
     program::print_bytes(&mut out, &listing)?;
-    out.flush()?;
+    out.flush()
+}
+
+fn run(rt: HostRuntime) -> Result<(), Error<'static>> {
+    let mut grammar = [0u8; program::FILE];
+    let grammar = program::read(rt, 1, "GRAMMAR", &mut grammar)?;
+    let seed = program::read_u32(rt, 2, "SEED")?;
+    let depth = program::read_number(rt, 3, "DEPTH")?;
+    make(rt, grammar, seed, depth as usize)?;
     Ok(())
 }
 

@@ -54,6 +54,8 @@ impl Error<'_> {
         let _ = self.print(rt, usage.as_bytes());
     }
 
+    // Not inlined, as `read_named`.
+    #[inline(never)]
     fn print(self, rt: HostRuntime, usage: &[u8]) -> io::Result<()> {
         match self {
             Error::Missing(what) => print_fault(rt, what, " is missing")?,
@@ -133,7 +135,8 @@ fn read_path(rt: HostRuntime, path: &[u8], buf: &mut [u8]) -> (usize, io::Result
     }
 }
 
-// The same of the file that argument i names.
+// The same of the file that argument i names. Not inlined: the name stands on the machine stack while the file is read, and no longer.
+#[inline(never)]
 fn read_named<'a>(
     rt: HostRuntime,
     i: usize,

@@ -4,17 +4,17 @@
 #![tactic(auto)]
 
 use program::Error;
+use std::io;
 use std::io::Write;
 
-fn run(rt: HostRuntime) -> Result<(), Error<'static>> {
-    let mut grammar = [0u8; program::FILE];
-    let grammar = program::read(rt, 1, "GRAMMAR", &mut grammar)?;
-    let mut tables = [0u8; program::FILE];
-    let tables = program::read(rt, 2, "TABLES", &mut tables)?;
-    let mut scans = [0u8; program::FILE];
-    let scans = program::read(rt, 3, "SCANS", &mut scans)?;
-    let mut letters = [0u8; program::FILE];
-    let letters = program::read_optional(rt, 4, "LETTERS", &mut letters)?;
+// Walks the scans, with the letters of a letters book where there is one, and prints the answer.
+fn walk(
+    rt: HostRuntime,
+    grammar: &[u8],
+    tables: &[u8],
+    scans: &[u8],
+    letters: Option<&[u8]>,
+) -> io::Result<()> {
     let mut stack = program::lend(0);
     let mut listing = program::lend(0);
     let answer = match letters {
@@ -39,7 +39,19 @@ fn run(rt: HostRuntime) -> Result<(), Error<'static>> {
         walker::unit_count(answer),
     )?;
     program::print_bytes(&mut out, &listing)?;
-    out.flush()?;
+    out.flush()
+}
+
+fn run(rt: HostRuntime) -> Result<(), Error<'static>> {
+    let mut grammar = [0u8; program::FILE];
+    let grammar = program::read(rt, 1, "GRAMMAR", &mut grammar)?;
+    let mut tables = [0u8; program::FILE];
+    let tables = program::read(rt, 2, "TABLES", &mut tables)?;
+    let mut scans = [0u8; program::FILE];
+    let scans = program::read(rt, 3, "SCANS", &mut scans)?;
+    let mut letters = [0u8; program::FILE];
+    let letters = program::read_optional(rt, 4, "LETTERS", &mut letters)?;
+    walk(rt, grammar, tables, scans, letters)?;
     Ok(())
 }
 
