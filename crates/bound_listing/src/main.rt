@@ -3,13 +3,13 @@
 #![tactic(auto)]
 
 use program::Error;
+use std::io;
 use std::io::Write;
 
-fn run(rt: HostRuntime) -> Result<(), Error<'static>> {
-    let mut grammar = [0u8; program::FILE];
-    let grammar = program::read(rt, 1, "GRAMMAR", &mut grammar)?;
-    let scans = program::read_number(rt, 2, "SCANS")?;
-    let answer = listing_bound::bound_listing(grammar, scans as usize);
+// In a frame of its own, none of which stands while the file is read.
+#[inline(never)]
+fn show(rt: HostRuntime, grammar: &[u8], scans: usize) -> io::Result<()> {
+    let answer = listing_bound::bound_listing(grammar, scans);
     let reply = listing_bound::as_reply(answer);
     let mut out = program::output(rt);
     write!(out, "{},{},", reply::number(reply), reply::place(reply))?;
@@ -18,7 +18,14 @@ fn run(rt: HostRuntime) -> Result<(), Error<'static>> {
     } else {
         writeln!(out, "{}", listing_bound::rule_count(answer))?;
     }
-    out.flush()?;
+    out.flush()
+}
+
+fn run(rt: HostRuntime) -> Result<(), Error<'static>> {
+    let mut grammar = [0u8; program::FILE];
+    let grammar = program::read(rt, 1, "GRAMMAR", &mut grammar)?;
+    let scans = program::read_number(rt, 2, "SCANS")?;
+    show(rt, grammar, scans as usize)?;
     Ok(())
 }
 

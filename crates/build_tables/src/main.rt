@@ -3,14 +3,15 @@
 
 use program::Error;
 use reply::Reply;
+use std::io;
 use std::io::Write;
 
 // The most bytes that a table book has.
 const BOOK: usize = 65536;
 
-fn run(rt: HostRuntime) -> Result<(), Error<'static>> {
-    let mut grammar = [0u8; program::FILE];
-    let grammar = program::read(rt, 1, "GRAMMAR", &mut grammar)?;
+// In a frame of its own, none of which stands while the file is read.
+#[inline(never)]
+fn show(rt: HostRuntime, grammar: &[u8]) -> io::Result<()> {
     let mut book = [0u8; BOOK];
     let built = builder::build_tables(grammar, &mut book);
     let reply = built.reply;
@@ -19,7 +20,13 @@ fn run(rt: HostRuntime) -> Result<(), Error<'static>> {
         Reply::Accepted(_) => out.write_all(&book[..built.length])?,
         Reply::Refused(_) => writeln!(out, "{},{}", reply::number(reply), reply::place(reply))?,
     }
-    out.flush()?;
+    out.flush()
+}
+
+fn run(rt: HostRuntime) -> Result<(), Error<'static>> {
+    let mut grammar = [0u8; program::FILE];
+    let grammar = program::read(rt, 1, "GRAMMAR", &mut grammar)?;
+    show(rt, grammar)?;
     Ok(())
 }
 

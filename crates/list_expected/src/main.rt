@@ -10,7 +10,9 @@ use std::io::Write;
 // The most codes that a list can have: 0 and 63 terminals.
 const CODES: usize = 64;
 
-// Walks the scans, with the letters of a letters book where there is one, and prints the answer.
+// Walks the scans, with the letters of a letters book where there is one, and prints the answer. In a frame of its own, none of which
+// stands while the files are read.
+#[inline(never)]
 fn list(
     rt: HostRuntime,
     grammar: &[u8],

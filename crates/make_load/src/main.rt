@@ -6,7 +6,8 @@ use program::Error;
 use std::io;
 use std::io::Write;
 
-// Makes the load, and prints it.
+// Makes the load, and prints it. In a frame of its own, none of which stands while the file is read.
+#[inline(never)]
 fn make(rt: HostRuntime, grammar: &[u8], seed: u32, depth: usize) -> io::Result<()> {
     let mut tokens = [0u8; generate_steps::TOKENS];
     let mut listing = program::lend(0);

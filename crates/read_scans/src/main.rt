@@ -8,11 +8,9 @@ use std::io::Write;
 // The most scans that a file has.
 const SCANS: usize = 65536;
 
-fn run(rt: HostRuntime) -> Result<(), Error<'static>> {
-    let mut scans = [0u8; program::FILE];
-    let scans = program::read(rt, 1, "SCANS", &mut scans)?;
-    let mut letters = [0u8; program::FILE];
-    let letters = program::read_optional(rt, 2, "LETTERS", &mut letters)?;
+// In a frame of its own, none of which stands while the files are read.
+#[inline(never)]
+fn show(rt: HostRuntime, scans: &[u8], letters: Option<&[u8]>) -> Result<(), Error<'static>> {
     let mut tokens = [0u8; SCANS];
     let reply = match letters {
         Some(letters) => {
@@ -26,6 +24,14 @@ fn run(rt: HostRuntime) -> Result<(), Error<'static>> {
     program::print_bytes(&mut out, &tokens)?;
     out.flush()?;
     Ok(())
+}
+
+fn run(rt: HostRuntime) -> Result<(), Error<'static>> {
+    let mut scans = [0u8; program::FILE];
+    let scans = program::read(rt, 1, "SCANS", &mut scans)?;
+    let mut letters = [0u8; program::FILE];
+    let letters = program::read_optional(rt, 2, "LETTERS", &mut letters)?;
+    show(rt, scans, letters)
 }
 
 fn main(rt: HostRuntime) {

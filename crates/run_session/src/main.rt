@@ -7,7 +7,9 @@ use program::Error;
 use std::io;
 use std::io::Write;
 
-// Walks the scans, with the letters of a letters book where there is one, and prints the answer.
+// Walks the scans, with the letters of a letters book where there is one, and prints the answer. In a frame of its own, none of which
+// stands while the files are read.
+#[inline(never)]
 fn walk(
     rt: HostRuntime,
     grammar: &[u8],
