@@ -155,14 +155,14 @@ fn read_named<'a>(
     (size, read.map_err(|error| Error::Unreadable(i, error)))
 }
 
-// The bytes of the file that argument i names, FILE at most, which stand at the start of `buf`.
+// The bytes of the file that argument i names, as far as `buf` goes, at whose start they stand.
 pub fn read<'a, 'b>(
     rt: HostRuntime,
     i: usize,
     what: &'a str,
-    buf: &'b mut [u8; FILE],
+    buf: &'b mut [u8],
 ) -> Result<&'b [u8], Error<'a>>
-    ensures { IfOk result (λ bytes. length bytes.now ≤ 65537) }
+    ensures { IfOk result (λ bytes. length bytes.now ≤ length buf.old) }
 {
     let (size, read) = read_named(rt, i, what.as_bytes(), buf);
     read?;
@@ -174,9 +174,9 @@ pub fn read_optional<'a, 'b>(
     rt: HostRuntime,
     i: usize,
     what: &'a str,
-    buf: &'b mut [u8; FILE],
+    buf: &'b mut [u8],
 ) -> Result<Option<&'b [u8]>, Error<'a>>
-    ensures { IfOk result (λ read. IfSome read (λ bytes. length bytes.now ≤ 65537)) }
+    ensures { IfOk result (λ read. IfSome read (λ bytes. length bytes.now ≤ length buf.old)) }
 {
     if !has_argument(rt, i) {
         return Ok(None);
