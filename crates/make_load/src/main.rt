@@ -22,8 +22,8 @@ fn make(rt: HostRuntime, grammar: &[u8], seed: u32, depth: usize) -> io::Result<
         generator::token_count(answer),
         generator::rule_count(answer),
     )?;
-    program::print_bytes(&mut out, &tokens)?;
-    program::print_bytes(&mut out, &listing)?;
+    program::write_bytes(&mut out, &tokens)?;
+    program::write_bytes(&mut out, &listing)?;
     out.flush()
 }
 

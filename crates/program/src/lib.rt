@@ -334,8 +334,8 @@ impl Printer {
     }
 }
 
-// Prints each byte that is not 0 as a number on a line: what stands in a slice before its zeros.
-pub fn print_bytes(out: &mut Printer, bytes: &[u8]) -> io::Result<()> {
+// Writes each byte that is not 0 as a number on a line: what stands in a slice before its zeros.
+pub fn write_bytes(out: &mut Printer, bytes: &[u8]) -> io::Result<()> {
     for b in bytes {
         if *b != 0 {
             out.put_line(*b)?;
@@ -344,13 +344,13 @@ pub fn print_bytes(out: &mut Printer, bytes: &[u8]) -> io::Result<()> {
     Ok(())
 }
 
-// Prints each of the first n bytes as a number on a line, zeros too, and each after them that is not 0.
-pub fn print_list(out: &mut Printer, bytes: &[u8], n: usize) -> io::Result<()> {
+// Writes each of the first n bytes as a number on a line, zeros too, and each after them that is not 0.
+pub fn write_list(out: &mut Printer, bytes: &[u8], n: usize) -> io::Result<()> {
     let (listed, rest) = bytes.split_at(n.min(bytes.len()));
     for b in listed {
         out.put_line(*b)?;
     }
-    print_bytes(out, rest)
+    write_bytes(out, rest)
 }
 
 // What follows serves callers that hand on no result: an error is told where it comes up, and they go on.

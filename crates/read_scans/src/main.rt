@@ -21,7 +21,7 @@ fn show(rt: HostRuntime, scans: &[u8], letters: Option<&[u8]>) -> Result<(), Err
     };
     let mut out = program::output(rt);
     writeln!(out, "{},{}", reply::number(reply), reply::place(reply))?;
-    program::print_bytes(&mut out, &tokens)?;
+    program::write_bytes(&mut out, &tokens)?;
     out.flush()?;
     Ok(())
 }

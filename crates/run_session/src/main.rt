@@ -40,7 +40,7 @@ fn walk(
         walker::rule_count(answer),
         walker::unit_count(answer),
     )?;
-    program::print_bytes(&mut out, &listing)?;
+    program::write_bytes(&mut out, &listing)?;
     out.flush()
 }
 
