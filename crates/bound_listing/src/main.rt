@@ -23,8 +23,8 @@ fn show(rt: HostRuntime, grammar: &[u8], scans: usize) -> io::Result<()> {
 
 fn run(rt: HostRuntime) -> Result<(), Error<'static>> {
     let mut grammar = [0u8; program::FILE];
-    let grammar = program::read(rt, 1, "GRAMMAR", &mut grammar)?;
-    let scans = program::read_number(rt, 2, "SCANS")?;
+    let grammar = program::read(rt, 1, b"GRAMMAR", &mut grammar)?;
+    let scans = program::read_number(rt, 2, b"SCANS")?;
     show(rt, grammar, scans as usize)?;
     Ok(())
 }

@@ -25,7 +25,7 @@ fn show(rt: HostRuntime, grammar: &[u8]) -> io::Result<()> {
 
 fn run(rt: HostRuntime) -> Result<(), Error<'static>> {
     let mut grammar = [0u8; program::FILE];
-    let grammar = program::read(rt, 1, "GRAMMAR", &mut grammar)?;
+    let grammar = program::read(rt, 1, b"GRAMMAR", &mut grammar)?;
     show(rt, grammar)?;
     Ok(())
 }

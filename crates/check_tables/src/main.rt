@@ -6,9 +6,9 @@ use std::io::Write;
 
 fn run(rt: HostRuntime) -> Result<(), Error<'static>> {
     let mut grammar = [0u8; program::FILE];
-    let grammar = program::read(rt, 1, "GRAMMAR", &mut grammar)?;
+    let grammar = program::read(rt, 1, b"GRAMMAR", &mut grammar)?;
     let mut tables = [0u8; program::FILE];
-    let tables = program::read(rt, 2, "TABLES", &mut tables)?;
+    let tables = program::read(rt, 2, b"TABLES", &mut tables)?;
     let reply = checker::check_tables(grammar, tables);
     let mut out = program::output(rt);
     writeln!(out, "{},{}", reply::number(reply), reply::place(reply))?;

@@ -1,5 +1,5 @@
 // A line of a book, its fields, and how they are shown.
-ghost use Rattle.std.specs.Prelude.{◌<◌, ◌≤◌, length};
+ghost use Rattle.std.specs.Prelude.{◌≡◌, ◌<◌, ◌≤◌, length};
 
 use std::fmt;
 use std::fmt::Write;
@@ -122,6 +122,7 @@ impl<'a> BookLine<'a> {
     // The line at a place of a book.
     pub fn new(book: &'a [u8], place: usize) -> BookLine<'a>
         requires { (length book.now ≤ 65536) × (place < length book.now) }
+        ensures { (result.book.now ≡ book.now) × (result.place ≡ place) }
     {
         BookLine {
             book,

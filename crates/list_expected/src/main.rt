@@ -53,13 +53,13 @@ fn list(
 
 fn run(rt: HostRuntime) -> Result<(), Error<'static>> {
     let mut grammar = [0u8; program::FILE];
-    let grammar = program::read(rt, 1, "GRAMMAR", &mut grammar)?;
+    let grammar = program::read(rt, 1, b"GRAMMAR", &mut grammar)?;
     let mut tables = [0u8; program::FILE];
-    let tables = program::read(rt, 2, "TABLES", &mut tables)?;
+    let tables = program::read(rt, 2, b"TABLES", &mut tables)?;
     let mut scans = [0u8; program::FILE];
-    let scans = program::read(rt, 3, "SCANS", &mut scans)?;
+    let scans = program::read(rt, 3, b"SCANS", &mut scans)?;
     let mut letters = [0u8; program::FILE];
-    let letters = program::read_optional(rt, 4, "LETTERS", &mut letters)?;
+    let letters = program::read_optional(rt, 4, b"LETTERS", &mut letters)?;
     list(rt, grammar, tables, scans, letters)?;
     Ok(())
 }

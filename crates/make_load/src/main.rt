@@ -22,16 +22,16 @@ fn make(rt: HostRuntime, grammar: &[u8], seed: u32, depth: usize) -> io::Result<
         generator::token_count(answer),
         generator::rule_count(answer),
     )?;
-    program::write_bytes(&mut out, &tokens)?;
-    program::write_bytes(&mut out, &listing)?;
+    program::print_bytes(&mut out, &tokens);
+    program::print_bytes(&mut out, &listing);
     out.flush()
 }
 
 fn run(rt: HostRuntime) -> Result<(), Error<'static>> {
     let mut grammar = [0u8; program::FILE];
-    let grammar = program::read(rt, 1, "GRAMMAR", &mut grammar)?;
-    let seed = program::read_u32(rt, 2, "SEED")?;
-    let depth = program::read_number(rt, 3, "DEPTH")?;
+    let grammar = program::read(rt, 1, b"GRAMMAR", &mut grammar)?;
+    let seed = program::read_u32(rt, 2, b"SEED")?;
+    let depth = program::read_number(rt, 3, b"DEPTH")?;
     make(rt, grammar, seed, depth as usize)?;
     Ok(())
 }

@@ -159,12 +159,12 @@ fn read_named<'a>(
 pub fn read<'a, 'b>(
     rt: HostRuntime,
     i: usize,
-    what: &'a str,
+    what: &'a [u8],
     buf: &'b mut [u8],
 ) -> Result<&'b [u8], Error<'a>>
     ensures { IfOk result (λ bytes. length bytes.now ≤ length buf.old) }
 {
-    let (size, read) = read_named(rt, i, what.as_bytes(), buf);
+    let (size, read) = read_named(rt, i, what, buf);
     read?;
     Ok(&buf[..size])
 }
@@ -173,7 +173,7 @@ pub fn read<'a, 'b>(
 pub fn read_optional<'a, 'b>(
     rt: HostRuntime,
     i: usize,
-    what: &'a str,
+    what: &'a [u8],
     buf: &'b mut [u8],
 ) -> Result<Option<&'b [u8]>, Error<'a>>
     ensures { IfOk result (λ read. IfSome read (λ bytes. length bytes.now ≤ length buf.old)) }
@@ -226,21 +226,21 @@ pub fn argument_number(rt: HostRuntime, i: usize) -> u64
 }
 
 // The number that argument i is, as `number_of` has it.
-pub fn read_number(rt: HostRuntime, i: usize, what: &str) -> Result<u64, Error<'_>>
+pub fn read_number(rt: HostRuntime, i: usize, what: &[u8]) -> Result<u64, Error<'_>>
     ensures { IfOk result (λ n. n ≤ 4294967296) }
 {
     let mut word = [0u8; NAME];
     match rt.arg(i, &mut word) {
-        Ok(n) => number_of(&word[..n]).ok_or(Error::NoNumber(what.as_bytes())),
-        Err(FillError::TooLong) => Err(Error::NoNumber(what.as_bytes())),
-        Err(FillError::NotPresent) => Err(Error::Missing(what.as_bytes())),
+        Ok(n) => number_of(&word[..n]).ok_or(Error::NoNumber(what)),
+        Err(FillError::TooLong) => Err(Error::NoNumber(what)),
+        Err(FillError::NotPresent) => Err(Error::Missing(what)),
     }
 }
 
 // The same for a number of 32 bits: a greater one is refused as well.
-pub fn read_u32(rt: HostRuntime, i: usize, what: &str) -> Result<u32, Error<'_>> {
+pub fn read_u32(rt: HostRuntime, i: usize, what: &[u8]) -> Result<u32, Error<'_>> {
     let number = read_number(rt, i, what)?;
-    u32::try_from(number).map_err(|_| Error::TooGreat(what.as_bytes()))
+    u32::try_from(number).map_err(|_| Error::TooGreat(what))
 }
 
 // So many bytes, all alike, as a walk or a load is lent.
@@ -271,6 +271,14 @@ pub fn output(rt: HostRuntime) -> Printer {
     }
 }
 
+// The error of a block that is given up. An interruption gets another kind: the library's `write_all` would go on after it, with a gap.
+fn given_up(error: io::Error) -> io::Error {
+    match error.kind() {
+        io::ErrorKind::Interrupted => io::Error::other("Interrupted system call"),
+        _ => error,
+    }
+}
+
 impl Write for Printer {
     fn write(&mut self, bytes: &[u8]) -> io::Result<usize> {
         if self.waiting == BLOCK {
@@ -296,7 +304,7 @@ impl Printer {
         if self.failed {
             return Ok(());
         }
-        Print::write_all(&self.rt, &self.block[..n])
+        Print::write_all(&self.rt, &self.block[..n]).map_err(given_up)
     }
 
     // Takes a byte into a block with room.
@@ -332,25 +340,24 @@ impl Printer {
         self.set(b'\n');
         Ok(())
     }
-}
 
-// Writes each byte that is not 0 as a number on a line: what stands in a slice before its zeros.
-pub fn write_bytes(out: &mut Printer, bytes: &[u8]) -> io::Result<()> {
-    for b in bytes {
-        if *b != 0 {
-            out.put_line(*b)?;
+    // The same for several.
+    fn put_lines(&mut self, numbers: &[u8]) -> io::Result<()> {
+        for b in numbers {
+            self.put_line(*b)?;
         }
+        Ok(())
     }
-    Ok(())
-}
 
-// Writes each of the first n bytes as a number on a line, zeros too, and each after them that is not 0.
-pub fn write_list(out: &mut Printer, bytes: &[u8], n: usize) -> io::Result<()> {
-    let (listed, rest) = bytes.split_at(n.min(bytes.len()));
-    for b in listed {
-        out.put_line(*b)?;
+    // The same for those alone that are not 0.
+    fn put_nonzero(&mut self, numbers: &[u8]) -> io::Result<()> {
+        for b in numbers {
+            if *b != 0 {
+                self.put_line(*b)?;
+            }
+        }
+        Ok(())
     }
-    write_bytes(out, rest)
 }
 
 // What follows serves callers that hand on no result: an error is told where it comes up, and they go on.
@@ -412,6 +419,20 @@ pub fn print_pair(out: &mut Printer, a: u64, b: u64) {
     told(out, printed);
 }
 
+// Prints each byte that is not 0 as a number on a line: what stands in a slice before its zeros.
+pub fn print_bytes(out: &mut Printer, bytes: &[u8]) {
+    let printed = out.put_nonzero(bytes);
+    told(out, printed);
+}
+
+// Prints each of the first n bytes as a number on a line, zeros too, and each after them that is not 0.
+pub fn print_list(out: &mut Printer, bytes: &[u8], n: usize) {
+    let (listed, rest) = bytes.split_at(n.min(bytes.len()));
+    let printed = out.put_lines(listed);
+    told(out, printed);
+    print_bytes(out, rest);
+}
+
 // Prints a text and a number.
 pub fn print_count(out: &mut Printer, text: &[u8], n: usize) {
     print_text(out, text);
@@ -428,10 +449,10 @@ mod tests {
     #[test]
     fn reads_a_file(rt: HostRuntime) -> Result<(), Fail> {
         let mut bytes = [0u8; FILE];
-        let bytes = read(rt, 0, "PROGRAM", &mut bytes)?;
+        let bytes = read(rt, 0, b"PROGRAM", &mut bytes)?;
         assert!(rt; bytes.starts_with(b"\x7fELF"));
         assert_eq!(rt;
-            read_optional(rt, 0, "PROGRAM", &mut [0u8; FILE])?,
+            read_optional(rt, 0, b"PROGRAM", &mut [0u8; FILE])?,
             Some(bytes)
         );
         Ok(())
@@ -440,9 +461,9 @@ mod tests {
     #[test]
     fn reads_no_file(rt: HostRuntime) -> Result<(), Fail> {
         let mut bytes = [0u8; FILE];
-        let read = read(rt, 1000, "PROGRAM", &mut bytes);
+        let read = read(rt, 1000, b"PROGRAM", &mut bytes);
         assert!(rt; matches!(read, Err(Error::Missing(what)) if what == b"PROGRAM".as_slice()));
-        assert_eq!(rt; read_optional(rt, 1000, "PROGRAM", &mut bytes)?, None);
+        assert_eq!(rt; read_optional(rt, 1000, b"PROGRAM", &mut bytes)?, None);
         Ok(())
     }
 

@@ -17,7 +17,7 @@ fn show(rt: HostRuntime, book: &[u8]) -> io::Result<()> {
 
 fn run(rt: HostRuntime) -> Result<(), Error<'static>> {
     let mut book = [0u8; program::FILE];
-    let book = program::read(rt, 1, "GRAMMAR", &mut book)?;
+    let book = program::read(rt, 1, b"GRAMMAR", &mut book)?;
     show(rt, book)?;
     Ok(())
 }

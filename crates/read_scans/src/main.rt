@@ -14,23 +14,23 @@ fn show(rt: HostRuntime, scans: &[u8], letters: Option<&[u8]>) -> Result<(), Err
     let mut tokens = [0u8; SCANS];
     let reply = match letters {
         Some(letters) => {
-            let terminals = program::read_number(rt, 3, "TERMINALS")?;
+            let terminals = program::read_number(rt, 3, b"TERMINALS")?;
             lettered_scans::read_lettered(letters, terminals as usize, scans, &mut tokens)
         }
         None => scans::read_scans(scans, &mut tokens),
     };
     let mut out = program::output(rt);
     writeln!(out, "{},{}", reply::number(reply), reply::place(reply))?;
-    program::write_bytes(&mut out, &tokens)?;
+    program::print_bytes(&mut out, &tokens);
     out.flush()?;
     Ok(())
 }
 
 fn run(rt: HostRuntime) -> Result<(), Error<'static>> {
     let mut scans = [0u8; program::FILE];
-    let scans = program::read(rt, 1, "SCANS", &mut scans)?;
+    let scans = program::read(rt, 1, b"SCANS", &mut scans)?;
     let mut letters = [0u8; program::FILE];
-    let letters = program::read_optional(rt, 2, "LETTERS", &mut letters)?;
+    let letters = program::read_optional(rt, 2, b"LETTERS", &mut letters)?;
     show(rt, scans, letters)
 }
 

@@ -174,7 +174,7 @@ fn run_scans(words: &mut Words) -> Result<(), Error<'static>>
     let tokens = &mut room[..words.length()];
     let mut out = words.output(scans)?;
     write_reply(&mut out, scans::read_scans(scans.bytes, tokens))?;
-    program::write_bytes(&mut out, tokens)?;
+    program::print_bytes(&mut out, tokens);
     out.flush()?;
     Ok(())
 }
@@ -192,7 +192,7 @@ fn run_letters(words: &mut Words) -> Result<(), Error<'static>>
     let mut out = words.output(letters)?;
     write_reply(&mut out, reply)?;
     let is_good = reply::number(reply) == 0;
-    program::write_list(&mut out, codes, if is_good { letters::LETTERS } else { 0 })?;
+    program::print_list(&mut out, codes, if is_good { letters::LETTERS } else { 0 });
     out.flush()?;
     Ok(())
 }
@@ -211,7 +211,7 @@ fn run_lettered_scans(words: &mut Words) -> Result<(), Error<'static>>
     let reply = lettered_scans::read_lettered(letters.bytes, terminals, scans.bytes, tokens);
     let mut out = words.output(scans)?;
     write_reply(&mut out, reply)?;
-    program::write_bytes(&mut out, tokens)?;
+    program::print_bytes(&mut out, tokens);
     out.flush()?;
     Ok(())
 }
@@ -328,8 +328,8 @@ fn run_walk(words: &mut Words, over: Over, letters: &mut [u8]) -> Result<(), Err
     let answer = session.walk(stack, listing);
     let mut out = words.output(session.input)?;
     write_walked(&mut out, answer)?;
-    program::write_bytes(&mut out, listing)?;
-    program::write_bytes(&mut out, stack)?;
+    program::print_bytes(&mut out, listing);
+    program::print_bytes(&mut out, stack);
     out.flush()?;
     Ok(())
 }
@@ -360,9 +360,9 @@ fn run_list(words: &mut Words, over: Over, letters: &mut [u8]) -> Result<(), Err
     let answer = session.list_expected(stack, listing, codes);
     let mut out = words.output(session.input)?;
     write_reply(&mut out, expected::as_reply(answer))?;
-    program::write_list(&mut out, codes, expected::code_count(answer))?;
-    program::write_bytes(&mut out, listing)?;
-    program::write_bytes(&mut out, stack)?;
+    program::print_list(&mut out, codes, expected::code_count(answer));
+    program::print_bytes(&mut out, listing);
+    program::print_bytes(&mut out, stack);
     out.flush()?;
     Ok(())
 }
@@ -393,7 +393,7 @@ fn write_runs(out: &mut Printer, bytes: &[u8]) -> io::Result<()> {
     for run in bytes.chunk_by(|a, b| a == b) {
         match run {
             [] | [0, ..] => {}
-            [_] => program::write_bytes(out, run)?,
+            [_] => program::print_bytes(out, run),
             [byte, ..] => writeln!(out, "{byte},{}", run.len())?,
         }
     }
