@@ -51,44 +51,54 @@ impl Error<'_> {
     // Says on standard error what is wrong and, unless it is the output, how the program is used. Where that cannot be written, nothing
     // says so.
     pub fn tell(self, rt: HostRuntime, usage: &str) {
-        let _ = self.print(rt, usage.as_bytes());
+        self.print(rt, usage.as_bytes());
     }
 
-    // Not inlined, as `read_named`.
+    // Not inlined, nor is `print_unreadable`: what they need of the machine stack they take only while they run.
     #[inline(never)]
-    fn print(self, rt: HostRuntime, usage: &[u8]) -> io::Result<()> {
+    fn print(self, rt: HostRuntime, usage: &[u8]) {
         match self {
-            Error::Missing(what) => print_fault(rt, what, " is missing")?,
-            Error::NoNumber(what) => print_fault(rt, what, " is no number")?,
-            Error::TooGreat(what) => print_fault(rt, what, " is above 4294967295")?,
+            Error::Missing(what) => print_fault(rt, what, " is missing\n"),
+            Error::NoNumber(what) => print_fault(rt, what, " is no number\n"),
+            Error::TooGreat(what) => print_fault(rt, what, " is above 4294967295\n"),
             Error::NameTooLong(what) => {
-                print_reason(rt, what, io::Error::from_raw_os_error(TOO_LONG))?
+                print_reason(rt, what, io::Error::from_raw_os_error(TOO_LONG))
             }
-            Error::Unreadable(i, error) => {
-                let mut name = [0u8; NAME];
-                let n = rt.arg(i, &mut name).unwrap_or(0);
-                print_reason(rt, &name[..n], error)?
-            }
+            Error::Unreadable(i, error) => print_unreadable(rt, i, error),
             Error::Output(error) => return print_reason(rt, b"standard output", error),
         }
-        rt.stderr().write_all(usage)
+        print_words(rt, usage);
     }
 }
 
-// What is at fault, and a line that says how.
-fn print_fault(rt: HostRuntime, what: &[u8], how: &str) -> io::Result<()> {
-    rt.stderr().write_all(what)?;
-    eprintln!(rt; "{how}")
+// Words on standard error. Where they cannot be written, those that follow are tried all the same.
+fn print_words(rt: HostRuntime, words: &[u8]) {
+    let _ = rt.stderr().write_all(words);
+}
+
+// What is at fault, and how.
+fn print_fault(rt: HostRuntime, what: &[u8], how: &str) {
+    print_words(rt, what);
+    print_words(rt, how.as_bytes());
 }
 
 // What failed and why, as the system words it, without the error's number.
-fn print_reason(rt: HostRuntime, what: &[u8], error: io::Error) -> io::Result<()> {
-    rt.stderr().write_all(what)?;
-    let Ok(text) = error.to_string(rt.alloc()) else {
-        return eprintln!(rt; ": out of memory");
+fn print_reason(rt: HostRuntime, what: &[u8], error: io::Error) {
+    print_fault(rt, what, ": ");
+    let text = error.to_string(rt.alloc());
+    let reason = match &text {
+        Ok(text) => text.split(" (os error ").next().unwrap_or(""),
+        Err(_) => "out of memory",
     };
-    let reason = text.split(" (os error ").next().unwrap_or("");
-    eprintln!(rt; ": {reason}")
+    let _ = eprintln!(rt; "{reason}");
+}
+
+// The file that could not be read, and why.
+#[inline(never)]
+fn print_unreadable(rt: HostRuntime, i: usize, error: io::Error) {
+    let mut name = [0u8; NAME];
+    let n = rt.arg(i, &mut name).unwrap_or(0);
+    print_reason(rt, &name[..n], error)
 }
 
 // One read, tried again where a signal interrupts it.
@@ -371,7 +381,7 @@ pub struct Input {
 
 // Says on standard error that an argument is missing, and how the program is used.
 pub fn tell_missing(rt: HostRuntime, what: &[u8], usage: &[u8]) {
-    let _ = Error::Missing(what).print(rt, usage);
+    Error::Missing(what).print(rt, usage);
 }
 
 // Reads the file that argument i names, until `buf` is full or the file ends. Where that fails, standard error says so, and how the program
@@ -382,7 +392,7 @@ pub fn read_argument(rt: HostRuntime, i: usize, what: &[u8], usage: &[u8], buf: 
     let (size, read) = read_named(rt, i, what, buf);
     let failed = read.is_err();
     if let Err(error) = read {
-        let _ = error.print(rt, usage);
+        error.print(rt, usage);
     }
     Input { size, failed }
 }
