@@ -17,6 +17,9 @@ const BLOCK: usize = 4096;
 // The bytes of an argument that are read.
 const NAME: usize = 4096;
 
+// How often a read that is interrupted is tried again.
+const RETRIES: usize = 64;
+
 // The error of an argument of more bytes, ENAMETOOLONG.
 const TOO_LONG: i32 = 36;
 
@@ -101,17 +104,17 @@ fn print_unreadable(rt: HostRuntime, i: usize, error: io::Error) {
     print_reason(rt, &name[..n], error)
 }
 
-// One read, tried again where a signal interrupts it.
+// One read, tried again where a signal interrupts it, as often as the library tries a write.
 fn read_some(file: &mut File, buf: &mut [u8]) -> io::Result<usize>
     ensures { IfOk result (λ n. IsPrefixLen n buf.new) }
 {
-    for _ in 0..u64::MAX {
+    for _ in 0..RETRIES {
         match file.read(buf) {
             Err(error) if error.kind() == io::ErrorKind::Interrupted => {}
             outcome => return outcome,
         }
     }
-    Err(io::Error::from(io::ErrorKind::Interrupted))
+    file.read(buf)
 }
 
 // Reads a file until `buf` is full or the file ends, then, after the end, once more: how many bytes `buf` has of it, and whether a read
@@ -370,7 +373,7 @@ impl Printer {
     }
 }
 
-// What follows serves callers that hand on no result: an error is told where it comes up, and they go on.
+// What follows answers no result: an error is told where it comes up, and the caller goes on.
 
 // A file's bytes at the start of a buffer: how many there are, and whether reading failed.
 #[derive(Clone, Copy)]
