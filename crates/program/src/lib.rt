@@ -4,8 +4,10 @@
 #![tactic(auto)]
 
 ghost use Rattle.std.specs.Counts.{IsPrefixLen};
-ghost use Rattle.std.specs.Prelude.{◌≡◌, ◌≤◌, ◌<◌, ◌+◌, IfOk, IfSome, length};
+ghost use Rattle.std.specs.Prelude.{◌≡◌, ◌≢◌, ◌≤◌, ◌<◌, ◌+◌, Err, IfOk, IfSome, length};
+ghost use Rattle.program.specs.declared.Error.TheVariants.{Output, OutOfMemory};
 
+use std::alloc::AllocError;
 use std::env::{Env, FillError};
 use std::fs::File;
 use std::io::{Read, Write};
@@ -41,18 +43,29 @@ pub enum Error<'a> {
     TooGreat(&'a [u8]),
     Unreadable(usize, io::Error),
     Output(io::Error),
+    OutOfMemory,
 }
 
 // Of output alone: what fails of a file has its argument's number beside it.
 impl From<io::Error> for Error<'_> {
+    ghost from_gives = { λ error told. told ≡ Output error };
+
     fn from(error: io::Error) -> Self {
         Error::Output(error)
     }
 }
 
+impl From<AllocError> for Error<'_> {
+    ghost from_gives = { λ _ told. told ≡ OutOfMemory };
+
+    fn from(_error: AllocError) -> Self {
+        Error::OutOfMemory
+    }
+}
+
 impl Error<'_> {
-    // Says on standard error what is wrong and, unless it is the output, how the program is used. Where that cannot be written, nothing
-    // says so.
+    // Says on standard error what is wrong and, unless it is the output or the memory, how the program is used. Where that cannot be
+    // written, nothing says so.
     pub fn tell(self, rt: HostRuntime, usage: &str) {
         self.print(rt, usage.as_bytes());
     }
@@ -69,6 +82,7 @@ impl Error<'_> {
             }
             Error::Unreadable(i, error) => print_unreadable(rt, i, error),
             Error::Output(error) => return print_reason(rt, b"standard output", error),
+            Error::OutOfMemory => return print_words(rt, b"out of memory\n"),
         }
         print_words(rt, usage);
     }
@@ -156,7 +170,8 @@ fn read_named<'a>(
     what: &'a [u8],
     buf: &mut [u8],
 ) -> (usize, Result<(), Error<'a>>)
-    ensures { IsPrefixLen result.0 buf.new }
+    ensures within { IsPrefixLen result.0 buf.new }
+    ensures never_out_of_memory { result.1 ≢ Err OutOfMemory }
 {
     let mut name = [0u8; NAME];
     let path = match rt.arg(i, &mut name) {
@@ -175,7 +190,8 @@ pub fn read<'a, 'b>(
     what: &'a [u8],
     buf: &'b mut [u8],
 ) -> Result<&'b [u8], Error<'a>>
-    ensures { IfOk result (λ bytes. length bytes.now ≤ length buf.old) }
+    ensures within { IfOk result (λ bytes. length bytes.now ≤ length buf.old) }
+    ensures never_out_of_memory { result ≢ Err OutOfMemory }
 {
     let (size, read) = read_named(rt, i, what, buf);
     read?;
@@ -189,7 +205,8 @@ pub fn read_optional<'a, 'b>(
     what: &'a [u8],
     buf: &'b mut [u8],
 ) -> Result<Option<&'b [u8]>, Error<'a>>
-    ensures { IfOk result (λ read. IfSome read (λ bytes. length bytes.now ≤ length buf.old)) }
+    ensures within { IfOk result (λ read. IfSome read (λ bytes. length bytes.now ≤ length buf.old)) }
+    ensures never_out_of_memory { result ≢ Err OutOfMemory }
 {
     if !has_argument(rt, i) {
         return Ok(None);
@@ -240,7 +257,8 @@ pub fn argument_number(rt: HostRuntime, i: usize) -> u64
 
 // The number that argument i is, as `number_of` has it.
 pub fn read_number(rt: HostRuntime, i: usize, what: &[u8]) -> Result<u64, Error<'_>>
-    ensures { IfOk result (λ n. n ≤ 4294967296) }
+    ensures small { IfOk result (λ n. n ≤ 4294967296) }
+    ensures never_out_of_memory { result ≢ Err OutOfMemory }
 {
     let mut word = [0u8; NAME];
     match rt.arg(i, &mut word) {
@@ -251,7 +269,9 @@ pub fn read_number(rt: HostRuntime, i: usize, what: &[u8]) -> Result<u64, Error<
 }
 
 // The same for a number of 32 bits: a greater one is refused as well.
-pub fn read_u32(rt: HostRuntime, i: usize, what: &[u8]) -> Result<u32, Error<'_>> {
+pub fn read_u32(rt: HostRuntime, i: usize, what: &[u8]) -> Result<u32, Error<'_>>
+    ensures never_out_of_memory { result ≢ Err OutOfMemory }
+{
     let number = read_number(rt, i, what)?;
     u32::try_from(number).map_err(|_| Error::TooGreat(what))
 }
@@ -458,6 +478,22 @@ mod tests {
     use super::*;
     use std::test::Fail;
 
+    fn run_out<'a>() -> Result<(), Error<'a>> {
+        Err::<(), AllocError>(AllocError)?;
+        Ok(())
+    }
+
+    fn print_in_vain<'a>() -> Result<(), Error<'a>> {
+        Err::<(), io::Error>(io::Error::other("full"))?;
+        Ok(())
+    }
+
+    #[test]
+    fn takes_what_failed(rt: HostRuntime) {
+        assert!(rt; matches!(run_out(), Err(Error::OutOfMemory)));
+        assert!(rt; matches!(print_in_vain(), Err(Error::Output(_))));
+    }
+
     // Argument 0 names the test's own program.
     #[test]
     fn reads_a_file(rt: HostRuntime) -> Result<(), Fail> {
@@ -478,6 +514,14 @@ mod tests {
         assert!(rt; matches!(read, Err(Error::Missing(what)) if what == b"PROGRAM".as_slice()));
         assert_eq!(rt; read_optional(rt, 1000, b"PROGRAM", &mut bytes)?, None);
         Ok(())
+    }
+
+    #[test]
+    fn reads_no_number(rt: HostRuntime) {
+        let number = read_number(rt, 0, b"COUNT");
+        assert!(rt; matches!(number, Err(Error::NoNumber(what)) if what == b"COUNT".as_slice()));
+        let number = read_u32(rt, 1000, b"COUNT");
+        assert!(rt; matches!(number, Err(Error::Missing(what)) if what == b"COUNT".as_slice()));
     }
 
     #[test]
